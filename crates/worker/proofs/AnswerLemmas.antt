@@ -59,7 +59,7 @@ module _ (sectors : ℕ) (disk : DiskImage) (found : Found) (at : IsFoundIn sect
         at.process.newest;
     none_later = at.none_later;
     records = found.records.items;
-    scanned = at.scanned;
+    in_journal = at.in_journal;
   }
 
   -- the process that was found is the saved one

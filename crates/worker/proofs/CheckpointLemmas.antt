@@ -1,6 +1,6 @@
 -- A checkpoint, as an event of a life, and what its disk holds.
 use Rattle.std.proofs.Common.{◌≡◌, ℕ, ◌+◌, ◌≤◌, [], ◌++◌, length, true, false, refl, sym}
-use Rattle.std.proofs.Common.{subst, arith}
+use Rattle.std.proofs.Common.{subst, arith, ap, ◌∙◌}
 use Rattle.std.specs.Prelude.{Ok, Err}
 use Rattle.process_rules.specs.Runs.{none}
 use Rattle.process.specs.rules.Values.{IsProcess}
@@ -32,6 +32,14 @@ use Rattle.worker.specs.rules.Checkpoints.{CheckpointFails, CheckpointCalls, IsS
 use Rattle.worker.specs.rules.Checkpoints.{HasCheckpointCause}
 use Rattle.worker.proofs.SavingActLemmas.{SavesShown, saving_done, saving_fault, saving_fails}
 use Rattle.worker.proofs.DurableLemmas.OnDisk.{room_now}
+
+-- ---- a worker that hasn't failed
+
+-- then its store hasn't
+pub works_inside : {w : DurableValue} {running : RunningWorker} {replayed : ℕ}
+    → durable_of running replayed ≡ w → w.has_failed ≡ false
+    → running.store.journal.has_failed ≡ false
+works_inside view works = ap (λ (v : DurableValue). v.has_failed) view ∙ works
 
 -- ---- an open worker
 

@@ -24,7 +24,8 @@ use Rattle.disk_layout.specs.declared.fault.LayoutFault.TheVariants as layout
 use Rattle.disk_layout.specs.declared.reading.contents.Contents.{Contents}
 use Rattle.wasi_abi.specs.declared.version.Version.{Version}
 use Rattle.disk_layout.specs.rules.Held.{GivesContents, HasDamage}
-use Rattle.disk_layout.specs.rules.Journal.{Record, scan}
+use Rattle.disk_layout.specs.rules.Journal.{Record}
+use Rattle.journal.specs.rules.Steps.{JournalHolds}
 use Rattle.journal.specs.declared.fault.JournalFault.TheVariants as journal
 use Rattle.snapshot.specs.declared.fault.SnapshotFault.TheVariants as snapshot
 use Rattle.worker_store.specs.declared.newest.NewestProcessImage.{NewestProcessImage}
@@ -204,6 +205,6 @@ module _ (sectors : ℕ) (disk : DiskImage) (contents : Contents)
           process = restored_in;
           image = sym same ∙ restored.is;
           none_later = tells.1;
-          scanned = sym (subst (λ w. records.items
-              ≡ scan contents.geometry w disk newest.generation) same_version tells.0);
+          in_journal = subst (λ w. JournalHolds contents.geometry w newest.generation
+              records.items disk) same_version tells.0;
         }

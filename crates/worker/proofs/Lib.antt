@@ -35,3 +35,4 @@ pub mod WantLemmas
 mod AnswerLemmas
 mod InspectionLemmas
 mod QuestionLemmas
+mod RefusedLemmas

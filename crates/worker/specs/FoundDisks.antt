@@ -7,8 +7,7 @@ use Rattle.sector_disk.specs.rules.DiskImage.{DiskImage}
 use Rattle.disk_layout.specs.declared.geometry.Geometry.{Geometry}
 use Rattle.disk_layout.specs.declared.reading.contents.Contents.{Contents}
 use Rattle.disk_layout.specs.rules.Held.{GivesContents}
-use Rattle.disk_layout.specs.rules.Journal.{scan}
-use Rattle.journal.specs.rules.Steps.{ShowsLater}
+use Rattle.journal.specs.rules.Steps.{JournalHolds, ShowsLater}
 use Rattle.state_image.specs.rules.Saving.{saved_of}
 use Rattle.worker_store.specs.rules.AnyDisk.{NamesProcessImage}
 use Rattle.worker.specs.declared.found.Found.{Found}
@@ -31,8 +30,8 @@ pub record IsFoundIn (sectors : ℕ) (disk : DiskImage) (found : Found) : Type 0
   pub process : IsRestoredIn holds found.geometry found.generation found.process
   pub image : found.process_image ≡ process_image (saved_of found.process)
   pub none_later : ShowsLater holds.contents.geometry found.generation disk → ⊥
-  pub scanned : scan holds.contents.geometry (saved_of found.process).version disk found.generation
-      ≡ found.records.items
+  pub in_journal : JournalHolds holds.contents.geometry (saved_of found.process).version
+      found.generation found.records.items disk
 
 -- that, or what is wrong with the disk
 abbrev pub FindsIn : ℕ → DiskImage → Result Found RecoverFault → Type 0

@@ -2,8 +2,11 @@
 
 ghost use Rattle.std.specs.Prelude.{◌≡◌};
 
+use crate::fault::WorkFault;
 use crate::running_worker::RunningWorker;
 use process::Process;
+use record_replay::SliceFault;
+use sector_disk::{Disk, DiskFault};
 use std::marker::Model;
 
 /// A process that is run slice by slice, whose answers are kept on a disk. It keeps no disk: each
@@ -26,6 +29,10 @@ impl Model for Worker {
 }
 
 impl Worker {
+    ghost use Rattle.std.specs.Prelude.{◌⊎◌, ◌≤◌, Err, OnErr, OnOk, false, true};
+    ghost use Rattle.disk_layout.specs.rules.Places.{total_sectors};
+    ghost use Rattle.worker.specs.rules.DurableValues.{IsTooSmallFor, failed_worker};
+
     /// The process as it is now, also after an error.
     pub fn process(&self) -> &Process
         ensures { result.now ≡ self.now.process }
@@ -45,6 +52,29 @@ impl Worker {
         ensures { result ≡ self.now.replayed }
     {
         self.replayed
+    }
+
+    /// Tests that no call of it has failed, and that the disk has all its sectors. Where the disk
+    /// is too small, the worker has failed from now on.
+    pub(crate) fn test_disk<D: Disk>(&mut self, disk: &D) -> Result<(), WorkFault>
+        ensures fit { OnOk result ((self.new ≡ self.old) × (self.old.has_failed ≡ false)
+            × (total_sectors self.old.store.geometry ≤ (D.medium disk.now).sectors)) }
+        ensures unfit { OnErr result
+            ((self.old.has_failed ≡ true) ⊎ IsTooSmallFor self.old (D.medium disk.now)) }
+        ensures refused { self.old.has_failed ≡ true
+            → (result ≡ Err (WorkFault.Work SliceFault.Failed)) × (self.new ≡ self.old) }
+        ensures small { self.old.has_failed ≡ false → IsTooSmallFor self.old (D.medium disk.now)
+            → (result ≡ Err (WorkFault.Disk DiskFault.Range))
+            × (self.new ≡ failed_worker self.old) }
+    {
+        if self.running.store.has_failed() {
+            return Err(WorkFault::Work(SliceFault::Failed));
+        }
+        if disk.sectors() < self.running.store.total_sectors() {
+            self.running.store.fail();
+            return Err(WorkFault::Disk(DiskFault::Range));
+        }
+        Ok(())
     }
 
     /// Lets the worker go. Its disk stays as the last call has left it.

@@ -3,7 +3,7 @@
 //! **What a call exchanged with source and outlet doesn't hang on what was promised.** So any
 //! source and any outlet may be in the theorem, which is told what they did afterwards.
 
-ghost use Rattle.std.specs.Prelude.{◌≡◌, ◌≢◌, ◌≤◌, [], true, IfErr, IfOk, OnOk};
+ghost use Rattle.std.specs.Prelude.{◌≡◌, ◌≢◌, ◌≤◌, [], false, true, IfErr, IfOk, OnOk};
 ghost use Rattle.process.specs.rules.Values.{IsProcess, waiting_in};
 ghost use Rattle.disk_layout.specs.rules.Places.{total_sectors};
 ghost use Rattle.record_replay.specs.rules.Slices.{Slices};
@@ -17,7 +17,7 @@ use crate::fault::WorkFault;
 use crate::running_worker::RunningWorker;
 use process::Stop;
 use record_replay::{Now, Outlet, SliceFault, Source};
-use sector_disk::Disk;
+use sector_disk::{Disk, DiskFault};
 
 impl RunningWorker {
     /// Takes at most `fuel` steps. Each line is released, and each answer asked for, before the
@@ -67,11 +67,15 @@ impl RunningWorker {
 impl Worker {
     ghost use Rattle.std.specs.Prelude.{Err};
     ghost use Rattle.worker.specs.rules.Effects.{RunsSlice};
+    ghost use Rattle.worker.specs.rules.DurableValues.{IsTooSmallFor, failed_worker};
 
     /// Takes at most `fuel` steps: answers from the source, lines to the outlet. Before a line is
     /// released all answers are on the disk, and so they are before a sync of the guest returns.
     /// An answer is kept before the process takes it. Where the journal may be too full for the
     /// next one, the process is saved, as the next generation.
+    ///
+    /// A disk with fewer sectors than the worker has is refused, as any disk refuses a sector that
+    /// it doesn't have: `N1 Disk`.
     pub fn slice<D: Disk, S: Source, O: Outlet>(
         &mut self,
         disk: &mut D,
@@ -79,19 +83,37 @@ impl Worker {
         source: &mut S,
         outlet: &mut O,
     ) -> Result<Now, WorkFault>
-        requires { total_sectors self.old.store.geometry ≤ (D.medium disk.old).sectors }
-
         // It runs as a worker does that has no disk. Whatever was promised is kept, by Ok or by any
         // error.
-        ensures runs { RunsSlice S.gives O.takes fuel self.old self.new result (D.medium disk.old)
+        ensures runs { total_sectors self.old.store.geometry ≤ (D.medium disk.old).sectors
+            → RunsSlice S.gives O.takes fuel self.old self.new result (D.medium disk.old)
             (D.medium disk.new) source.old source.new outlet.old outlet.new }
+        ensures small { self.old.has_failed ≡ false → IsTooSmallFor self.old (D.medium disk.old)
+            → (result ≡ Err (WorkFault.Disk DiskFault.Range)) × (self.new ≡ failed_worker self.old)
+            × (disk.new ≡ disk.old) × (source.new ≡ source.old) × (outlet.new ≡ outlet.old) }
         ensures refused { self.old.has_failed ≡ true
             → (result ≡ Err (WorkFault.Work SliceFault.Failed)) × (self.new ≡ self.old)
             × (disk.new ≡ disk.old) × (source.new ≡ source.old) × (outlet.new ≡ outlet.old) }
     {
-        if self.running.store.has_failed() {
-            return Err(WorkFault::Work(SliceFault::Failed));
+        if let Err(fault) = self.test_disk(disk) {
+            return Err(fault);
         }
+        self.slice_within(disk, fuel, source, outlet)
+    }
+
+    /// A slice of a worker that hasn't failed, on a disk that has all its sectors.
+    fn slice_within<D: Disk, S: Source, O: Outlet>(
+        &mut self,
+        disk: &mut D,
+        fuel: u64,
+        source: &mut S,
+        outlet: &mut O,
+    ) -> Result<Now, WorkFault>
+        requires works { self.old.has_failed ≡ false }
+        requires sectors { total_sectors self.old.store.geometry ≤ (D.medium disk.old).sectors }
+        ensures { RunsSlice S.gives O.takes fuel self.old self.new result (D.medium disk.old)
+            (D.medium disk.new) source.old source.new outlet.old outlet.new }
+    {
         match self.running.work(disk, fuel, source, outlet) {
             Ok(now) => Ok(now),
             Err(fault) => {

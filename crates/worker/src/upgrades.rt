@@ -9,7 +9,7 @@ use crate::running_worker::RunningWorker;
 use crate::upgrade_fault::UpgradeFault;
 use crate::widening::save_in_two;
 use record_replay::{Outlet, SliceFault};
-use sector_disk::Disk;
+use sector_disk::{Disk, DiskFault};
 use wasi_abi::Version;
 use worker_store::laws::process_images_fit_areas;
 
@@ -34,9 +34,10 @@ impl RunningWorker {
 }
 
 impl Worker {
-    ghost use Rattle.std.specs.Prelude.{◌≡◌, ◌≤◌, Err, true};
+    ghost use Rattle.std.specs.Prelude.{◌≡◌, ◌≤◌, Err, false, true};
     ghost use Rattle.disk_layout.specs.rules.Places.{total_sectors};
     ghost use Rattle.worker.specs.rules.Effects.{UpgradesWorker};
+    ghost use Rattle.worker.specs.rules.DurableValues.{IsTooSmallFor, failed_worker};
     ghost use Rattle.worker.specs.rules.Upgrades.{Migrates, RefusesUpgrade};
 
     /// Puts all answers on the disk, and then saves the process in version 2, as a snapshot of the
@@ -47,20 +48,23 @@ impl Worker {
     /// A journal of fewer than 133 sectors is too small for it. A worker of version 1 that was
     /// recovered has to have asked since, or to have ended, in this life or before: else lines that
     /// an earlier life told may be told again, with another text.
+    ///
+    /// A disk with fewer sectors than the worker has is refused: `N1 Disk`.
     pub fn upgrade<D: Disk, O: Outlet>(
         &mut self,
         disk: &mut D,
         _outlet: &mut O,
     ) -> Result<(), WorkFault>
-        requires { total_sectors self.old.store.geometry ≤ (D.medium disk.old).sectors }
-
         // Whatever was promised is kept, by Ok or by any error. After Ok the process and the disk
         // are of version 2.
-        ensures upgrades { UpgradesWorker self.old self.new result (D.medium disk.old)
-            (D.medium disk.new) }
+        ensures upgrades { total_sectors self.old.store.geometry ≤ (D.medium disk.old).sectors
+            → UpgradesWorker self.old self.new result (D.medium disk.old) (D.medium disk.new) }
 
         // At each moment the disk stands for a worker of the one version or of the other.
         ensures migrates { Migrates D.medium self.old disk.old disk.new }
+        ensures small { self.old.has_failed ≡ false → IsTooSmallFor self.old (D.medium disk.old)
+            → (result ≡ Err (WorkFault.Disk DiskFault.Range)) × (self.new ≡ failed_worker self.old)
+            × (disk.new ≡ disk.old) }
 
         // The outlet is left alone.
         ensures quiet { _outlet.new ≡ _outlet.old }
@@ -69,11 +73,24 @@ impl Worker {
         ensures refused { self.old.has_failed ≡ true
             → (result ≡ Err (WorkFault.Work SliceFault.Failed)) × (self.new ≡ self.old)
             × (disk.new ≡ disk.old) }
+        ensures in_the_way { total_sectors self.old.store.geometry ≤ (D.medium disk.old).sectors
+            → RefusesUpgrade self.old result self.new disk.old disk.new }
+    {
+        if let Err(fault) = self.test_disk(disk) {
+            return Err(fault);
+        }
+        self.upgrade_within(disk)
+    }
+
+    /// An upgrade of a worker that hasn't failed, on a disk that has all its sectors.
+    fn upgrade_within<D: Disk>(&mut self, disk: &mut D) -> Result<(), WorkFault>
+        requires works { self.old.has_failed ≡ false }
+        requires sectors { total_sectors self.old.store.geometry ≤ (D.medium disk.old).sectors }
+        ensures upgrades { UpgradesWorker self.old self.new result (D.medium disk.old)
+            (D.medium disk.new) }
+        ensures migrates { Migrates D.medium self.old disk.old disk.new }
         ensures in_the_way { RefusesUpgrade self.old result self.new disk.old disk.new }
     {
-        if self.running.store.has_failed() {
-            return Err(WorkFault::Work(SliceFault::Failed));
-        }
         process_images_fit_areas();
         if let Err(fault) = self.running.test_upgrade() {
             self.running.store.fail();

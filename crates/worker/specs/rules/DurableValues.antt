@@ -1,7 +1,10 @@
 -- What contracts see of a worker on its disk (this project's own).
-use Rattle.std.specs.Prelude.{◌≡◌, ℕ, Bool, false, []}
+use Rattle.std.specs.Prelude.{◌≡◌, ℕ, ◌<◌, Bool, false, true, []}
 use Rattle.process.specs.rules.Values.{ProcessValue, IsProcess, waiting_in}
+use Rattle.sector_disk.specs.rules.Medium.{Medium}
+use Rattle.disk_layout.specs.rules.Places.{total_sectors}
 use Rattle.worker_store.specs.declared.store.WorkerStore.{WorkerStore}
+use Rattle.worker_store.specs.rules.Stores.{failed_store}
 use Rattle.worker.specs.declared.running_worker.RunningWorker.{RunningWorker}
 use Rattle.record_replay.specs.rules.Workers.{WorkerValue}
 
@@ -34,3 +37,11 @@ pub record IsDurable (w : DurableValue) : Type 0 where
 -- the same worker without its disk
 abbrev pub without_disk : DurableValue → WorkerValue
 without_disk w = record { process = w.process; failed = w.has_failed }
+
+-- a call of it has failed, and all else of it is as it was
+abbrev pub failed_worker : DurableValue → DurableValue
+failed_worker w = record w { store = failed_store w.store; has_failed = true }
+
+-- the disk has fewer sectors than the worker
+abbrev pub IsTooSmallFor : DurableValue → Medium → Type 0
+IsTooSmallFor w disk = disk.sectors < total_sectors w.store.geometry

@@ -23,7 +23,7 @@ use Rattle.disk_layout.specs.declared.fault.LayoutFault.TheVariants as layout
 use Rattle.disk_layout.specs.declared.reading.contents.Contents.{Contents}
 use Rattle.wasi_abi.specs.declared.version.Version.{Version}
 use Rattle.disk_layout.specs.rules.Held.{GivesContents, HasDamage}
-use Rattle.disk_layout.specs.rules.Journal.{Record, scan}
+use Rattle.disk_layout.specs.rules.Journal.{Record}
 use Rattle.disk_layout.specs.rules.Stored.{OnlyReads}
 use Rattle.record_replay.specs.declared.fault.ReplayFault.{ReplayFault}
 use Rattle.record_replay.specs.rules.Calls.{Taking}
@@ -34,7 +34,7 @@ use Rattle.worker_store.specs.declared.fault.StoreFault.TheVariants as store
 use Rattle.worker_store.specs.rules.AnyDisk.{HasOtherVersion, HasShortJournal, HasKnownVersion}
 use Rattle.worker_store.specs.rules.AnyDisk.{LacksItsProcessImage, NamesProcessImage, HasOtherMark}
 use Rattle.journal.specs.declared.fault.JournalFault.TheVariants as journal
-use Rattle.journal.specs.rules.Steps.{ShowsLater}
+use Rattle.journal.specs.rules.Steps.{JournalHolds, ShowsLater}
 use Rattle.snapshot.specs.declared.fault.SnapshotFault.TheVariants as snapshot
 use Rattle.snapshot.specs.rules.Heads.{HasNone}
 use Rattle.worker.specs.declared.fault.WorkFault.TheVariants.{Disk, Store}
@@ -66,7 +66,7 @@ pub record HoldsWorker (sectors : ℕ) (disk : DiskImage) : Type 0 where
       (process_image saved)
   pub none_later : ShowsLater holds.contents.geometry generation disk → ⊥
   pub records : List Record
-  pub scanned : scan holds.contents.geometry saved.version disk generation ≡ records
+  pub in_journal : JournalHolds holds.contents.geometry saved.version generation records disk
 
 -- ---- what is wrong with it
 

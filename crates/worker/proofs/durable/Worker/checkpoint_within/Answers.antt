@@ -1,0 +1,100 @@
+use Rattle.std.proofs.Common.{◌≡◌, sym, ◌∙◌, ap, refl, subst, true}
+use Rattle.worker.specs.declared.fault.WorkFault.TheVariants.{Work}
+use Rattle.record_replay.specs.declared.slices.fault.SliceFault.TheVariants as slice
+use Rattle.worker.specs.rules.DurableValues.{DurableValue}
+use Rattle.worker.proofs.CheckpointLemmas.{done_keeps, fault_keeps, fault_cause, room_for}
+use Rattle.worker.proofs.CheckpointLemmas.{room_after, saved_in, cause_on_any_disk, works_inside}
+use Rattle.worker.proofs.CheckpointLemmas.{calls_err, calls_ok, failed_carries}
+use Rattle.worker.proofs.CheckpointLemmas.{failed_fails}
+use Rattle.worker.proofs.CheckpointLemmas.{failed_calls}
+use Rattle.worker.proofs.RecoveryCallLemmas.{none_called}
+use Rattle.worker.specs.rules.CallCounts.{most_saving}
+use Rattle.worker.specs.rules.Unsynced.{CountsInSlice}
+use Rattle.worker.proofs.TurnCounts.{counts_none}
+use Rattle.worker.proofs.durable.Worker.checkpoint_within.Goals as goal
+
+pub save-saved-requires : goal.save-saved-requires
+save-saved-requires g c =
+    room_for g.D.Disk.medium c.self.inside.running c.self.inside.replayed
+    c.args.self.now c.self.view_is c.args.disk.now c.args.disk.now
+    c.requires.sectors
+
+pub returns-in-Err : goal.returns-in-Err
+returns-in-Err g c =
+    let running = c.self.inside.running in
+    let disk = g.D.Disk.medium c.args.disk.now in
+    let disk' = g.D.Disk.medium c.save-saved.new.disk in
+    let durable = c.self.invariant in
+    let shows = durable.shows (works_inside c.self.view_is c.requires.works) in
+    let runs = c.in-Err.ensures.runs in
+    record {
+      carries = fault_keeps g.D.Disk.medium running c.self.inside.replayed
+          c.args.self.now c.self.view_is c.args.disk.now c.save-saved.new.disk
+          c.process_images_fit_areas.ensures shows c.save-saved.new.store
+          c.in-Err.ensures.any_moment c.in-Err.ensures.asks c.in-Err.fault c.from.result
+          c.from.ensures c.in-Err.ensures.cause;
+      saved = tt;
+      process = ap (λ (w : DurableValue). w.process) c.self.view_is;
+      keeps = record {
+        fails = c.in-Err.ensures.fails;
+        unsaved = c.in-Err.ensures.unnumbered
+            ∙ ap (λ (w : DurableValue). w.store.journal.generation) c.self.view_is;
+        replayed = ap (λ (w : DurableValue). w.replayed) c.self.view_is;
+        room = room_after g.D.Disk.medium running c.self.inside.replayed
+            c.args.self.now c.self.view_is c.args.disk.now
+            c.save-saved.new.disk c.save-saved.new.store c.in-Err.ensures.stays
+            c.in-Err.ensures.passes c.requires.sectors;
+        asks = c.in-Err.ensures.asks;
+        counts = subst (λ (w : DurableValue). CountsInSlice w.store.geometry disk disk')
+            c.self.view_is runs.counts;
+      };
+      calls = calls_err g.D.Disk.medium running c.self.inside.replayed
+          c.args.self.now c.self.view_is c.args.disk.now
+          c.save-saved.new.disk c.in-Err.fault c.from.result c.in-Err.ensures.calls;
+      cause = fault_cause g.D.Disk.medium running c.self.inside.replayed
+          c.args.self.now c.self.view_is c.args.disk.now
+          c.save-saved.new.disk c.process_images_fit_areas.ensures shows
+          c.save-saved.new.store c.in-Err.ensures.any_moment c.in-Err.ensures.asks
+          c.in-Err.fault c.from.result c.from.ensures c.in-Err.ensures.cause;
+      on_any_disk = cause_on_any_disk g.D.Disk.medium running c.self.inside.replayed
+          c.args.self.now c.self.view_is c.args.disk.now
+          c.save-saved.new.disk c.in-Err.fault c.from.result c.from.ensures
+          c.in-Err.ensures.on_any_disk;
+    }
+
+pub returns : goal.returns
+returns g c =
+    let running = c.self.inside.running in
+    let disk = g.D.Disk.medium c.args.disk.now in
+    let disk' = g.D.Disk.medium c.save-saved.new.disk in
+    let durable = c.self.invariant in
+    let before = works_inside c.self.view_is c.requires.works in
+    let runs = c.in_default.ensures.runs in
+    record {
+      carries = done_keeps g.D.Disk.medium running c.self.inside.replayed
+          c.args.self.now c.self.view_is c.args.disk.now c.save-saved.new.disk
+          c.process_images_fit_areas.ensures (durable.shows before) c.save-saved.new.store
+          c.in_default.ensures.any_moment c.in_default.ensures.asks (runs.works before)
+          c.in_default.ensures.durable;
+      saved = saved_in g.D.Disk.medium running c.self.inside.replayed
+          c.args.self.now c.self.view_is c.args.disk.now c.save-saved.new.disk
+          c.save-saved.new.store c.in_default.ensures.numbered (runs.works before ∙ sym before);
+      process = ap (λ (w : DurableValue). w.process) c.self.view_is;
+      keeps = record {
+        fails = tt;
+        unsaved = tt;
+        replayed = ap (λ (w : DurableValue). w.replayed) c.self.view_is;
+        room = room_after g.D.Disk.medium running c.self.inside.replayed
+            c.args.self.now c.self.view_is c.args.disk.now
+            c.save-saved.new.disk c.save-saved.new.store
+            c.in_default.ensures.stays c.in_default.ensures.passes c.requires.sectors;
+        asks = c.in_default.ensures.asks;
+        counts = subst (λ (w : DurableValue). CountsInSlice w.store.geometry disk disk')
+            c.self.view_is runs.counts;
+      };
+      calls = calls_ok g.D.Disk.medium running c.self.inside.replayed
+          c.args.self.now c.self.view_is c.args.disk.now
+          c.save-saved.new.disk tt c.in_default.ensures.calls;
+      cause = tt;
+      on_any_disk = tt;
+    }
