@@ -15,8 +15,8 @@ use Rattle.command_words.specs.declared.telling.Obstacle.TheVariants.{Unread}
 use Rattle.command_words.specs.rules.Printers.{PrinterState}
 use Rattle.command_words.specs.rules.Reports.{SaysLine, obstacle_words}
 use Rattle.disk_commands.specs.rules.Openings.{IsWrittenBack, IsOpenedFor, SaysUnopened}
-use Rattle.disk_commands.specs.rules.Openings.{ShowsFile}
-use Rattle.disk_commands.specs.rules.Showings.{ShowsDisk}
+use Rattle.disk_commands.specs.declared.on_disk.disk_file.Look.{Look}
+use Rattle.disk_commands.specs.rules.LookedFiles.{TellsFile, TellsLook}
 
 -- what is known of a path is known of the same path
 pub known_at : (known : List ℕ → Bool) (there path : List ℕ) → there ≡ path → IsTrue (known there)
@@ -86,19 +86,20 @@ module _ {F : Type 0} (handles : KnownHandles F) (files : KnownFiles F) (rewrite
     },
   )
 
-module _ {F : Type 0} (handles : KnownHandles F) (files : KnownFiles F) (path : List ℕ)
-    (opened disk : FileDisk F) where
-  -- a survey of a disk that was opened there, and of whose opening nothing was said
-  pub shows_file : (out out' err between err' : PrinterState) (status : ℕ)
-      → IsOpenedAt handles files path opened → IsTrue (files.closed disk) → between ≡ err
-      → ShowsDisk (file_medium opened) (file_medium disk) out out' between err' status
-      → ShowsFile handles files path out out' err err' status
-  shows_file out out' err between err' status at closed quiet shows =
-      inl (
-        opened,
-        disk,
-        at,
-        closed,
-        subst (λ old. ShowsDisk (file_medium opened)
-            (file_medium disk) out out' old err' status) quiet shows,
-      )
+-- what is said of a disk that was opened at a path, and of whose opening nothing was said
+pub tells_file : {F : Type 0} (handles : KnownHandles F) (files : KnownFiles F) (what : Look)
+    (path : List ℕ) (opened disk : FileDisk F) (out out' err between err' : PrinterState)
+    (status : ℕ) → IsOpenedAt handles files path opened → IsTrue (files.closed disk)
+    → between ≡ err
+    → TellsLook what (file_medium opened) (file_medium disk) out out' between err' status
+    → TellsFile handles files what path out out' err err' status
+tells_file handles files what path opened disk out out' err between err' status at closed quiet
+    tells =
+    inl (
+      opened,
+      disk,
+      at,
+      closed,
+      subst (λ old. TellsLook what (file_medium opened) (file_medium disk) out out' old err' status)
+          quiet tells,
+    )

@@ -23,5 +23,4 @@ pub mod StatusFileLemmas
 mod FactLemmas
 mod JsonLemmas
 mod OpenedLemmas
-mod InspectingLemmas
 pub mod FlawLemmas

@@ -3,7 +3,8 @@
 //! answers the exit status. What it says itself, and what it reads, is of `command_words`.
 //!
 //! ```text
-//! let status = show_file(alloc, rt, "worker.disk", &mut Printer::new(out, false), &mut err);
+//! let out = &mut Printer::new(out, false);
+//! let status = look_at_file(alloc, rt, "worker.disk", Look::Survey, out, &mut err);
 //! ```
 //!
 //! # Promises
@@ -18,8 +19,8 @@
 //!   fuel and checkpoints of the pace. Each status has its cause, and the last words are true.
 //! - `upgrade_file`, `upgrade_worker`: one life without an answer, and an upgrade in it; 0 only if
 //!   the worker is in version 2.
-//! - `show_file`, `inspect_file`, `files_file`: what the disk at the path shows is printed whole,
-//!   or what keeps it from that is told. The disk is only synced.
+//! - `look_at_file`: what the disk at the path shows is printed whole, or what keeps it from that
+//!   is told. The disk is only synced.
 //! - `Watcher`, `StatusFile`, `status_file_of`: who is told where the worker is. No file is touched
 //!   but one that was found free.
 //! - `report_input`, `report_open`, `report_unread`: what is wrong with an input, and why a file
@@ -32,11 +33,11 @@
 //! In `specs/rules/`: `last_words`, `next_line` (`LastWords.antt`); `AsksUnless` (`Hearings.antt`);
 //! `CreatesOn` (`Creations.antt`); `CreatesFile`, `CreatesOnDevice`, `CreatesDisk`
 //! (`MadeFiles.antt`); `SaysOfInput` (`Leavings.antt`); `ShowsDisk`, `ShowsSurvey`, `survey_line`
-//! (`Showings.antt`); `open_words`, `IsOpenedFor`, `ShowsFile` (`Openings.antt`); `watch_line`,
+//! (`Showings.antt`); `open_words`, `IsOpenedFor` (`Openings.antt`); `watch_line`,
 //! `IsDue`, `IsStatusLine`, `WatchesEnd` (`Watchings.antt`); `IsFreePath`, `IsStatusFile`,
 //! `SaysUnwatched` (`StatusFiles.antt`); `Fact`, `facts_text`, `facts_data`, `facts_words`
 //! (`Facts.antt`); `disk_facts` (`DiskFacts.antt`); `listing_text`, `TellsDisk`, `TellsFiles`
-//! (`Inspectings.antt`); `TellsFile`, `TellsFilesOf` (`LookedFiles.antt`); `RunStart`, `RunEnd`,
+//! (`Inspectings.antt`); `TellsLook`, `TellsFile` (`LookedFiles.antt`); `RunStart`, `RunEnd`,
 //! `ServesOnDisk`, `LivesOnDisk`, `HasOutcome`, `HasBrokenOff`, `source_behind`
 //! (`ServedOnDisk.antt`); `RunsFile`, `IsJobOf`, `UpgradesFile` (`ServedFiles.antt`); `BreaksOff`,
 //! `LeavesNoLine`, `TellsItsLines` (`BrokenLives.antt`); `HeedsRefusal` (`Refusals.antt`);
@@ -60,9 +61,9 @@ mod on_disk;
 
 pub use inspecting::{inspect_disk, list_files};
 pub use on_disk::{
-    Drive, FoundFile, NewDisk, Pace, StatusFile, System, Upgraded, WatchedPaths, Watcher,
-    create_device, create_disk, create_file, create_on, files_file, inspect_file, open_disk,
-    report_input, report_open, report_unread, run_file, serve, show_file, status_file_of, survey,
-    upgrade_file, upgrade_worker,
+    Drive, FoundFile, Look, NewDisk, Pace, StatusFile, System, Upgraded, WatchedPaths, Watcher,
+    create_device, create_disk, create_file, create_on, look_at_file, open_disk, report_input,
+    report_open, report_unread, run_file, serve, status_file_of, survey, upgrade_file,
+    upgrade_worker,
 };
 pub use worker::Worker;

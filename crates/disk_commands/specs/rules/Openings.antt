@@ -18,7 +18,6 @@ use Rattle.sector_disk.specs.rules.Rewrite.{AddsNothing}
 use Rattle.command_words.specs.rules.Printers.{PrinterState}
 use Rattle.command_words.specs.rules.Reports.{SaysLine, obstacle_words}
 use Rattle.command_words.specs.declared.telling.Obstacle.TheVariants.{Memory, Unread}
-use Rattle.disk_commands.specs.rules.Showings.{ShowsDisk}
 
 -- what the operating system says of a path, in the words of its library
 abbrev pub cause_words : OpenCause → List ℕ
@@ -85,13 +84,3 @@ module _ {F : Type 0} (handles : KnownHandles F) (files : KnownFiles F) where
       ((why : OpenFault) × IsUnopenedAt handles files path why
       × SaysLine (open_words path why) 4 old status new)
       ⊎ ((rewrites ≡ true) × SaysUnrewritten path old status new)
-
-  -- A disk was opened at this path, nothing was done with it but to show it, and it was closed. Or
-  -- it is said why none was opened.
-  abbrev pub ShowsFile : List ℕ → PrinterState → PrinterState → PrinterState → PrinterState → ℕ
-      → Type 0
-  ShowsFile path out out' err err' status =
-      ((disk : FileDisk F) × (disk' : FileDisk F) × IsOpenedAt handles files path disk
-      × IsTrue (files.closed disk')
-      × ShowsDisk (file_medium disk) (file_medium disk') out out' err err' status)
-      ⊎ (SaysUnopened false path err status err' × (out' ≡ out))

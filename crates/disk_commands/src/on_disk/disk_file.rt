@@ -5,22 +5,21 @@
 //! - `open_disk`: the disk that this call has opened at the path. Where a rewrite is asked for each
 //!   sector was written back, and synced (`IsOpenedFor`). Else it is said why there is none: the
 //!   path was refused, or a call of that file has failed (`SaysUnopened`).
-//! - `show_file` opens the disk at the path, says of it what `survey` says, and closes it
-//!   (`ShowsFile`). So it is with the others here. What is printed is of that disk, whatever image
+//! - `look_at_file` opens the disk at the path, says of it what `survey`, `inspect_disk` or
+//!   `list_files` says, and closes it (`TellsFile`). What is printed is of that disk, whatever image
 //!   was on it.
 
-ghost use Rattle.std.specs.Prelude.{◌≡◌, ◌≤◌, ◌<◌, [], IfErr, IfOk, IsTrue, OnOk, option_map};
+ghost use Rattle.std.specs.Prelude.{◌≡◌, ◌≤◌, ◌<◌, [], IfErr, IfOk, IsTrue, OnOk};
 ghost use Rattle.sector_disk.specs.rules.File.{answers_of, file_medium};
 ghost use Rattle.command_words.specs.rules.Reports.{SaysLine, obstacle_words};
 ghost use Rattle.disk_commands.specs.rules.Openings.{IsOpenedFor, IsWrittenBack, SaysUnopened};
-ghost use Rattle.disk_commands.specs.rules.Openings.{ShowsFile};
-ghost use Rattle.disk_commands.specs.rules.LookedFiles.{TellsFile, TellsFilesOf};
+ghost use Rattle.disk_commands.specs.rules.LookedFiles.{TellsFile, TellsLook};
 
 use crate::inspecting::{inspect_disk, list_files};
 use crate::on_disk::opening::report_open;
 use crate::on_disk::showing::survey;
 use command_words::{Obstacle, Printer, report};
-use sector_disk::{DiskFile, DiskFiles, FileDisk, rewrite};
+use sector_disk::{Disk, DiskFile, DiskFiles, FileDisk, rewrite};
 use std::alloc::Global;
 use std::io::Write;
 
@@ -80,12 +79,43 @@ where
     written_back(files, disk, err)
 }
 
-/// `wasmhost show` of the disk in a file: it is opened, only surveyed, and closed. Returns the exit
-/// status.
-pub fn show_file<F, R, W, E>(
+/// What is said of a disk that is looked at.
+#[derive(Clone, Copy, Debug, PartialEq, Eq)]
+pub enum Look<'a> {
+    /// Where its worker is, in one line.
+    Survey,
+    /// All that is on it, one fact a line or as one JSON value.
+    Facts { as_json: bool },
+    /// The list of its worker's files, or the bytes of the one at a path.
+    Files { path: Option<&'a str> },
+}
+
+/// Says that of a disk. Nothing is changed on it, but that it is synced. Answers the exit status.
+fn look_at<D: Disk, W: Write + Drop, E: Write + Drop>(
+    alloc: Global,
+    disk: &mut D,
+    look: Look<'_>,
+    out: &mut Printer<W>,
+    err: &mut Printer<E>,
+) -> u8
+    ensures tells { TellsLook look.entry (D.medium disk.old) (D.medium disk.new) out.old out.new
+        err.old err.new result }
+    ensures known { result ≤ 7 }
+{
+    match look {
+        Look::Survey => survey(alloc, disk, out, err),
+        Look::Facts { as_json } => inspect_disk(alloc, disk, as_json, out, err),
+        Look::Files { path } => list_files(alloc, disk, path, out, err),
+    }
+}
+
+/// `wasmhost show`, `inspect` and `files` of the disk in a file: it is opened, only looked at, and
+/// closed. Returns the exit status.
+pub fn look_at_file<F, R, W, E>(
     alloc: Global,
     files: &R,
     path: &str,
+    look: Look<'_>,
     out: &mut Printer<W>,
     err: &mut Printer<E>,
 ) -> u8
@@ -94,72 +124,13 @@ where
     R: DiskFiles<File = F>,
     W: Write + Drop,
     E: Write + Drop,
-    ensures shows { ShowsFile F.known (R.known files.now) path.now out.old out.new err.old err.new
-        result }
+    ensures tells { TellsFile F.known (R.known files.now) look.entry path.now out.old out.new
+        err.old err.new result }
     ensures known { result ≤ 7 }
 {
     match open_disk(files, path, false, err) {
         Ok(mut disk) => {
-            let status = survey(alloc, &mut disk, out, err);
-            files.close(disk);
-            status
-        }
-        Err(status) => status,
-    }
-}
-
-/// `wasmhost inspect` of the disk in a file: it is opened, only inspected, and closed. Returns the
-/// exit status.
-pub fn inspect_file<F, R, W, E>(
-    alloc: Global,
-    files: &R,
-    path: &str,
-    as_json: bool,
-    out: &mut Printer<W>,
-    err: &mut Printer<E>,
-) -> u8
-where
-    F: DiskFile,
-    R: DiskFiles<File = F>,
-    W: Write + Drop,
-    E: Write + Drop,
-    ensures tells { TellsFile F.known (R.known files.now) as_json path.now out.old out.new err.old
-        err.new result }
-    ensures known { result ≤ 7 }
-{
-    match open_disk(files, path, false, err) {
-        Ok(mut disk) => {
-            let status = inspect_disk(alloc, &mut disk, as_json, out, err);
-            files.close(disk);
-            status
-        }
-        Err(status) => status,
-    }
-}
-
-/// `wasmhost files` of the disk in a file: it is opened, only inspected, and closed. Returns the
-/// exit status.
-pub fn files_file<F, R, W, E>(
-    alloc: Global,
-    files: &R,
-    disk: &str,
-    path: Option<&str>,
-    out: &mut Printer<W>,
-    err: &mut Printer<E>,
-) -> u8
-where
-    F: DiskFile,
-    R: DiskFiles<File = F>,
-    W: Write + Drop,
-    E: Write + Drop,
-    ensures tells { TellsFilesOf F.known (R.known files.now)
-        (option_map (λ text. text.now) path.entry) disk.now out.old out.new err.old err.new
-        result }
-    ensures known { result ≤ 7 }
-{
-    match open_disk(files, disk, false, err) {
-        Ok(mut disk) => {
-            let status = list_files(alloc, &mut disk, path, out, err);
+            let status = look_at(alloc, &mut disk, look, out, err);
             files.close(disk);
             status
         }

@@ -20,7 +20,7 @@ mod watched_paths;
 mod watching;
 
 pub use creation::create_on;
-pub use disk_file::{files_file, inspect_file, open_disk, show_file};
+pub use disk_file::{Look, look_at_file, open_disk};
 pub(crate) use fault::{OnDiskFault, say_disk_fault};
 pub use found_file::FoundFile;
 pub use leaving::report_input;

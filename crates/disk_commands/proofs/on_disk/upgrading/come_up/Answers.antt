@@ -14,47 +14,52 @@ loop-how-init g c =
 
 pub loop-how-smaller : goal.loop-how-smaller
 loop-how-smaller g c =
+    let runs = c.in-Ok-Spent.ensures.runs c.loop-how.invariant.room in
     slice_fewer g.D.Disk.medium g.S.Source.gives g.O.Outlet.takes c.loop-how.worker
-    c.slice.new.self 100000 Spent _ _ _ _ c.in-Ok-Spent.ensures.runs.shows (omega (arith))
-    (rw c.in-Ok-Spent.field-0-is at c.in-Ok-Spent.ensures.runs.done) refl
+    c.slice.new.self 100000 Spent _ _ _ _ runs.shows (omega (arith))
+    (rw c.in-Ok-Spent.field-0-is at runs.done) refl
 
 pub loop-how-preserved : goal.loop-how-preserved
 loop-how-preserved g c =
+    let runs = c.in-Ok-Spent.ensures.runs c.loop-how.invariant.room in
     come_more g.D.Disk.medium g.S.Source.gives g.O.Outlet.takes _ _ _ c.loop-how.invariant _ _ _ _
-    (rw c.in-Ok-Spent.field-0-is at c.in-Ok-Spent.ensures.runs.carries)
-    c.in-Ok-Spent.ensures.runs.shows (omega (arith))
-    (rw c.in-Ok-Spent.field-0-is at c.in-Ok-Spent.ensures.runs.done)
-    c.in-Ok-Spent.ensures.runs.room
+    (rw c.in-Ok-Spent.field-0-is at runs.carries)
+    runs.shows (omega (arith))
+    (rw c.in-Ok-Spent.field-0-is at runs.done)
+    runs.room
 
 pub returns-in-Ok-Waiting-clause-comes : goal.returns-in-Ok-Waiting-clause-comes
 returns-in-Ok-Waiting-clause-comes g c =
+    let runs = c.in-Ok-Waiting.ensures.runs c.loop-how.invariant.room in
     come_last g.D.Disk.medium g.S.Source.gives g.O.Outlet.takes _ _ _ c.loop-how.invariant _ _ _ _
-    Waiting (rw c.in-Ok-Waiting.field-0-is at c.in-Ok-Waiting.ensures.runs.carries)
-    c.in-Ok-Waiting.ensures.runs.shows
-    (rw c.in-Ok-Waiting.field-0-is at c.in-Ok-Waiting.ensures.runs.done)
-    (rw c.in-Ok-Waiting.field-0-is at c.in-Ok-Waiting.ensures.runs.abreast)
+    Waiting (rw c.in-Ok-Waiting.field-0-is at runs.carries)
+    runs.shows
+    (rw c.in-Ok-Waiting.field-0-is at runs.done)
+    (rw c.in-Ok-Waiting.field-0-is at runs.abreast)
 
 pub returns-in-Ok-Ended-clause-comes : goal.returns-in-Ok-Ended-clause-comes
 returns-in-Ok-Ended-clause-comes g c =
+    let runs = c.in-Ok-Ended.ensures.runs c.loop-how.invariant.room in
     come_last g.D.Disk.medium g.S.Source.gives g.O.Outlet.takes _ _ _ c.loop-how.invariant _ _ _ _
-    (Ended c.in-Ok-Ended.how) (rw c.in-Ok-Ended.field-0-is at c.in-Ok-Ended.ensures.runs.carries)
-    c.in-Ok-Ended.ensures.runs.shows
-    (rw c.in-Ok-Ended.field-0-is at c.in-Ok-Ended.ensures.runs.done)
-    (rw c.in-Ok-Ended.field-0-is at c.in-Ok-Ended.ensures.runs.abreast)
+    (Ended c.in-Ok-Ended.how) (rw c.in-Ok-Ended.field-0-is at runs.carries)
+    runs.shows
+    (rw c.in-Ok-Ended.field-0-is at runs.done)
+    (rw c.in-Ok-Ended.field-0-is at runs.abreast)
 
 pub returns-in-Err-clause-comes : goal.returns-in-Err-clause-comes
 returns-in-Err-clause-comes g c =
+    let runs = c.in-Err.ensures.runs c.loop-how.invariant.room in
     come_broken g.D.Disk.medium g.S.Source.gives g.O.Outlet.takes _ _ _ c.loop-how.invariant _ _ _ _
-    c.in-Err.fault c.in-Err.ensures.runs.carries
+    c.in-Err.fault runs.carries
     (slice_hears_up_to g.S.Source.gives g.O.Outlet.takes 100000 _ _ _ _
     c.loop-how.worker.process c.slice.new.self.process c.in-Err.fault c.loop-how.worker.has_failed
-    c.in-Err.ensures.runs.shows c.in-Err.ensures.runs.failed (λ e. (c.in-Err.ensures.refused e).3))
+    runs.shows runs.failed (λ e. (c.in-Err.ensures.refused e).3))
     (slice_heeds g.S.Source.gives g.O.Outlet.takes 100000 _ _ _ _
     c.loop-how.worker.process c.slice.new.self.process c.in-Err.fault c.loop-how.worker.has_failed
-    c.in-Err.ensures.runs.shows c.in-Err.ensures.runs.failed (λ e. (c.in-Err.ensures.refused e).0)
+    runs.shows runs.failed (λ e. (c.in-Err.ensures.refused e).0)
     (λ e. (c.in-Err.ensures.refused e).4))
     (slice_breaks_in g.S.Source.gives g.O.Outlet.takes 100000 _ _ _ _
     c.loop-how.worker.process c.slice.new.self.process c.in-Err.fault c.loop-how.worker.has_failed
-    c.in-Err.ensures.runs.failed (λ e. (c.in-Err.ensures.refused e).0)
+    runs.failed (λ e. (c.in-Err.ensures.refused e).0)
     (λ e. (c.in-Err.ensures.refused e).3) (λ e. (c.in-Err.ensures.refused e).4))
-    c.in-Err.ensures.runs.on_any_disk
+    runs.on_any_disk

@@ -8,13 +8,14 @@ use Rattle.disk_commands.proofs.on_disk.upgrading.upgrade_open.Goals as goal
 pub returns-in-Ok : goal.returns-in-Ok
 returns-in-Ok g c =
     let none : c.new-nothing.result ≡ [] = cc in
+    let upgrades = c.upgrade.ensures.upgrades c.in-Ok.ensures.room in
     subst (λ s. IsUpgradedFrom g.D.Disk.medium from_list g.O.Outlet.takes
     (scene c.args.worker.now c.args.disk.now s c.args.outlet.now) c.upgrade.result
     c.upgrade.new.disk c.upgrade.new._outlet) none
     (then_ended g.D.Disk.medium from_list g.O.Outlet.takes _ _ _ c.in-Ok.ensures.comes
     c.in-Ok.ensures.over c.upgrade.new.self c.upgrade.new.disk c.upgrade.result
-    c.upgrade.new._outlet c.upgrade.ensures.quiet c.upgrade.ensures.upgrades.carries
-    c.upgrade.ensures.upgrades.cause c.upgrade.ensures.upgrades.on_any_disk)
+    c.upgrade.new._outlet c.upgrade.ensures.quiet upgrades.carries
+    upgrades.cause upgrades.on_any_disk)
 
 pub returns : goal.returns
 returns g c =
