@@ -1,9 +1,11 @@
 -- Bytes of a stream, cut one after another: what goes on, what is in front, and what stays true of
 -- the unfinished line.
-use Rattle.std.proofs.Common.{◌≡◌, ℕ, suc, ◌+◌, ◌<◌, ◌≤◌, List, [], ◌∷◌, ◌++◌, length, drop, get_or}
+use Rattle.std.proofs.Common.{◌≡◌, ℕ, suc, ◌+◌, ◌-◌, ◌<◌, ◌≤◌, List, [], ◌∷◌, ◌++◌, length}
+use Rattle.std.proofs.Common.{take, drop, get_or, take_at}
 use Rattle.std.proofs.Common.{refl, sym, ap, ◌∙◌, arith, append_assoc, drop-cons, add-one}
 use Rattle.std.proofs.Common.{length-append}
-use Rattle.std.specs.Prelude.{Bool, true, false, if◌then◌else◌, ◌==◌, ◌&&◌, not, nat_lt}
+use Rattle.std.specs.Prelude.{Bool, true, false, cond, if◌then◌else◌, ◌==◌, ◌&&◌, not, nat_lt}
+use Rattle.std.specs.List.{prefix_len}
 use Rattle.wasi_calls_rules.specs.Checks.{has_no_newline}
 use Rattle.std.proofs.lemmas.Bool.{lt-ltb}
 use Rattle.std.proofs.lemmas.List.{append-nil}
@@ -12,6 +14,7 @@ use Rattle.wasi_calls_rules.specs.WasiStates.{Line}
 use Rattle.wasi_calls_rules.specs.Lines.{Cut, cut_byte, cut_all}
 use Rattle.wasi_calls_rules.specs.declared.limits.TheConstants.{LINE_BYTES}
 use Rattle.wasi_calls_rules.specs.declared.output_stream.OutputStream.{OutputStream}
+use Rattle.wasi_calls.proofs.Endings.{is_text}
 
 -- ---- one more byte of a list
 
@@ -119,3 +122,64 @@ cut_onto stream lines text (b ∷ bytes) few none =
     (omega (arith, few, length-append text (b ∷ []))) both.1
     ∙ ap (λ (xs : List ℕ). record { lines = lines; unfinished = xs })
     (append_assoc text (b ∷ []) bytes)
+
+-- ---- bytes that end one line, by their last byte
+
+-- the cut once all bytes but the last one are a line
+abbrev pub ended_cut : OutputStream → List Line → List ℕ → Cut
+ended_cut stream lines bytes = record {
+  lines = lines ++ record { stream = stream; text = take (length bytes - 1) bytes } ∷ [];
+  unfinished = [];
+}
+
+but_last : (text : List ℕ) (b : ℕ) → take (length (text ++ b ∷ []) - 1) (text ++ b ∷ []) ≡ text
+but_last text b =
+    let size = length-append text (b ∷ []) in
+    take_at text (b ∷ []) (length (text ++ b ∷ []) - 1) (omega (arith, size))
+
+put_end : (stream : OutputStream) (c : Cut) (b : ℕ) (p q : Bool) → p ≡ true
+    → put_by stream c b p q ≡ record {
+      lines = c.lines ++ record { stream = stream; text = c.unfinished } ∷ [];
+      unfinished = [];
+    }
+put_end stream c b p q e = rw e refl
+
+newline_last : (stream : OutputStream) (lines : List Line) (text : List ℕ) (b : ℕ)
+    (bytes : List ℕ) → (b == newline) ≡ true → length bytes ≡ 0
+    → cut_all stream (record { lines = lines; unfinished = text }) (b ∷ bytes)
+    ≡ ended_cut stream lines (text ++ b ∷ bytes)
+newline_last stream lines text b [] e none =
+    put_end stream (record { lines = lines; unfinished = text }) b (b == newline)
+    (nat_lt (length text) LINE_BYTES) e
+    ∙ ap (λ (xs : List ℕ). record {
+      lines = lines ++ record { stream = stream; text = xs } ∷ [];
+      unfinished = [];
+    }) (sym (but_last text b))
+newline_last stream lines text b (x ∷ bytes) e none = absurd (omega (arith, none))
+
+pub cut_at_end : (stream : OutputStream) (lines : List Line) (text bytes : List ℕ)
+    → length text + prefix_len is_text bytes ≤ LINE_BYTES
+    → prefix_len is_text bytes + 1 ≡ length bytes
+    → cut_all stream (record { lines = lines; unfinished = text }) bytes
+    ≡ ended_cut stream lines (text ++ bytes)
+cut_at_end stream lines text [] few last = absurd (omega (arith, last))
+cut_at_end stream lines text (b ∷ bytes) few last =
+    by_test (b == newline) refl few last (cut_at_end stream lines (text ++ b ∷ []) bytes) where
+      by_test : (p : Bool) → (b == newline) ≡ p
+          → length text + cond (not p) (1 + prefix_len is_text bytes) 0 ≤ LINE_BYTES
+          → cond (not p) (1 + prefix_len is_text bytes) 0 + 1 ≡ suc (length bytes)
+          → (length (text ++ b ∷ []) + prefix_len is_text bytes ≤ LINE_BYTES
+          → prefix_len is_text bytes + 1 ≡ length bytes
+          → cut_all stream (record { lines = lines; unfinished = text ++ b ∷ [] }) bytes
+          ≡ ended_cut stream lines ((text ++ b ∷ []) ++ bytes))
+          → cut_all stream (record { lines = lines; unfinished = text }) (b ∷ bytes)
+          ≡ ended_cut stream lines (text ++ b ∷ bytes)
+      by_test true e few last rest = newline_last stream lines text b bytes e (omega (arith, last))
+      by_test false e few last rest =
+          let room : nat_lt (length text) LINE_BYTES ≡ true =
+          lt-ltb (length text) LINE_BYTES (omega (arith, few)) in
+          let onto = put_onto stream (record { lines = lines; unfinished = text }) b (b == newline)
+          (nat_lt (length text) LINE_BYTES) e room in
+          ap (λ (d : Cut). cut_all stream d bytes) onto
+          ∙ rest (omega (arith, few, length-append text (b ∷ []))) (omega (arith, last))
+          ∙ ap (ended_cut stream lines) (append_assoc text (b ∷ []) bytes)

@@ -5,6 +5,7 @@ pub mod Through
 pub mod MovedCallRules
 pub mod FileCallRules
 pub mod Pieces
+pub mod Endings
 pub mod Cuts
 pub mod Begun
 pub mod WasiStates

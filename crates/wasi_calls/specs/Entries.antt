@@ -1,10 +1,9 @@
 -- The rules of the calls on names in directories, in the pieces that the code is made of (this
 -- project's own).
-use Rattle.std.specs.Prelude.{ℕ, not, is_some, Result, Ok, Err}
+use Rattle.std.specs.Prelude.{ℕ, not, is_some, Result}
 use Rattle.wasi_abi.specs.declared.errno.Errno.TheVariants.{Exist, Isdir, Noent, Notdir, Notempty}
-use Rattle.wasi_abi.specs.rules.Numbers.{path_rename_source_right, path_rename_target_right}
 use Rattle.file_tree.specs.rules.Files.{Directory, is_directory, created}
-use Rattle.wasi_calls_rules.specs.WasiStates.{Descriptor, WasiState}
+use Rattle.wasi_calls_rules.specs.WasiStates.{WasiState}
 use Rattle.wasi_calls_rules.specs.Checks.{Bytes, Halt, Ruling, ◌>>=◌, check_or, some_or}
 use Rattle.wasi_calls_rules.specs.Checks.{open_descriptor, a_directory, with_right, lent}
 use Rattle.wasi_calls_rules.specs.Paths.{WalkEnd, formed, node_at}
@@ -47,27 +46,3 @@ file_unlinked place m h =
     some_or Noent (node_at h.files place) >>= λ k.
     check_or (not (is_directory h.files k)) Isdir >>= λ _.
     call_done m (without k h))
-
--- where the two paths of a rename lead from the directories of these descriptors
-abbrev pub both_placed : Descriptor → Descriptor → ℕ → ℕ → ℕ → ℕ → Bytes → WasiState
-    → Result (WalkEnd × WalkEnd) Halt
-both_placed d e old_path old_len new_path new_len m h =
-    lent m old_path old_len >>= λ old_bytes.
-    lent m new_path new_len >>= λ new_bytes.
-    formed old_bytes >>= λ old_names.
-    formed new_bytes >>= λ new_names.
-    placed h d old_names >>= λ source.
-    placed h e new_names >>= λ target.
-    Ok (source, target)
-
--- the same from the directories that are open under these numbers, each with its right
-abbrev pub both_places : ℕ → ℕ → ℕ → ℕ → ℕ → ℕ → Bytes → WasiState
-    → Result (WalkEnd × WalkEnd) Halt
-both_places old_fd old_path old_len new_fd new_path new_len m h =
-    open_descriptor h old_fd >>= λ d.
-    open_descriptor h new_fd >>= λ e.
-    a_directory h d >>= λ _.
-    a_directory h e >>= λ _.
-    with_right path_rename_source_right d >>= λ _.
-    with_right path_rename_target_right e >>= λ _.
-    both_placed d e old_path old_len new_path new_len m h

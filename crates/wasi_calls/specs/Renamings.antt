@@ -7,17 +7,6 @@ use Rattle.wasi_calls_rules.specs.Checks.{Bytes, Ruling}
 use Rattle.wasi_calls_rules.specs.Paths.{WalkEnd}
 use Rattle.wasi_calls_rules.specs.Entries.{a_leaf, is_within_node, is_same_node, gives_way}
 use Rattle.wasi_calls_rules.specs.Entries.{renamed_to}
-use Rattle.wasi_calls.specs.declared.paths.walk.Place.{Place}
-use Rattle.wasi_calls.specs.Places.{IsWellPlaced, walk_end_of}
-
--- where the code's two walks end
-abbrev pub ends_of : Place × Place → WalkEnd × WalkEnd
-ends_of places = (walk_end_of places.0, walk_end_of places.1)
-
--- both end well
-abbrev pub AreWellPlaced : Files → Place × Place → Type 0
-AreWellPlaced fs places = IsWellPlaced fs (walk_end_of places.0)
-    × IsWellPlaced fs (walk_end_of places.1)
 
 -- from one place to another, both of them names
 abbrev pub place_renamed : WalkEnd → WalkEnd → Bytes → WasiState → Ruling

@@ -1,7 +1,8 @@
 //! The buffers of a guest that bytes are moved from or to.
 //!
-//! **Buffers are read once, before anything is written**, into an inline array of as many as a call
-//! may name. So a buffer may lie over the array of the buffers.
+//! **Buffers are read once, before anything is written**, into an inline array. So a buffer may lie
+//! over the array of the buffers. An array of as many as a call may name has 8 KB, which are
+//! cleared first. So a call that names few has a shorter array.
 
 ghost use Rattle.std.specs.Prelude.{◌≡◌, ◌≤◌, ◌+◌, ◌-◌, ◌*◌, ◌<◌, ◌^◌};
 ghost use Rattle.std.specs.Prelude.{min, [], ◌∷◌, ◌++◌, length, IfOk, OnOk, Ok};
@@ -85,16 +86,19 @@ impl Buffer {
     }
 }
 
-/// The buffers of one read or write, as far as it moves their bytes. They take no memory of their
-/// own.
+/// So many buffers have room in the shorter of the two arrays.
+pub const FEW_BUFFERS: usize = 16;
+
+/// Room for the buffers of one read or write, as far as it moves their bytes. They take no memory
+/// of their own.
 #[derive(Drop)]
-pub struct Buffers {
-    items: ArrayVec<Buffer, IOVECS>,
+pub struct BufferRoom<const N: usize> {
+    items: ArrayVec<Buffer, N>,
     /// How many bytes they have.
     len: usize,
 }
 
-impl Model for Buffers {
+impl<const N: usize> Model for BufferRoom<N> {
     ghost use Rattle.std.specs.Prelude.{◌≡◌, ◌≤◌, List};
     ghost use Rattle.wasi_calls_rules.specs.Checks.{Buffer as GuestRange};
     ghost use Rattle.wasi_calls_rules.specs.declared.limits.TheConstants.{MOVED_BYTES};
@@ -107,12 +111,12 @@ impl Model for Buffers {
     ghost invariant = { λ b. (b.len ≡ total_len b.items.items) × (b.len ≤ MOVED_BYTES) };
 }
 
-impl Buffers {
+impl<const N: usize> BufferRoom<N> {
     /// None.
-    pub fn new() -> Buffers
+    pub fn new() -> BufferRoom<N>
         ensures { result ≡ [] }
     {
-        Buffers {
+        BufferRoom {
             items: ArrayVec::new(),
             len: 0,
         }
@@ -120,7 +124,7 @@ impl Buffers {
 
     /// One more, or the front of it that there is room for.
     fn push(&mut self, buffer: Buffer)
-        requires { length self.old < IOVECS }
+        requires { length self.old < N }
         ensures { self.new ≡ self.old
             ++ record {
               from = buffer.from;
@@ -139,6 +143,7 @@ impl Buffers {
     /// their array or a buffer reaches beyond memory.
     pub fn read_iovecs(&mut self, memory: &Memory, iovecs: u32, count: u32) -> Result<(), Errno>
         requires none { self.old ≡ [] }
+        requires room { min count IOVECS ≤ N }
         ensures gives { GivesValue (λ _. self.new) result
             (moved_buffers memory.now.bytes iovecs count) }
         ensures inside { OnOk result (AreInside memory.now.bytes self.new) }
@@ -153,6 +158,39 @@ impl Buffers {
         Ok(())
     }
 
+    /// The buffers.
+    pub fn buffers(&self) -> Buffers<'_>
+        ensures { result ≡ self.now }
+    {
+        Buffers {
+            items: self.items.as_slice(),
+            len: self.len,
+        }
+    }
+}
+
+/// The buffers of one read or write, wherever they have room.
+#[derive(Drop)]
+pub struct Buffers<'a> {
+    items: &'a [Buffer],
+    /// How many bytes they have.
+    len: usize,
+}
+
+impl<'a> Model for Buffers<'a> {
+    ghost use Rattle.std.specs.Prelude.{◌≡◌, ◌≤◌, List};
+    ghost use Rattle.wasi_calls_rules.specs.Checks.{Buffer as GuestRange};
+    ghost use Rattle.wasi_calls_rules.specs.declared.limits.TheConstants.{MOVED_BYTES};
+    ghost use Rattle.wasi_calls.specs.Moves.{total_len};
+
+    ghost Value = { List GuestRange };
+
+    ghost view = { λ b. b.items.now };
+
+    ghost invariant = { λ b. (b.len ≡ total_len b.items.now) × (b.len ≤ MOVED_BYTES) };
+}
+
+impl<'a> Buffers<'a> {
     /// How many bytes they have.
     pub fn len(&self) -> usize
         ensures value { result ≡ total_len self.now }
@@ -166,7 +204,7 @@ impl Buffers {
         ensures items { result.now ≡ self.now }
         ensures few { total_len self.now ≤ MOVED_BYTES }
     {
-        self.items.as_slice()
+        self.items
     }
 }
 

@@ -1,15 +1,16 @@
 //! What the calls that move bytes have in common: their arguments and their checks.
 
-ghost use Rattle.std.specs.Prelude.{◌≡◌, ◌^◌, [], IfOk, OnOk, IfErr, Err};
+ghost use Rattle.std.specs.Prelude.{◌≡◌, ◌≤◌, ◌^◌, min, [], IfOk, OnOk, IfErr, Err};
 ghost use Rattle.wasi_abi.specs.Bits.{bit_of};
 ghost use Rattle.wasi_abi.specs.rules.Numbers.{rights_number};
 ghost use Rattle.wasi_calls_rules.specs.WasiStates.{Node, IsThere};
 ghost use Rattle.wasi_calls_rules.specs.Checks.{Refuses};
 ghost use Rattle.file_tree.specs.rules.Files.{is_directory};
 ghost use Rattle.std.specs.Prelude.{false};
+ghost use Rattle.wasi_calls_rules.specs.declared.limits.TheConstants.{IOVECS};
 ghost use Rattle.wasi_calls.specs.Moves.{wanted, wanted_at, PassesChecks, AtNode};
 
-use crate::buffers::Buffers;
+use crate::buffers::BufferRoom;
 use crate::host::WasiState;
 use crate::memory::in_range;
 use guest_memory::Memory;
@@ -41,14 +42,15 @@ pub struct PlacedArguments {
 
 /// Makes all checks of `fd_read` or `fd_write`, which needs this right, and gives its buffers. It
 /// takes no memory.
-pub fn check(
+pub fn check<const N: usize>(
     host: &WasiState,
     memory: &Memory,
     arguments: MoveArguments,
     right: Rights,
-    buffers: &mut Buffers,
+    buffers: &mut BufferRoom<N>,
 ) -> Result<(), Errno>
     requires none { buffers.old ≡ [] }
+    requires room { min arguments.count IOVECS ≤ N }
     requires one { rights_number right ≡ 2 ^ bit_of (rights_number right) }
     ensures passed { OnOk result (PassesChecks memory.now.bytes host.now.host arguments.fd
         arguments.ret (wanted (bit_of (rights_number right)) arguments.fd arguments.iovecs
@@ -66,14 +68,15 @@ pub fn check(
 
 /// Makes all checks of `fd_pread` or `fd_pwrite`, which needs this right beside `fd_seek`, and
 /// gives its buffers. It returns the file. It takes no memory.
-pub fn check_placed(
+pub fn check_placed<const N: usize>(
     host: &WasiState,
     memory: &Memory,
     arguments: PlacedArguments,
     right: Rights,
-    buffers: &mut Buffers,
+    buffers: &mut BufferRoom<N>,
 ) -> Result<u64, Errno>
     requires none { buffers.old ≡ [] }
+    requires room { min arguments.count IOVECS ≤ N }
     requires one { rights_number right ≡ 2 ^ bit_of (rights_number right) }
     ensures passed { OnOk result (PassesChecks memory.now.bytes host.now.host arguments.fd
         arguments.ret (wanted_at (bit_of (rights_number right)) arguments.fd arguments.iovecs

@@ -1,22 +1,24 @@
 //! Answers from outside that calls want.
 
-ghost use Rattle.std.specs.Prelude.{◌≡◌, None};
+ghost use Rattle.std.specs.Prelude.{◌≡◌, ◌≤◌, [], min, None};
 ghost use Rattle.wasi_abi.specs.rules.Calls.{parameters_of};
 ghost use Rattle.wasi_calls_rules.specs.WasiStates.{WasiState as TheWasiState};
 ghost use Rattle.wasi_calls_rules.specs.Moving.{fd_read};
 ghost use Rattle.wasi_calls_rules.specs.Small.{clock_time_get, random_get};
 ghost use Rattle.wasi_calls_rules.specs.CallRules.{call_rule};
+ghost use Rattle.wasi_calls_rules.specs.declared.limits.TheConstants.{IOVECS};
 ghost use Rattle.wasi_calls.specs.rules.Held.{ShowsWasiState};
 ghost use Rattle.wasi_calls.specs.rules.Calls.{AreArguments, question_of};
 
 use crate::arguments::{of_move, of_time, two};
-use crate::buffers::Buffers;
+use crate::buffers::{BufferRoom, FEW_BUFFERS};
 use crate::clocks::{TimeArguments, clock_question};
 use crate::host::WasiState;
 use crate::memory::in_range;
 use crate::moves::{MoveArguments, check};
 use guest_memory::Memory;
 use wasi_abi::{Call, Question, Rights};
+use wasi_calls_rules::limits::IOVECS;
 
 /// The answer from outside that such a call wants before it can be made, if it wants one. It
 /// changes nothing, and takes no memory.
@@ -74,9 +76,28 @@ fn wanted_by_read(host: &WasiState, memory: &Memory, arguments: MoveArguments) -
     ensures { result ≡ question_of (fd_read arguments.fd arguments.iovecs arguments.count
         arguments.ret None memory.now.bytes host.now.host) }
 {
-    let mut buffers = Buffers::new();
-    let Ok(()) = check(host, memory, arguments, Rights::FD_READ, &mut buffers) else {
+    if arguments.count as usize <= FEW_BUFFERS {
+        let mut room = BufferRoom::<FEW_BUFFERS>::new();
+        return wanted_by_read_within(host, memory, arguments, &mut room);
+    }
+    let mut room = BufferRoom::<IOVECS>::new();
+    wanted_by_read_within(host, memory, arguments, &mut room)
+}
+
+/// The same, with room for the buffers.
+fn wanted_by_read_within<const N: usize>(
+    host: &WasiState,
+    memory: &Memory,
+    arguments: MoveArguments,
+    room: &mut BufferRoom<N>,
+) -> Option<Question>
+    requires none { room.old ≡ [] }
+    requires room { min arguments.count IOVECS ≤ N }
+    ensures { result ≡ question_of (fd_read arguments.fd arguments.iovecs arguments.count
+        arguments.ret None memory.now.bytes host.now.host) }
+{
+    let Ok(()) = check(host, memory, arguments, Rights::FD_READ, room) else {
         return None;
     };
-    host.wanted_input(arguments.fd, buffers.len())
+    host.wanted_input(arguments.fd, room.buffers().len())
 }

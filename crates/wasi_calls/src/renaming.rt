@@ -2,18 +2,17 @@
 //!
 //! **A new name is copied before a rename changes anything.** The rename itself can't fail.
 
-ghost use Rattle.std.specs.Prelude.{◌≡◌, ◌++◌, ◌∷◌, [], true, IfOk, OnOk, IfErr, Ok};
+ghost use Rattle.std.specs.Prelude.{◌≡◌, ◌++◌, ◌∷◌, [], OnOk, IfErr, Ok};
 ghost use Rattle.file_tree.specs.rules.Changes.{path_at};
 ghost use Rattle.wasi_calls_rules.specs.WasiStates.{IsWasiState};
-ghost use Rattle.wasi_calls_rules.specs.Checks.{Bytes, names_directory};
+ghost use Rattle.wasi_calls_rules.specs.Checks.{Bytes};
 ghost use Rattle.wasi_calls_rules.specs.Entries.{gives_way, is_same_node, renamed_over};
 ghost use Rattle.wasi_calls_rules.specs.Entries.{path_rename};
-ghost use Rattle.wasi_calls.specs.Entries.{both_placed, both_places};
 ghost use Rattle.wasi_calls.specs.Places.{IsWellPlaced, walk_end_of};
-ghost use Rattle.wasi_calls.specs.Renamings.{AreWellPlaced, MayTake, ends_of, place_renamed};
+ghost use Rattle.wasi_calls.specs.Renamings.{MayTake, place_renamed};
 ghost use Rattle.wasi_calls.specs.Steps.{GivesValue, StopsStep};
 
-use crate::descriptor::{Descriptor, Names};
+use crate::descriptor::Names;
 use crate::host::WasiState;
 use crate::paths::{PathNames, Place, find_place, path_bytes};
 use crate::stop::CallStop;
@@ -134,49 +133,6 @@ fn rename_place(
     Ok(())
 }
 
-/// Where the two paths lead from the directories of these descriptors.
-fn find_places<'a>(
-    host: &WasiState,
-    memory: &'a Memory,
-    old: &Descriptor,
-    new: &Descriptor,
-    arguments: RenameArguments,
-) -> Result<(Place<'a>, Place<'a>), Errno>
-    requires old { names_directory host.now.host old.now.target ≡ true }
-    requires new { names_directory host.now.host new.now.target ≡ true }
-    ensures gives { GivesValue ends_of result (both_placed old.now new.now arguments.old_path
-        arguments.old_len arguments.new_path arguments.new_len memory.now.bytes host.now.host) }
-    ensures well { IfOk result (AreWellPlaced host.now.host.files) }
-{
-    let old_bytes = path_bytes(memory, arguments.old_path, arguments.old_len)?;
-    let new_bytes = path_bytes(memory, arguments.new_path, arguments.new_len)?;
-    let old_names = PathNames::of(old_bytes)?;
-    let new_names = PathNames::of(new_bytes)?;
-    let source = find_place(host, old, old_names)?;
-    let target = find_place(host, new, new_names)?;
-    Ok((source, target))
-}
-
-/// Where the two paths lead from their directories, whose descriptors need a right each.
-fn places_of<'a>(
-    host: &WasiState,
-    memory: &'a Memory,
-    arguments: RenameArguments,
-) -> Result<(Place<'a>, Place<'a>), Errno>
-    ensures gives { GivesValue ends_of result (both_places arguments.old_fd arguments.old_path
-        arguments.old_len arguments.new_fd arguments.new_path arguments.new_len
-        memory.now.bytes host.now.host) }
-    ensures well { IfOk result (AreWellPlaced host.now.host.files) }
-{
-    let old = host.descriptor(arguments.old_fd)?;
-    let new = host.descriptor(arguments.new_fd)?;
-    host.a_directory(old)?;
-    host.a_directory(new)?;
-    old.check_right(Rights::PATH_RENAME_SOURCE)?;
-    new.check_right(Rights::PATH_RENAME_TARGET)?;
-    find_places(host, memory, old, new, arguments)
-}
-
 /// `path_rename`.
 pub fn rename(
     alloc: Global,
@@ -193,6 +149,18 @@ pub fn rename(
     ensures kept { IfErr result (λ _. host.new ≡ host.old) }
     ensures released { host.new.released ≡ host.old.released }
 {
-    let (source, target) = places_of(host, memory, arguments)?;
-    rename_place(alloc, host, source, target)
+    let old = host.descriptor(arguments.old_fd)?;
+    let new = host.descriptor(arguments.new_fd)?;
+    host.a_directory(old)?;
+    host.a_directory(new)?;
+    old.check_right(Rights::PATH_RENAME_SOURCE)?;
+    new.check_right(Rights::PATH_RENAME_TARGET)?;
+    let old_bytes = path_bytes(memory, arguments.old_path, arguments.old_len)?;
+    let new_bytes = path_bytes(memory, arguments.new_path, arguments.new_len)?;
+    let old_names = PathNames::of(old_bytes)?;
+    let new_names = PathNames::of(new_bytes)?;
+    let source = find_place(host, old, old_names)?;
+    let target = find_place(host, new, new_names)?;
+    rename_place(alloc, host, source, target)?;
+    Ok(())
 }

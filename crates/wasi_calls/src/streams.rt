@@ -1,8 +1,10 @@
 //! The output streams, and the lines that wait to be released.
 
-ghost use Rattle.std.specs.Prelude.{◌≡◌, ◌+◌, ◌<◌, ◌≤◌, ◌^◌, ◌++◌, ◌&&◌};
-ghost use Rattle.std.specs.Prelude.{nat_le, [], length, drop, IfOk, OnOk, OnErr};
+ghost use Rattle.std.specs.Prelude.{◌≡◌, ◌+◌, ◌-◌, ◌<◌, ◌≤◌, ◌^◌, ◌++◌, ◌==◌, true, not};
+ghost use Rattle.std.specs.Prelude.{[], ◌∷◌, length, take, drop, IfOk, OnOk, OnErr};
 ghost use Rattle.std.specs.Prelude.{vec_len, vec_capacity};
+ghost use Rattle.std.specs.List.{prefix_len};
+ghost use Rattle.wasi_abi.specs.rules.Answers.{newline};
 ghost use Rattle.wasi_calls_rules.specs.Checks.{gathered, has_no_newline};
 ghost use Rattle.wasi_calls_rules.specs.Lines.{cut_all, output_stream, rest_of};
 ghost use Rattle.wasi_calls_rules.specs.declared.limits.TheConstants.{LINE_BYTES};
@@ -223,8 +225,8 @@ pub fn output_stream(number: u8) -> OutputStream
 }
 
 /// Puts the bytes of buffers after a stream's unfinished line, and the lines that they end after
-/// those that wait. Bytes that end none are put in place: a line that is written byte by byte isn't
-/// copied.
+/// those that wait. Bytes that end none, or one by their last byte, are put in place: a line that
+/// is written byte by byte isn't copied.
 fn put(
     alloc: Global,
     stream: OutputStream,
@@ -243,9 +245,14 @@ fn put(
     ensures same_lines { OnErr result (waiting.new.items ≡ waiting.old.items) }
     ensures same_rest { OnErr result (unfinished.new.items ≡ unfinished.old.items) }
 {
-    if ends_no_line(unfinished, memory, buffers) {
-        waiting.reserve(2)?;
+    let before = bytes_before_newline(memory, buffers);
+    if ends_one_at_most(unfinished.len(), before, buffers.len()) {
+        waiting.reserve(STREAMS_WRITTEN + 1)?;
         append(unfinished, memory, buffers)?;
+        if before == buffers.len() {
+            return Ok(());
+        }
+        emit_unfinished(alloc, stream, unfinished, waiting);
         return Ok(());
     }
     let (lines, rest) = Cut::of(alloc, stream, unfinished, memory, buffers)?.into_parts();
@@ -254,26 +261,45 @@ fn put(
     Ok(())
 }
 
-/// Whether the bytes of buffers end no line after an unfinished one.
-fn ends_no_line(unfinished: &[u8], memory: &Memory, buffers: &Buffers) -> bool
+/// How many bytes of buffers come before the first newline, or in all.
+fn bytes_before_newline(memory: &Memory, buffers: &Buffers) -> usize
     requires { AreInside memory.now.bytes buffers.now }
-    ensures { result ≡ (nat_le (length unfinished.now + total_len buffers.now) LINE_BYTES
-        && has_no_newline (gathered memory.now.bytes buffers.now)) }
+    ensures { result
+        ≡ prefix_len (λ b. not (b == newline)) (gathered memory.now.bytes buffers.now) }
 {
-    unfinished.len() + buffers.len() <= LINE_BYTES && have_no_newline(memory, buffers)
-}
-
-/// Whether no byte of buffers is a newline.
-fn have_no_newline(memory: &Memory, buffers: &Buffers) -> bool
-    requires { AreInside memory.now.bytes buffers.now }
-    ensures { result ≡ has_no_newline (gathered memory.now.bytes buffers.now) }
-{
+    let mut before = 0;
     for buffer in buffers.as_slice() {
-        if !is_without_newline(buffer.bytes(memory)) {
-            return false;
+        let bytes = buffer.bytes(memory);
+        let own = length_before_newline(bytes);
+        before += own;
+        if own < bytes.len() {
+            return before;
         }
     }
-    true
+    before
+}
+
+/// How many bytes come before the first newline, or in all.
+fn length_before_newline(bytes: &[u8]) -> usize
+    ensures { result ≡ prefix_len (λ b. not (b == newline)) bytes.now }
+{
+    let mut before = 0;
+    for byte in bytes {
+        if *byte == b'\n' {
+            return before;
+        }
+        before += 1;
+    }
+    before
+}
+
+/// Whether bytes end no line after so many unfinished ones, or one by their last byte: so many come
+/// before the first newline, of so many in all.
+fn ends_one_at_most(unfinished: usize, before: usize, len: usize) -> bool
+    requires { before ≤ len }
+    ensures { result ≡ true → (unfinished + before ≤ LINE_BYTES) × (len ≤ before + 1) }
+{
+    unfinished <= LINE_BYTES && before <= LINE_BYTES - unfinished && len - before <= 1
 }
 
 /// Whether no byte is a newline.
@@ -300,6 +326,27 @@ fn append(bytes: &mut Vec<u8>, memory: &Memory, buffers: &Buffers) -> Result<(),
         bytes.extend_from_slice(buffer.bytes(memory)).unwrap();
     }
     Ok(())
+}
+
+/// Puts an unfinished line, which its last byte ends, after the lines that wait.
+fn emit_unfinished(
+    alloc: Global,
+    stream: OutputStream,
+    unfinished: &mut Vec<u8>,
+    waiting: &mut Vec<Line>,
+)
+    requires { vec_len waiting.old < vec_capacity waiting.old }
+    ensures emitted { waiting.new.items ≡ waiting.old.items ++ record {
+      stream = stream;
+      text = take (length unfinished.old.items - 1) unfinished.old.items;
+    } ∷ [] }
+    ensures none { unfinished.new.items ≡ [] }
+    ensures len { vec_len waiting.new ≡ vec_len waiting.old + 1 }
+    ensures capacity { vec_capacity waiting.old ≤ vec_capacity waiting.new }
+{
+    let mut text = mem::replace(unfinished, Vec::new(alloc));
+    text.pop();
+    waiting.push(Line::new(stream, text)).unwrap();
 }
 
 /// Puts lines after the others, with room for two more. After a failure the lines are as they were.

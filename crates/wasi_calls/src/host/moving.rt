@@ -5,7 +5,7 @@
 //! the file one after the other, and none are joined.
 
 ghost use Rattle.std.specs.Prelude.{◌≡◌, ◌≤◌, ◌<◌, ◌+◌, ◌^◌, ◌==◌, false};
-ghost use Rattle.std.specs.Prelude.{length, min, take, drop, option_copied, Ok};
+ghost use Rattle.std.specs.Prelude.{length, vec_len, min, take, drop, option_copied, Ok};
 ghost use Rattle.std.specs.Prelude.{[], ◌∷◌, ◌++◌, OnOk, OnErr, IfOk, IfErr};
 ghost use Rattle.wasi_abi.specs.rules.Answers.{newline, Fits};
 ghost use Rattle.file_tree.specs.rules.Bytes.{written};
@@ -309,9 +309,19 @@ impl WasiState {
         ensures large { IsAsLarge memory.old memory.new }
     {
         let moved = scatter(memory, buffers, &self.unread);
-        self.unread.drain(..moved);
+        drop_front(&mut self.unread, moved);
         moved as u64
     }
+}
+
+/// Takes so many bytes away from the front. The rest is moved once, where `drain` turns all bytes
+/// around.
+fn drop_front(bytes: &mut Vec<u8>, count: usize)
+    requires { count ≤ vec_len bytes.old }
+    ensures { bytes.new.items ≡ drop count bytes.old.items }
+{
+    bytes.copy_within(count.., 0);
+    bytes.truncate(bytes.len() - count);
 }
 
 /// Puts bytes into buffers, one after another, as far as they go, and says how many.

@@ -8,10 +8,10 @@ use Rattle.wasi_calls.specs.Views.{target_of}
 use Rattle.wasi_calls.specs.Writes.{unfinished_of}
 use Rattle.wasi_calls.specs.rules.Outputs.{count_begun}
 use Rattle.wasi_calls.proofs.Emitted.{write_adds, begun_on}
-use Rattle.wasi_calls.proofs.write.lines_begun.Goals as goal
+use Rattle.wasi_calls.proofs.write.lines_begun_within.Goals as goal
 
 pub returns-in-Stream-clause-count : goal.returns-in-Stream-clause-count
-returns-in-Stream-clause-count c = λ h done s e.
+returns-in-Stream-clause-count g c = λ h done s e.
     let a = c.args.arguments in
     let m = c.args.memory.now.bytes in
     let old = c.args.host.now in
@@ -27,7 +27,7 @@ returns-in-Stream-clause-count c = λ h done s e.
     ap (λ (x : Descriptor). x.target) (sym same) ∙ sym c.names.ensures ∙ ap target_of c.in-Stream.is
     in
     let w : Wanted = record { descriptor = d; buffers = bs } in
-    let counted = c.count_begun.ensures.value
+    let counted = (rw c.buffers.ensures at c.count_begun.ensures.value)
     ∙ ap (λ (x : Bytes). count_begun (length x) (gathered m bs)) c.unfinished_line.ensures
     ∙ ap (λ (o : OutputStream). count_begun (length (unfinished_of o old.host)) (gathered m bs))
     c.output_stream-stream.ensures
@@ -35,7 +35,7 @@ returns-in-Stream-clause-count c = λ h done s e.
     write_adds a.fd a.iovecs a.count a.ret m old h s w passed.is done c.count_begun.result e counted
 
 pub returns-in-Node-clause-count : goal.returns-in-Node-clause-count
-returns-in-Node-clause-count c = λ h done s e.
+returns-in-Node-clause-count g c = λ h done s e.
     let a = c.args.arguments in
     let m = c.args.memory.now.bytes in
     let old = c.args.host.now in

@@ -4,10 +4,10 @@ use Rattle.wasi_calls_rules.specs.declared.limits.TheConstants.{MOVED_BYTES}
 use Rattle.guest_memory.proofs.Lists.{all_both}
 use Rattle.wasi_calls.specs.Moves.{total_len}
 use Rattle.wasi_calls.proofs.Fronts.{named_on, buffer_at, total_both, named_next}
-use Rattle.wasi_calls.proofs.buffers.Buffers.read_iovecs.Goals as goal
+use Rattle.wasi_calls.proofs.buffers.BufferRoom.read_iovecs.Goals as goal
 
 pub loop-place-preserved : goal.loop-place-preserved
-loop-place-preserved c =
+loop-place-preserved g c =
     let m = c.args.memory.now.bytes in
     let front = c.loop-place.self in
     let at = c.args.iovecs + 8 * c.loop-place.place in

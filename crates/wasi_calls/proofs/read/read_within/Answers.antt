@@ -8,10 +8,10 @@ use Rattle.wasi_calls_rules.specs.Moving.{Got, target_read}
 use Rattle.wasi_calls.specs.Moves.{total_len}
 use Rattle.std.specs.Prelude.{option_copied}
 use Rattle.wasi_calls.proofs.MovedCallRules.{read_is, stops_after, cell_put}
-use Rattle.wasi_calls.proofs.read.read.Goals as goal
+use Rattle.wasi_calls.proofs.read.read_within.Goals as goal
 
 pub returns-in_err-moved-clause-stopped : goal.returns-in_err-moved-clause-stopped
-returns-in_err-moved-clause-stopped c =
+returns-in_err-moved-clause-stopped g c =
     let a = c.args.arguments in
     let m = c.args.memory.now.bytes in
     let h = c.args.host.now.host in
@@ -27,10 +27,10 @@ returns-in_err-moved-clause-stopped c =
       memory = with_part (scattered m bs got.bytes) a.ret (u32_bytes (length got.bytes));
       host = got.host;
     })
-    (c.in_err-moved.ensures.stopped d passed.is_open))
+    (rw c.buffers.ensures at (c.in_err-moved.ensures.stopped d passed.is_open)))
 
 pub returns-clause-done : goal.returns-clause-done
-returns-clause-done c =
+returns-clause-done g c =
     let a = c.args.arguments in
     let m = c.args.memory.now.bytes in
     let h = c.args.host.now.host in
@@ -38,7 +38,7 @@ returns-clause-done c =
     let bs = c.check.new.buffers in
     let passed = c.in_ok-check.ensures.passed in
     let d = passed.descriptor in
-    let reads = c.in_ok-moved.ensures.done d passed.is_open in
+    let reads = (rw c.buffers.ensures at (c.in_ok-moved.ensures.done d passed.is_open)) in
     let stored = (rw c.unwrap.ensures at c.store_u32.ensures.stored) in
     let put = cell_put c.take.new.memory c.store_u32.new.self (a.ret + 0) a.ret c.in_ok-moved.moved
     (length reads.bytes) stored (omega arith) reads.count in

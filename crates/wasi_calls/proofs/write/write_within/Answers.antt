@@ -8,10 +8,10 @@ use Rattle.wasi_calls_rules.specs.Checks.{Bytes, gathered}
 use Rattle.wasi_calls_rules.specs.Moving.{target_written}
 use Rattle.wasi_calls.specs.Moves.{total_len}
 use Rattle.wasi_calls.proofs.MovedCallRules.{write_is, stops_after, cell_put}
-use Rattle.wasi_calls.proofs.write.write.Goals as goal
+use Rattle.wasi_calls.proofs.write.write_within.Goals as goal
 
 pub returns-in_err-put-clause-stopped : goal.returns-in_err-put-clause-stopped
-returns-in_err-put-clause-stopped c =
+returns-in_err-put-clause-stopped g c =
     let a = c.args.arguments in
     let m = c.args.memory.now.bytes in
     let h = c.args.host.now.host in
@@ -26,10 +26,10 @@ returns-in_err-put-clause-stopped c =
       memory = with_part m a.ret (u32_bytes (total_len bs));
       host = after;
     })
-    (c.in_err-put.ensures.stopped d passed.is_open))
+    (rw c.buffers-buffers.ensures at (c.in_err-put.ensures.stopped d passed.is_open)))
 
 pub returns-clause-done : goal.returns-clause-done
-returns-clause-done c =
+returns-clause-done g c =
     let a = c.args.arguments in
     let m = c.args.memory.now.bytes in
     let h = c.args.host.now.host in
@@ -37,11 +37,13 @@ returns-clause-done c =
     let passed = c.in_ok-check.ensures.passed in
     let d = passed.descriptor in
     let stored = (rw c.unwrap.ensures at c.store_u32.ensures.stored) in
+    let len = (rw c.buffers-buffers.ensures at c.len.ensures.value) in
+    let done = (rw c.buffers-buffers.ensures at (c.in_ok-put.ensures.done d passed.is_open)) in
     let put = cell_put c.args.memory.now c.store_u32.new.self (a.ret + 0) a.ret c.len.result
-    (total_len bs) stored (omega arith) c.len.ensures.value in
+    (total_len bs) stored (omega arith) len in
     rw (
       write_is a.fd a.iovecs a.count a.ret m h,
       passed.is,
-      c.in_ok-put.ensures.done d passed.is_open,
+      done,
     )
     (ap (λ (x : Bytes). Ok (record { memory = x; host = c.put.new.self.host })) (sym put))

@@ -1,10 +1,10 @@
 use Rattle.std.proofs.Common.{ap, ◌∙◌, arith}
 use Rattle.wasi_calls.specs.Moves.{total_len}
 use Rattle.wasi_calls.proofs.Fronts.{total_both}
-use Rattle.wasi_calls.proofs.buffers.Buffers.push.Goals as goal
+use Rattle.wasi_calls.proofs.buffers.BufferRoom.push.Goals as goal
 
 pub invariant_of-self : goal.invariant_of-self
-invariant_of-self c =
+invariant_of-self g c =
     let s = c.self.inside in
     let was = c.self.invariant.0 in
     let few = c.self.invariant.1 in
