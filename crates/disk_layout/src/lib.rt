@@ -65,6 +65,7 @@ pub mod laws;
 mod reading;
 mod record;
 mod record_fields;
+mod size;
 mod stamp;
 mod stored;
 mod superblock;
@@ -83,6 +84,7 @@ pub use record_fields::{
     clock_bytes, clock_from, longest_record, payload_length, record_head, record_head_bytes,
     record_step, short_length, takes_records, wide_length,
 };
+pub use size::test_sectors;
 pub use stamp::Stamp;
 pub use stored::{Stored, digest_of, read_super, write_super};
 pub use superblock::Super;

@@ -10,7 +10,6 @@ use Rattle.sector_disk.proofs.Moments.{started, weaker, leaves_only, shows_crash
 use Rattle.wasi_abi.specs.declared.version.Version.{Version}
 use Rattle.disk_layout.specs.rules.Places.{Geometry, journal_place, total_sectors}
 use Rattle.disk_layout.specs.rules.Journal.{Record, record_bytes}
-use Rattle.disk_layout.specs.rules.Stored.{OnlyReads}
 use Rattle.disk_layout.proofs.JournalLemmas.{length-journal_sector}
 use Rattle.journal.specs.rules.Packed.{packed, sectors_for}
 use Rattle.journal.specs.rules.State.{state}
@@ -65,13 +64,6 @@ module _ (geometry : Geometry) (v : Version) (g used : ℕ) (bytes : List ℕ)
       nil : (l : List ℕ) → length l ≡ 0 → l ≡ []
       nil [] e = refl
       nil (x ∷ l) e = absurd (omega arith)
-
-  -- nor where the disk is only read
-  pub only_read : (new : Medium) → OnlyReads old new
-      → LeavesOnly old new (After (AppendsFront geometry v g used records kept) old.crash_images)
-  only_read new reads =
-      leaves_weaker old new old.crash_images _ reads.leaves (λ image crashed.
-      (image, crashed, stays_so image crashed))
 
   module _ (size : total_sectors geometry ≤ old.sectors)
       (room : used + sectors_for (length bytes) ≤ geometry.journal_sectors)

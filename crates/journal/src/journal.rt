@@ -1,6 +1,6 @@
 //! The journal of a generation.
 ghost use Rattle.std.specs.Prelude.{◌≡◌, ◌↔◌, ◌⊎◌, ◌+◌, ◌<◌, ◌≤◌, ◌++◌, [], true, false};
-ghost use Rattle.std.specs.Prelude.{length, OnOk, OnErr, IsErr, IfOk, IfErr, IsTrue};
+ghost use Rattle.std.specs.Prelude.{length, OnOk, OnErr, IfOk, IfErr, IsTrue};
 ghost use Rattle.sector_disk.specs.rules.DiskImage.{DiskImage};
 ghost use Rattle.sector_disk.specs.rules.Medium.{CallsUpTo};
 ghost use Rattle.disk_layout.specs.rules.Places.{total_sectors};
@@ -16,9 +16,8 @@ use crate::fault::JournalFault;
 use crate::records::{payload_len, put_record};
 use crate::scan::read_payloads;
 use crate::scanned::ScannedJournal;
-use crate::size::fault_beyond;
 use crate::store::{sectors_for, store_packed};
-use disk_layout::{Geometry, PAYLOAD_SIZE, Record, record_head_bytes};
+use disk_layout::{Geometry, PAYLOAD_SIZE, Record, record_head_bytes, test_sectors};
 use sector_disk::{Disk, DiskFault};
 use std::alloc::Global;
 use std::marker::Model;
@@ -60,7 +59,8 @@ impl Journal {
     /// The records of a generation: those whose bytes are whole and well formed, from place 1 on.
     /// It reads each sector once, up to the first that isn't one of the generation. It also tells
     /// whether the first sector shows a later generation. Then no other is read, there are no
-    /// records, and no memory is wanted. A disk with too few sectors answers with its own fault.
+    /// records, and no memory is wanted. On a disk with too few sectors it answers `Range`, and
+    /// leaves it alone.
     pub fn scan<D: Disk>(
         alloc: Global,
         disk: &mut D,
@@ -81,15 +81,14 @@ impl Journal {
             → ((D.medium disk.old).sectors < total_sectors geometry.now)
             ⊎ ((D.medium disk.old).faults < (D.medium disk.new).faults) }
         ensures too_few { (D.medium disk.old).sectors < total_sectors geometry.now
-            → (fault : DiskFault) × (result ≡ Err (JournalFault.Disk fault)) }
+            → (disk.new ≡ disk.old) × (result ≡ Err (JournalFault.Disk DiskFault.Range)) }
         ensures which_fault { IfErr result (λ e. e ≡ JournalFault.Memory
             ⊎ ((fault : DiskFault) × (e ≡ JournalFault.Disk fault))) }
-        ensures asks { total_sectors geometry.now ≤ (D.medium disk.old).sectors
-            → CallsUpTo geometry.now.journal_sectors (D.medium disk.old) (D.medium disk.new) }
+        ensures asks { CallsUpTo geometry.now.journal_sectors (D.medium disk.old)
+            (D.medium disk.new) }
     {
-        let needed = geometry.total_sectors();
-        if disk.sectors() < needed {
-            return Err(fault_beyond(disk, needed - 1));
+        if let Err(fault) = test_sectors(disk, geometry.total_sectors()) {
+            return Err(JournalFault::Disk(fault));
         }
         let payloads = read_payloads(alloc, disk, geometry, generation)?;
         match records_from(alloc, version, payloads.bytes.as_slice()) {
@@ -181,8 +180,8 @@ impl Journal {
     }
 
     /// Puts the records that only memory holds on the disk: into the next sectors, without gaps,
-    /// one after another, and then one sync. Without such records it leaves the disk alone. A disk
-    /// with too few sectors answers with its own fault, and nothing is written.
+    /// one after another, and then one sync. Without such records it leaves the disk alone. On a
+    /// disk with too few sectors it answers `Range`, and leaves it alone.
     pub fn barrier<D: Disk>(
         &mut self,
         disk: &mut D,
@@ -191,8 +190,9 @@ impl Journal {
         ensures stores { StoresKept geometry.now self.old self.new result (D.medium disk.old)
             (D.medium disk.new) }
         ensures too_few { (D.medium disk.old).sectors < total_sectors geometry.now
-            → OnlyReads (D.medium disk.old) (D.medium disk.new)
-            × (0 < length self.old.kept → IsErr result) }
+            → (disk.new ≡ disk.old) × (self.old.has_failed ≡ false → 0 < length self.old.kept
+            → (result ≡ Err JournalFault.Full)
+            ⊎ (result ≡ Err (JournalFault.Disk DiskFault.Range))) }
         ensures quiet { length self.old.kept ≡ 0 → disk.new ≡ disk.old }
         ensures untouched { (result ≡ Err JournalFault.Full) ⊎ (result ≡ Err JournalFault.Failed)
             → disk.new ≡ disk.old }
@@ -211,10 +211,9 @@ impl Journal {
             self.has_failed = true;
             return Err(JournalFault::Full);
         }
-        let needed = geometry.total_sectors();
-        if disk.sectors() < needed {
+        if let Err(fault) = test_sectors(disk, geometry.total_sectors()) {
             self.has_failed = true;
-            return Err(fault_beyond(disk, needed - 1));
+            return Err(JournalFault::Disk(fault));
         }
         let at = geometry.journal_place() + self.used;
         let stored = store_packed(

@@ -21,8 +21,8 @@
 //!   made (`calls`).
 //! - `barrier` fails for a cause: an earlier error, too little journal, a disk with too few sectors
 //!   or no room for its writes, or the disk itself (`failed`, `full`, `cause`).
-//! - On a disk with fewer sectors than the layout takes, a scan and a barrier answer a fault of the
-//!   disk, and write nothing (`too_few`).
+//! - A disk with fewer sectors than the layout takes is left alone. `scan`, `barrier` and
+//!   `count_filled` answer `Range` there, but a barrier of too many records is `Full` (`too_few`).
 //! - `Journal::scan` gives the records that the journal of the disk holds (`scans`), which are one
 //!   list (`what_is_held_is_scanned`). `later` tells whether the first sector shows a later
 //!   generation than theirs. Then no other sector is read, and no memory wanted (`once`, `memory`).
@@ -63,7 +63,6 @@ pub mod laws;
 mod records;
 mod scan;
 mod scanned;
-mod size;
 mod store;
 
 pub use fault::JournalFault;

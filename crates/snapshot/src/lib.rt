@@ -27,7 +27,10 @@
 //! - What is said of the newest image holds where that was of the generation before, or, before the
 //!   first, where there was none (`IsReadyForHead`).
 //! - `TooBig` comes exactly for a generation from `NUMBERS_END` on, and for an image longer than
-//!   its area. `Disk` comes only where the disk failed, or had no room for the writes (`cause`).
+//!   its area. `Disk` comes only where the disk failed, had no room for the writes, or has too few
+//!   sectors (`cause`).
+//! - A disk with fewer sectors than a call needs is left alone. The call answers `Range`, but a
+//!   `push` or `commit` of too long an image is `TooBig` there too (`too_few`).
 //! - After an error each call answers `Failed`, and leaves the disk alone (`fails`, `untouched`).
 //! - `laws`: a disk shows no head, a damaged image, or one newest image (`newest_is_one`). Once an
 //!   image is the newest one, a disk is ready for the next (`next_can_follow`).

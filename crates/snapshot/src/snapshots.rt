@@ -13,7 +13,7 @@ use crate::hashed_image::HashedImage;
 use crate::newest::{Snapshot, newest_head, read_process_image};
 use crate::writer::AreaWriter;
 use crate::writing::Writing;
-use disk_layout::{Geometry, Head};
+use disk_layout::{Geometry, Head, MODULE_PLACE, test_sectors};
 use sector_disk::Disk;
 use std::alloc::Global;
 use std::mem;
@@ -29,8 +29,9 @@ pub(crate) enum State {
 }
 
 /// Reads the newest snapshot of a disk, and writes the next one. Each call that touches a disk is
-/// handed it, and works on the places that a `Geometry` gives. After an error each call answers
-/// `Failed` and leaves the disk alone.
+/// handed it, and works on the places that a `Geometry` gives. On a disk with too few sectors it
+/// answers `Range`, and leaves the disk alone. After an error each call answers `Failed` and leaves
+/// the disk alone.
 #[derive(Drop)]
 pub struct Snapshots {
     pub(crate) state: State,
@@ -44,6 +45,7 @@ impl Snapshots {
     ghost use Rattle.sector_disk.specs.rules.DiskImage.{DiskImage};
     ghost use Rattle.sector_disk.specs.rules.Medium.{CallsUpTo};
     ghost use Rattle.sector_disk.specs.declared.fault.DiskFault.{DiskFault};
+    ghost use Rattle.disk_layout.specs.declared.geometry.TheConstants.{MODULE_PLACE};
     ghost use Rattle.disk_layout.specs.rules.Places.{journal_place};
     ghost use Rattle.disk_layout.specs.rules.Stored.{OnlyReads};
     ghost use Rattle.snapshot.specs.rules.Heads.{FindsHead};
@@ -60,21 +62,21 @@ impl Snapshots {
 
     /// The newest complete head of the disk, if there is one.
     pub fn newest_head<D: Disk>(&mut self, disk: &mut D) -> Result<Option<Head>, SnapshotFault>
-        requires { 3 ≤ (D.medium disk.old).sectors }
         ensures reads { OnlyReads (D.medium disk.old) (D.medium disk.new) }
         ensures finds { IfOk result (λ head. (image : DiskImage) → (D.medium disk.new).shows image
             → FindsHead image head) }
         ensures same { OnOk result (self.new ≡ self.old) }
         ensures fails { StaysFailed result self.old self.new }
         ensures untouched { IsTrue (is_failed self.old) → disk.new ≡ disk.old }
+        ensures too_few { is_failed self.old ≡ false → (D.medium disk.old).sectors < MODULE_PLACE
+            → (disk.new ≡ disk.old) × (result ≡ Err (SnapshotFault.Disk DiskFault.Range)) }
         ensures cause { IsErr result → IsTrue (is_failed self.old)
             ⊎ ((fault : DiskFault) × (result ≡ Err (SnapshotFault.Disk fault))
-            × ((D.medium disk.old).faults < (D.medium disk.new).faults)) }
+            × (((D.medium disk.old).sectors < MODULE_PLACE)
+            ⊎ ((D.medium disk.old).faults < (D.medium disk.new).faults))) }
         ensures asks { CallsUpTo 2 (D.medium disk.old) (D.medium disk.new) }
     {
-        if self.is_failed() {
-            return Err(SnapshotFault::Failed);
-        }
+        self.test_disk(disk, MODULE_PLACE)?;
         match newest_head(disk) {
             Ok(head) => Ok(head),
             Err(fault) => {
@@ -94,20 +96,21 @@ impl Snapshots {
         geometry: &Geometry,
         head: &Head,
     ) -> Result<HashedImage, SnapshotFault>
-        requires { journal_place geometry.now ≤ (D.medium disk.old).sectors }
         ensures reads { OnlyReads (D.medium disk.old) (D.medium disk.new) }
         ensures process_image { (image : DiskImage) → (D.medium disk.new).shows image
             → ReadsProcessImage geometry.now image head.now result }
         ensures same { OnOk result (self.new ≡ self.old) }
         ensures fails { StaysFailed result self.old self.new }
         ensures untouched { IsTrue (is_failed self.old) → disk.new ≡ disk.old }
+        ensures too_few { is_failed self.old ≡ false
+            → (D.medium disk.old).sectors < journal_place geometry.now
+            → (disk.new ≡ disk.old) × (result ≡ Err (SnapshotFault.Disk DiskFault.Range)) }
         ensures cause { (fault : DiskFault) → result ≡ Err (SnapshotFault.Disk fault)
-            → (D.medium disk.old).faults < (D.medium disk.new).faults }
+            → ((D.medium disk.old).sectors < journal_place geometry.now)
+            ⊎ ((D.medium disk.old).faults < (D.medium disk.new).faults) }
         ensures asks { CallsUpTo geometry.now.area_sectors (D.medium disk.old) (D.medium disk.new) }
     {
-        if self.is_failed() {
-            return Err(SnapshotFault::Failed);
-        }
+        self.test_disk(disk, geometry.journal_place())?;
         match read_process_image(alloc, disk, geometry, head) {
             Ok(process_image) => Ok(process_image),
             Err(fault) => {
@@ -124,18 +127,22 @@ impl Snapshots {
         disk: &mut D,
         geometry: &Geometry,
     ) -> Result<Option<Snapshot>, SnapshotFault>
-        requires { journal_place geometry.now ≤ (D.medium disk.old).sectors }
         ensures reads { OnlyReads (D.medium disk.old) (D.medium disk.new) }
         ensures finds { (image : DiskImage) → (D.medium disk.new).shows image
             → FindsNewest geometry.now image result }
         ensures same { OnOk result (self.new ≡ self.old) }
         ensures fails { StaysFailed result self.old self.new }
         ensures untouched { IsTrue (is_failed self.old) → disk.new ≡ disk.old }
+        ensures too_few { is_failed self.old ≡ false
+            → (D.medium disk.old).sectors < journal_place geometry.now
+            → (disk.new ≡ disk.old) × (result ≡ Err (SnapshotFault.Disk DiskFault.Range)) }
         ensures cause { (fault : DiskFault) → result ≡ Err (SnapshotFault.Disk fault)
-            → (D.medium disk.old).faults < (D.medium disk.new).faults }
+            → ((D.medium disk.old).sectors < journal_place geometry.now)
+            ⊎ ((D.medium disk.old).faults < (D.medium disk.new).faults) }
         ensures asks { CallsUpTo (geometry.now.area_sectors + 2) (D.medium disk.old)
             (D.medium disk.new) }
     {
+        self.test_disk(disk, geometry.journal_place())?;
         let Some(head) = self.newest_head(disk)? else {
             return Ok(None);
         };
@@ -179,18 +186,22 @@ impl Snapshots {
     /// Gives more bytes of the image. Each sector of the area that they fill is written. Where
     /// only changes are, it is compared with what the area holds, and written where it differs.
     /// Where the image would be longer than its area it is `TooBig`, and the disk is left alone.
+    /// It is `TooBig` on a disk of any size.
     pub fn push<D: Disk>(
         &mut self,
         disk: &mut D,
         geometry: &Geometry,
         bytes: &[u8],
     ) -> Result<(), SnapshotFault>
-        requires begun { is_idle self.old ≡ false }
-        requires places { journal_place geometry.now ≤ (D.medium disk.old).sectors }
+        requires { is_idle self.old ≡ false }
         ensures pushes { PushesBytes geometry.now bytes.now result self.old self.new
             (D.medium disk.old) (D.medium disk.new) }
         ensures untouched { IsTrue (is_failed self.old) ⊎ (result ≡ Err SnapshotFault.TooBig)
             → disk.new ≡ disk.old }
+        ensures too_few { is_failed self.old ≡ false
+            → (D.medium disk.old).sectors < journal_place geometry.now
+            → (disk.new ≡ disk.old) × ((result ≡ Err SnapshotFault.TooBig)
+            ⊎ (result ≡ Err (SnapshotFault.Disk DiskFault.Range))) }
     {
         let State::Begun(mut writer) = mem::replace(&mut self.state, State::Failed) else {
             return Err(SnapshotFault::Failed);
@@ -209,10 +220,12 @@ impl Snapshots {
     ) -> Result<(), SnapshotFault>
         requires begun { is_idle self.old ≡ false }
         requires within { length_of self.old ≤ SECTOR_SIZE * geometry.now.area_sectors }
-        requires places { journal_place geometry.now ≤ (D.medium disk.old).sectors }
         ensures ends { EndsImage geometry.now result self.old self.new (D.medium disk.old)
             (D.medium disk.new) }
         ensures untouched { IsTrue (is_failed self.old) → disk.new ≡ disk.old }
+        ensures too_few { is_failed self.old ≡ false
+            → (D.medium disk.old).sectors < journal_place geometry.now
+            → (disk.new ≡ disk.old) × (result ≡ Err (SnapshotFault.Disk DiskFault.Range)) }
     {
         let State::Begun(writer) = mem::replace(&mut self.state, State::Failed) else {
             return Err(SnapshotFault::Failed);
@@ -232,7 +245,6 @@ impl Snapshots {
         process_image: &[u8],
         version: u32,
     ) -> Result<(), SnapshotFault>
-        requires { journal_place geometry.now ≤ (D.medium disk.old).sectors }
         ensures commits { CommitsImage geometry.now (record {
           generation = generation;
           version = version;
@@ -240,10 +252,34 @@ impl Snapshots {
         }) result self.old self.new (D.medium disk.old) (D.medium disk.new) }
         ensures untouched { IsTrue (is_failed self.old) ⊎ (result ≡ Err SnapshotFault.TooBig)
             → disk.new ≡ disk.old }
+        ensures too_few { is_failed self.old ≡ false
+            → (D.medium disk.old).sectors < journal_place geometry.now
+            → (disk.new ≡ disk.old) × ((result ≡ Err SnapshotFault.TooBig)
+            ⊎ (result ≡ Err (SnapshotFault.Disk DiskFault.Range))) }
     {
         self.begin(generation, version, Writing::Changes, None)?;
         self.push(disk, geometry, process_image)?;
         self.finish(disk, geometry)
+    }
+
+    /// Tests that no call has failed, and that the disk has so many sectors. Where it has fewer,
+    /// this one has failed.
+    fn test_disk<D: Disk>(&mut self, disk: &D, needed: u64) -> Result<(), SnapshotFault>
+        ensures enough { OnOk result (needed ≤ (D.medium disk.now).sectors) }
+        ensures same { OnOk result (self.new ≡ self.old) }
+        ensures fails { StaysFailed result self.old self.new }
+        ensures cause { IsErr result → IsTrue (is_failed self.old)
+            ⊎ ((result ≡ Err (SnapshotFault.Disk DiskFault.Range))
+            × ((D.medium disk.now).sectors < needed)) }
+    {
+        if self.is_failed() {
+            return Err(SnapshotFault::Failed);
+        }
+        if let Err(fault) = test_sectors(disk, needed) {
+            self.state = State::Failed;
+            return Err(SnapshotFault::Disk(fault));
+        }
+        Ok(())
     }
 
     fn is_failed(&self) -> bool

@@ -8,7 +8,7 @@ use crate::hashed_image::HashedImage;
 use crate::hashing::ImageHasher;
 use crate::store::{store_sector, write_durably};
 use crate::writing::Writing;
-use disk_layout::{Geometry, Head};
+use disk_layout::{Geometry, Head, test_sectors};
 use sector_disk::{Disk, DiskFault, SECTOR_SIZE};
 
 /// The image's bytes so far lie in the first sectors of its area, and after them at the front of
@@ -74,18 +74,20 @@ impl AreaWriter {
         SECTOR_SIZE as u64 * self.sectors + self.filled as u64
     }
 
-    /// Gives it more bytes of the image. Where they are more than the area holds, no call of the
-    /// disk is made.
+    /// Gives it more bytes of the image. Where they are more than the area holds, or the disk has
+    /// too few sectors, no call of the disk is made.
     pub(crate) fn push<D: Disk>(
         &mut self,
         disk: &mut D,
         geometry: &Geometry,
         bytes: &[u8],
     ) -> Result<(), SnapshotFault>
-        requires { journal_place geometry.now ≤ (D.medium disk.old).sectors }
         ensures too_big { (result ≡ Err SnapshotFault.TooBig)
             ↔ (SECTOR_SIZE * geometry.now.area_sectors < written_length self.old
             + length bytes.now) }
+        ensures too_few { (D.medium disk.old).sectors < journal_place geometry.now
+            → (disk.new ≡ disk.old) × ((result ≡ Err SnapshotFault.TooBig)
+            ⊎ (result ≡ Err (SnapshotFault.Disk DiskFault.Range))) }
         ensures untouched { result ≡ Err SnapshotFault.TooBig → disk.new ≡ disk.old }
         ensures given { OnOk result ((before : List ℕ)
             → IsGiven geometry.now (D.medium disk.old) self.old before
@@ -115,7 +117,8 @@ impl AreaWriter {
         }) result (D.medium disk.old) (D.medium disk.new) }
         ensures cause { IsErr result → result ≡ Err SnapshotFault.TooBig
             ⊎ ((fault : DiskFault) × (result ≡ Err (SnapshotFault.Disk fault))
-            × ((spare (D.medium disk.old) + self.old.sectors < geometry.now.area_sectors)
+            × (((D.medium disk.old).sectors < journal_place geometry.now)
+            ⊎ (spare (D.medium disk.old) + self.old.sectors < geometry.now.area_sectors)
             ⊎ ((D.medium disk.old).faults < (D.medium disk.new).faults))) }
         ensures asked { OnOk result (AsksForSectors self.old.sectors self.new.sectors
             (D.medium disk.old) (D.medium disk.new)) }
@@ -126,6 +129,7 @@ impl AreaWriter {
         if total > SECTOR_SIZE as u64 * u64::from(geometry.area_sectors) {
             return Err(SnapshotFault::TooBig);
         }
+        test_sectors(disk, geometry.journal_place())?;
         let mut at = 0;
         while at < bytes.len() {
             at += self.take_in(disk, geometry, &bytes[at..])?;
@@ -201,10 +205,13 @@ impl AreaWriter {
         Ok(count)
     }
 
-    /// Stores the sector that isn't full, with zeros after the image's last byte.
+    /// Stores the sector that isn't full, with zeros after the image's last byte. A disk with too
+    /// few sectors is left alone.
     fn store_last<D: Disk>(&self, disk: &mut D, geometry: &Geometry) -> Result<(), DiskFault>
-        requires within { written_length self.now ≤ SECTOR_SIZE * geometry.now.area_sectors }
-        requires places { journal_place geometry.now ≤ (D.medium disk.old).sectors }
+        requires { written_length self.now ≤ SECTOR_SIZE * geometry.now.area_sectors }
+        ensures enough { OnOk result (journal_place geometry.now ≤ (D.medium disk.old).sectors) }
+        ensures too_few { (D.medium disk.old).sectors < journal_place geometry.now
+            → (disk.new ≡ disk.old) × (result ≡ Err DiskFault.Range) }
         ensures holds { OnOk result ((bytes : List ℕ) → IsGiven geometry.now (D.medium disk.old)
             self.now bytes → (image : DiskImage) → (D.medium disk.new).shows image → HoldsWithZeros
             geometry.now self.now.generation bytes image) }
@@ -223,10 +230,12 @@ impl AreaWriter {
           count = rounded_up (written_length self.now) - self.now.sectors;
         }) result (D.medium disk.old) (D.medium disk.new) }
         ensures cause { IsErr result
-            → (spare (D.medium disk.old) + self.now.sectors < geometry.now.area_sectors)
+            → ((D.medium disk.old).sectors < journal_place geometry.now)
+            ⊎ (spare (D.medium disk.old) + self.now.sectors < geometry.now.area_sectors)
             ⊎ ((D.medium disk.old).faults < (D.medium disk.new).faults) }
         ensures asks { CallsUpTo 2 (D.medium disk.old) (D.medium disk.new) }
     {
+        test_sectors(disk, geometry.journal_place())?;
         if self.filled == 0 {
             return Ok(());
         }
@@ -264,10 +273,12 @@ impl AreaWriter {
         }
     }
 
-    /// Stores the last sector, syncs, writes the head, and syncs.
+    /// Stores the last sector, syncs, writes the head, and syncs. A disk with too few sectors is
+    /// left alone.
     pub(crate) fn finish<D: Disk>(self, disk: &mut D, geometry: &Geometry) -> Result<(), DiskFault>
-        requires within { written_length self ≤ SECTOR_SIZE * geometry.now.area_sectors }
-        requires places { journal_place geometry.now ≤ (D.medium disk.old).sectors }
+        requires { written_length self ≤ SECTOR_SIZE * geometry.now.area_sectors }
+        ensures too_few { (D.medium disk.old).sectors < journal_place geometry.now
+            → (disk.new ≡ disk.old) × (result ≡ Err DiskFault.Range) }
         ensures any_moment { (bytes : List ℕ) → IsGiven geometry.now (D.medium disk.old) self bytes
             →
             LeavesOnly (D.medium disk.old) (D.medium disk.new)
@@ -292,7 +303,8 @@ impl AreaWriter {
           count = rounded_up (written_length self) - self.sectors;
         }) self.generation result (D.medium disk.old) (D.medium disk.new) }
         ensures cause { IsErr result
-            → (spare (D.medium disk.old) + self.sectors < geometry.now.area_sectors)
+            → ((D.medium disk.old).sectors < journal_place geometry.now)
+            ⊎ (spare (D.medium disk.old) + self.sectors < geometry.now.area_sectors)
             ⊎ ((D.medium disk.old).room ≡ 0)
             ⊎ ((D.medium disk.old).faults < (D.medium disk.new).faults) }
         ensures asks { CallsUpTo 5 (D.medium disk.old) (D.medium disk.new) }

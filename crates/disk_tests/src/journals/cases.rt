@@ -1,6 +1,6 @@
 //! Records byte by byte, batches that are torn, how much is written, and what a scan finds.
 
-use crate::journals::{Given, Sector, Step, Trouble, is_so};
+use crate::journals::{Given, Sector, Step, Trouble, is_small_so, is_so};
 use crate::rows::assert_row;
 use journal::JournalFault;
 use sector_disk::{DiskFault, Place};
@@ -465,6 +465,16 @@ static CASES: [Case; 34] = [
     },
 ];
 
+/// A disk with too few sectors is called for nothing.
+static SMALL: [Step; 6] = [
+    Step::Scan(1, 1, Err(JournalFault::Disk(DiskFault::Range))),
+    Step::Barrier(Ok(7904)),
+    Step::Append(1, Given::End, Ok(7893)),
+    Step::Barrier(Err(JournalFault::Disk(DiskFault::Range))),
+    Step::Barrier(Err(JournalFault::Failed)),
+    Step::Calls(0, 0, 0),
+];
+
 /// `scripts/runs/refused-allocations` refuses each allocation in turn, and then this ends out of
 /// memory.
 #[test]
@@ -473,5 +483,7 @@ fn records_are_written_and_scanned(rt: HostRuntime) -> Result<(), JournalFault> 
         let is_so = is_so(rt.alloc(), &case.trouble, case.steps, case.then)?;
         assert_row(&rt, is_so, &case.name);
     }
+    let is_so = is_small_so(rt.alloc(), SMALL.as_slice())?;
+    assert_row(&rt, is_so, &"a disk that is too small");
     Ok(())
 }

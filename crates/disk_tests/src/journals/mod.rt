@@ -27,13 +27,14 @@ fn journal_fault(fault: DiskFault) -> JournalFault {
     }
 }
 
-/// An empty disk that stops at a call, or fails one.
+/// An empty disk of so many sectors that stops at a call, or fails one.
 fn faulty_disk(
     alloc: Global,
+    sectors: u64,
     stop: Option<Place>,
     fail: Option<Place>,
 ) -> Result<FaultDisk<MemDisk>, JournalFault> {
-    match MemDisk::new(alloc, 20, 16) {
+    match MemDisk::new(alloc, sectors, 16) {
         Ok(disk) => Ok(FaultDisk::new(disk, stop, fail)),
         Err(fault) => Err(journal_fault(fault)),
     }
@@ -95,9 +96,6 @@ fn append(alloc: Global, journal: &mut Journal, step: u64, given: &Given) -> Cou
 }
 
 fn barrier<D: Disk>(journal: &mut Journal, disk: &mut D) -> Count {
-    if disk.sectors() < PLACES.total_sectors() {
-        return Err(JournalFault::Full);
-    }
     journal.barrier(disk, &PLACES)?;
     Ok(journal.room(&PLACES))
 }
@@ -107,9 +105,6 @@ fn scan<D: Disk>(
     disk: &mut D,
     generation: u64,
 ) -> Result<Vec<Record>, JournalFault> {
-    if disk.sectors() < PLACES.total_sectors() {
-        return Err(JournalFault::Full);
-    }
     let scanned = Journal::scan(alloc, disk, &PLACES, Version::One, generation)?;
     Ok(scanned.records)
 }
@@ -331,10 +326,18 @@ pub(crate) fn is_so(
     steps: &[Step],
     then: &[Step],
 ) -> Result<bool, JournalFault> {
-    let mut disk = faulty_disk(alloc, trouble.stop, trouble.fail)?;
+    let mut disk = faulty_disk(alloc, 20, trouble.stop, trouble.fail)?;
     let are_so = are_steps_so(alloc, &mut disk, steps);
     let are_so_then = are_left_so(alloc, disk.into_inner(), trouble.tears, then);
     Ok(are_so? && are_so_then?)
+}
+
+/// Whether the steps are so on an empty disk that lacks the last sector of the journal.
+pub(crate) fn is_small_so(alloc: Global, steps: &[Step]) -> Result<bool, JournalFault> {
+    let mut disk = faulty_disk(alloc, 19, None, None)?;
+    let are_so = are_steps_so(alloc, &mut disk, steps);
+    drop(disk);
+    are_so
 }
 
 /// A call of the disk, and how many records were acknowledged before it. Then what is kept where it

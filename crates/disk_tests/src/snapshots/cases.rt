@@ -1,7 +1,9 @@
 //! Which sectors are written, what is damaged, and how heads are spelled.
 
 use crate::rows::assert_row;
-use crate::snapshots::{CUT, DONE, FAILED, Image, LONG, LONG_HEAD, NEW, OLD, SHORT, Step, is_so};
+use crate::snapshots::{
+    CUT, DONE, FAILED, Image, LONG, LONG_HEAD, NEW, OLD, SHORT, Step, is_small_so, is_so,
+};
 use sector_disk::{DiskFault, Place};
 use snapshot::SnapshotFault;
 
@@ -391,6 +393,14 @@ static CASES: [Case; 35] = [
     },
 ];
 
+/// A disk with too few sectors is called for nothing.
+static SMALL: [Step; 4] = [
+    Step::Fails(SnapshotFault::Disk(DiskFault::Range)),
+    Step::Commit(OLD, Err(SnapshotFault::Disk(DiskFault::Range))),
+    Step::Commit(OLD, FAILED),
+    Step::Calls(0, 0, 0),
+];
+
 /// `scripts/runs/refused-allocations` refuses each allocation in turn, and then this ends out of
 /// memory.
 #[test]
@@ -399,5 +409,7 @@ fn images_are_committed_and_found(rt: HostRuntime) -> Result<(), SnapshotFault> 
         let is_so = is_so(rt.alloc(), case.stop, case.fail, case.steps, &case.left)?;
         assert_row(&rt, is_so, &case.name);
     }
+    let is_so = is_small_so(rt.alloc(), SMALL.as_slice())?;
+    assert_row(&rt, is_so, &"a disk that is too small");
     Ok(())
 }

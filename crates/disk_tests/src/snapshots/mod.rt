@@ -34,13 +34,14 @@ fn snapshot_fault(fault: DiskFault) -> SnapshotFault {
     }
 }
 
-/// An empty disk that stops at a call, or fails one.
+/// An empty disk of so many sectors that stops at a call, or fails one.
 fn faulty_disk(
     alloc: Global,
+    sectors: u64,
     stop: Option<Place>,
     fail: Option<Place>,
 ) -> Result<FaultDisk<MemDisk>, SnapshotFault> {
-    match MemDisk::new(alloc, SECTORS as u64, 20) {
+    match MemDisk::new(alloc, sectors, 20) {
         Ok(disk) => Ok(FaultDisk::new(disk, stop, fail)),
         Err(fault) => Err(snapshot_fault(fault)),
     }
@@ -66,9 +67,6 @@ fn commit<D: Disk>(
     generation: u64,
     bytes: &[u8],
 ) -> Answer {
-    if disk.sectors() < SECTORS as u64 {
-        return Err(SnapshotFault::TooBig);
-    }
     snapshots.commit(disk, &GEOMETRY, generation, bytes, version)
 }
 
@@ -79,9 +77,6 @@ fn commit_in_pieces<D: Disk>(
     first: &[u8],
     second: &[u8],
 ) -> Answer {
-    if disk.sectors() < SECTORS as u64 {
-        return Err(SnapshotFault::TooBig);
-    }
     snapshots.begin(1, 1, Writing::Changes, None)?;
     snapshots.push(disk, &GEOMETRY, first)?;
     snapshots.push(disk, &GEOMETRY, second)?;
@@ -89,9 +84,6 @@ fn commit_in_pieces<D: Disk>(
 }
 
 fn read_newest<D: Disk>(alloc: Global, disk: &mut D) -> Result<Option<Snapshot>, SnapshotFault> {
-    if disk.sectors() < SECTORS as u64 {
-        return Err(SnapshotFault::TooBig);
-    }
     let mut snapshots = Snapshots::new();
     let newest = snapshots.newest(alloc, disk, &GEOMETRY);
     drop(snapshots);
@@ -145,9 +137,6 @@ fn leads_to_long<D: Disk>(
     snapshots: &mut Snapshots,
     disk: &mut D,
 ) -> Result<bool, SnapshotFault> {
-    if disk.sectors() < SECTORS as u64 {
-        return Ok(false);
-    }
     let Some(head) = snapshots.newest_head(disk)? else {
         return Ok(false);
     };
@@ -387,7 +376,7 @@ pub(crate) fn is_so(
     steps: &[Step],
     left: &Option<Image>,
 ) -> Result<bool, SnapshotFault> {
-    let mut disk = faulty_disk(alloc, stop, fail)?;
+    let mut disk = faulty_disk(alloc, SECTORS as u64, stop, fail)?;
     let are_so = are_steps_so(alloc, &mut disk, steps);
     let below = disk.into_inner();
     let is_left_so = match left {
@@ -396,6 +385,14 @@ pub(crate) fn is_so(
     };
     drop(below);
     Ok(are_so? && is_left_so?)
+}
+
+/// Whether the steps are so on an empty disk that lacks the last sector of area 1.
+pub(crate) fn is_small_so(alloc: Global, steps: &[Step]) -> Result<bool, SnapshotFault> {
+    let mut disk = faulty_disk(alloc, 9, None, None)?;
+    let are_so = are_steps_so(alloc, &mut disk, steps);
+    drop(disk);
+    are_so
 }
 
 pub(crate) const CUT: Answer = Err(SnapshotFault::Disk(DiskFault::Cut));

@@ -7,7 +7,7 @@ use Rattle.sector_disk.specs.rules.Medium.{CallsUpTo, CountsUpTo}
 use Rattle.sector_disk.specs.declared.fault.DiskFault.{DiskFault}
 use Rattle.sector_disk.specs.declared.sector.TheConstants.{SECTOR_SIZE}
 use Rattle.disk_layout.specs.declared.geometry.Geometry.{Geometry}
-use Rattle.disk_layout.specs.rules.Places.{area_place, rounded_up}
+use Rattle.disk_layout.specs.rules.Places.{area_place, journal_place, rounded_up}
 use Rattle.snapshot.specs.Writing.{SparesSectors, SparesAllButHead}
 use Rattle.snapshot.specs.declared.fault.SnapshotFault.{SnapshotFault}
 use Rattle.snapshot.specs.declared.fault.SnapshotFault.TheVariants.{TooBig, Disk}
@@ -57,11 +57,12 @@ pub record PushesBytes (geometry : Geometry) (bytes : List ℕ)
   pub too_big : (result ≡ Err TooBig) ↔ ((is_failed before ≡ false)
       × (SECTOR_SIZE * geometry.area_sectors < length_of before + length bytes))
   pub fails : StaysFailed result before after
-  -- an earlier call has failed, the image is too long, the disk had no room for the rest of the
-  -- area, or it failed
+  -- an earlier call has failed, the image is too long, the disk has too few sectors or had no room
+  -- for the rest of the area, or it failed
   pub cause : IsErr result → IsTrue (is_failed before) ⊎ (result ≡ Err TooBig)
       ⊎ ((fault : DiskFault) × (result ≡ Err (Disk fault))
-      × ((spare old + sectors_of before < geometry.area_sectors) ⊎ (old.faults < new.faults)))
+      × ((old.sectors < journal_place geometry)
+      ⊎ (spare old + sectors_of before < geometry.area_sectors) ⊎ (old.faults < new.faults)))
   -- two calls at most for each sector that they fill, and none beyond the area
   pub asked : OnOk result (AsksForSectors (sectors_of before) (sectors_of after) old new)
   pub asks : CallsUpTo (2 * (geometry.area_sectors - sectors_of before)) old new
@@ -99,11 +100,12 @@ pub record EndsImage (geometry : Geometry) (result : Result (Unit {0}) SnapshotF
   }) (generation_of before) result old new
   pub idle : OnOk result (IsTrue (is_idle after))
   pub fails : StaysFailed result before after
-  -- an earlier call has failed, the disk had no room for the rest of the area or none at all, or it
-  -- failed
+  -- an earlier call has failed, the disk has too few sectors, or had no room for the rest of the
+  -- area or none at all, or it failed
   pub cause : IsErr result → IsTrue (is_failed before)
       ⊎ ((fault : DiskFault) × (result ≡ Err (Disk fault))
-      × ((spare old + sectors_of before < geometry.area_sectors) ⊎ (old.room ≡ 0)
+      × ((old.sectors < journal_place geometry)
+      ⊎ (spare old + sectors_of before < geometry.area_sectors) ⊎ (old.room ≡ 0)
       ⊎ (old.faults < new.faults)))
   -- a read and a write of the last sector, the head, and two syncs
   pub asks : CallsUpTo 5 old new
@@ -146,10 +148,11 @@ pub record CommitsImage (geometry : Geometry) (image : NewImage)
       × ((NUMBERS_END ≤ image.generation)
       ⊎ (SECTOR_SIZE * geometry.area_sectors < length image.bytes)))
   pub fails : StaysFailed result before after
-  -- an earlier call has failed, the image is too big, the disk had no room for an area or none at
-  -- all, or it failed
+  -- an earlier call has failed, the image is too big, the disk has too few sectors, or had no room
+  -- for an area or none at all, or it failed
   pub cause : IsErr result → IsTrue (is_failed before) ⊎ (result ≡ Err TooBig)
       ⊎ ((fault : DiskFault) × (result ≡ Err (Disk fault))
-      × ((spare old < geometry.area_sectors) ⊎ (old.room ≡ 0) ⊎ (old.faults < new.faults)))
+      × ((old.sectors < journal_place geometry) ⊎ (spare old < geometry.area_sectors)
+      ⊎ (old.room ≡ 0) ⊎ (old.faults < new.faults)))
   -- two calls for each sector of the area at most, and five
   pub asks : CallsUpTo (2 * geometry.area_sectors + 5) old new

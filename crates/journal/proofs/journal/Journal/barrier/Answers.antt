@@ -3,9 +3,8 @@ use Rattle.std.proofs.Common.{inl}
 use Rattle.std.proofs.lemmas.Bool.{eqb-false}
 use Rattle.journal.specs.rules.Packed.{sectors_for}
 use Rattle.journal.proofs.BarrierLemmas.{nothing_written, any_moment_at, durable_at, room_for, goes}
-use Rattle.journal.proofs.BarrierLemmas.{goes_not, none_kept, still_held, only_read}
-use Rattle.sector_disk.proofs.CallLemmas.{no_calls, none_begun}
-use Rattle.sector_disk.proofs.CountLemmas.{counts_more}
+use Rattle.journal.proofs.BarrierLemmas.{goes_not, none_kept, still_held}
+use Rattle.sector_disk.proofs.CallLemmas.{no_calls}
 use Rattle.disk_layout.specs.rules.Places.{total_sectors}
 use Rattle.journal.specs.rules.Steps.{barrier_calls}
 use Rattle.journal.proofs.journal.Journal.barrier.Goals as goal
@@ -89,18 +88,12 @@ returns-then-count-unwritten-clause-stores g c =
       asks = search rules;
     }
 
-pub returns-then-sectors-needed-clause-stores : goal.returns-then-sectors-needed-clause-stores
-returns-then-sectors-needed-clause-stores g c =
-    let old = g.D.Disk.medium c.args.disk.now in
-    let new = g.D.Disk.medium c.fault_beyond.new.disk in
+pub returns-in-Err-clause-stores : goal.returns-in-Err-clause-stores
+returns-in-Err-clause-stores g c =
+    let m = g.D.Disk.medium c.args.disk.now in
     let s = c.args.self.now in
-    let geometry = c.args.geometry.now in
-    let reads = c.fault_beyond.ensures.reads in
-    let told = c.fault_beyond.ensures.fault in
-    let asked = c.fault_beyond.ensures.asks in
-    let few : old.sectors < total_sectors geometry =
-    let f = c.if-sectors-needed.true in let e = c.sectors.ensures in
-    let n = c.total_sectors-needed.ensures in omega (arith, f, e, n) in
+    let few : m.sectors < total_sectors c.args.geometry.now =
+    let f = c.in-Err.ensures.too_few.1 in let n = c.total_sectors.ensures in omega (arith, f, n) in
     record {
       ok = search rules;
       err = search rules;
@@ -110,23 +103,23 @@ returns-then-sectors-needed-clause-stores g c =
       no_memory = search rules;
       not_too_long = search rules;
       any_moment = λ records kept on.
-          only_read geometry s.version s.generation s.used s.kept records kept old on new reads;
+          nothing_written c.args.geometry.now s.version s.generation s.used s.kept records kept m
+          on;
       durable = search rules;
-      passes = goes old new _ reads.leaves;
+      passes = goes_not m;
       all_synced = search rules;
-      unsynced = let same = reads.unsynced in omega (arith, same);
+      unsynced = search rules;
       calls = record {
         all = search rules;
-        begun = none_begun (barrier_calls geometry s) old new reads.calls;
+        begun = no_calls (barrier_calls c.args.geometry.now s) m;
       };
       together = search rules;
-      counts = counts_more old.unsynced (old.unsynced + sectors_for (length s.kept)) old new
-          (omega arith) reads.counts;
-      asks = omega (arith, asked);
+      counts = search rules;
+      asks = search rules;
     }
 
-pub returns-in-Err-clause-stores : goal.returns-in-Err-clause-stores
-returns-in-Err-clause-stores g c =
+pub returns-in-Err-stored-clause-stores : goal.returns-in-Err-stored-clause-stores
+returns-in-Err-stored-clause-stores g c =
     let old = g.D.Disk.medium c.args.disk.now in
     let new = g.D.Disk.medium c.store_packed-stored.new.disk in
     let s = c.args.self.now in
@@ -147,8 +140,7 @@ returns-in-Err-clause-stores g c =
     let j = c.from.ensures in omega arith) in
     let bound : geometry.journal_sectors < 2 ^ 32 = search rules in
     let size : total_sectors geometry ≤ old.sectors =
-    let f = c.if-sectors-needed.false in let e = c.sectors.ensures in
-    let n = c.total_sectors-needed.ensures in omega (arith, f, e, n) in
+    let f = c.in_default.ensures.enough in let n = c.total_sectors.ensures in omega (arith, f, n) in
     record {
       ok = search rules;
       err = search rules;
@@ -194,8 +186,7 @@ returns-clause-stores g c =
     let j = c.from.ensures in omega arith) in
     let bound : geometry.journal_sectors < 2 ^ 32 = search rules in
     let size : total_sectors geometry ≤ old.sectors =
-    let f = c.if-sectors-needed.false in let e = c.sectors.ensures in
-    let n = c.total_sectors-needed.ensures in omega (arith, f, e, n) in
+    let f = c.in_default.ensures.enough in let n = c.total_sectors.ensures in omega (arith, f, n) in
     record {
       ok = search rules;
       err = search rules;
@@ -214,7 +205,7 @@ returns-clause-stores g c =
           c.self.inside.version c.journal_place.result c.self.inside.generation c.self.inside.used
           c.sectors_for-count.result c.as_slice.result.now (ap (λ x. x.version) view)
           c.journal_place.ensures (ap (λ x. x.generation) view) used bytes counted on size
-          room bound c.in_default.ensures.stored;
+          room bound c.in_default-stored.ensures.stored;
       passes = goes old new _ c.store_packed-stored.ensures.any_moment;
       all_synced = search rules;
       unsynced = search rules;

@@ -48,9 +48,9 @@ returns-clause-any_moment g c = λ bytes given.
     λ image shows. subst (λ (n : ℕ). HoldsWithZeros geometry n bytes image) (sym generation)
     (c.in_ok-store_last.ensures.holds bytes given image shows) in
     let few : rounded_up (length bytes) ≤ geometry.area_sectors = let n = given.count in
-    let r = c.requires.within in omega (arith, n, r) in
+    let r = c.requires in omega (arith, n, r) in
     let inside : 3 ≤ mid.sectors = let l = c.store_last.ensures.any_moment in let p = l.passes in
-    let r = c.requires.places in omega (arith, p.sectors, r) in
+    let r = c.in_ok-store_last.ensures.enough in omega (arith, p.sectors, r) in
     let placed =
     subst (λ (k : ℕ). LeavesOnly mid new (λ image. mid.crash_images image
     ⊎ After (IsTorn k c.sector.result) mid.shows image)) c.head_place.ensures
@@ -86,9 +86,9 @@ returns-clause-done g c =
     λ image shows. subst (λ (n : ℕ). HoldsWithZeros geometry n bytes image) (sym generation)
     (c.in_ok-store_last.ensures.holds bytes given image shows) in
     let few : rounded_up (length bytes) ≤ geometry.area_sectors = let n = given.count in
-    let r = c.requires.within in omega (arith, n, r) in
+    let r = c.requires in omega (arith, n, r) in
     let inside : 3 ≤ mid.sectors = let l = c.store_last.ensures.any_moment in let p = l.passes in
-    let r = c.requires.places in omega (arith, p.sectors, r) in
+    let r = c.in_ok-store_last.ensures.enough in omega (arith, p.sectors, r) in
     let placed =
     subst (λ (k : ℕ). Follows (IsWritten k c.sector.result) mid.shows new.crash_images)
     c.head_place.ensures written in

@@ -143,6 +143,13 @@ returns-then-total-from-clause-calls g c =
     ((w.filled + length c.args.bytes.now) / 512) (g.D.Disk.medium c.args.disk.now) in
     (none.0, none.1, record { all = tt; begun = none.2 })
 
+pub returns-in_err-test_sectors-clause-calls : goal.returns-in_err-test_sectors-clause-calls
+returns-in_err-test_sectors-clause-calls g c =
+    let w = c.args.self.now in
+    let none = none_stored w.writing (area_place c.args.geometry.now w.generation + w.sectors)
+    ((w.filled + length c.args.bytes.now) / 512) (g.D.Disk.medium c.args.disk.now) in
+    (none.0, none.1, record { all = search rules; begun = none.2 })
+
 pub returns-in_err-at-clause-calls : goal.returns-in_err-at-clause-calls
 returns-in_err-at-clause-calls g c =
     let i = c.loop-at.invariant in

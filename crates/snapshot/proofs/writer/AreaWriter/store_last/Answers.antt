@@ -1,5 +1,5 @@
 use Rattle.std.proofs.Common.{◌≡◌, ◌<◌, ◌+◌, ◌-◌, ◌*◌, ◌++◌, ◌∙◌, ℕ, List, [], take, drop}
-use Rattle.std.proofs.Common.{replicate, refl, sym, ap, subst, arith}
+use Rattle.std.proofs.Common.{replicate, refl, sym, ap, subst, arith, rules}
 use Rattle.std.proofs.lemmas.List.{append-nil, drop-replicate}
 use Rattle.std.proofs.lemmas.Result.{on_ok_weaker}
 use Rattle.sector_disk.specs.rules.DiskImage.{IsWritten, IsTorn}
@@ -11,7 +11,7 @@ use Rattle.snapshot.specs.declared.writing.Writing.TheVariants.{Changes}
 use Rattle.snapshot.specs.Store.{IsStoredAs}
 use Rattle.snapshot.specs.Writing.{SparesSectors}
 use Rattle.snapshot.specs.rules.Calls.{AreStores}
-use Rattle.snapshot.proofs.StoreCalls.{stores_none, same_stores, performs_at}
+use Rattle.snapshot.proofs.StoreCalls.{stores_none, none_stored, same_stores, performs_at}
 use Rattle.snapshot.proofs.SpareLemmas.{spares_none, spares_one}
 use Rattle.snapshot.proofs.AreaLemmas.{area_in}
 use Rattle.snapshot.proofs.WriterLemmas.{store_fills, stored_more, zeros_held}
@@ -25,12 +25,13 @@ overflow_add-area_place g c =
     let r = c.requires in
     let fits = m.fits in
     let some = c.if-self-eq0.false in
-    let less : w.sectors < geometry.area_sectors = omega (arith, r.within, some) in
+    let less : w.sectors < geometry.area_sectors = omega (arith, r, some) in
     omega (
       arith,
       area_in geometry w.generation w.sectors less,
       c.area_place.ensures,
-      r.places,
+      c.in_ok-test_sectors.ensures.enough,
+      c.journal_place.ensures,
       fits,
     )
 
@@ -57,10 +58,10 @@ returns-clause-holds g c =
     let geometry = c.args.geometry.now in
     let place = area_place geometry w.generation in
     let some = c.if-self-eq0.false in
-    let less : w.sectors < geometry.area_sectors = let r = c.requires.within in
+    let less : w.sectors < geometry.area_sectors = let r = c.requires in
     omega (arith, r, some) in
-    let inside : place + w.sectors < old.sectors = let r = c.requires.places in
-    omega (arith, area_in geometry w.generation w.sectors less, r) in
+    let inside : place + w.sectors < old.sectors = let r = c.in_ok-test_sectors.ensures.enough in
+    omega (arith, area_in geometry w.generation w.sectors less, r, c.journal_place.ensures) in
     on_ok_weaker c.store_sector.result
     (λ whole. λ bytes given image shows.
     let here = subst (λ (k : ℕ). BothFollow (IsWritten (k + w.sectors) c.pad-last.result)
@@ -82,7 +83,7 @@ returns-clause-holds g c =
 pub returns-clause-any_moment : goal.returns-clause-any_moment
 returns-clause-any_moment g c =
     let w = c.args.self.now in
-    let r = c.requires.within in
+    let r = c.requires in
     let some = c.if-self-eq0.false in
     let at = c.area_place.ensures in
     store_fills c.args.geometry.now w.generation (c.area_place.result + w.sectors) c.pad-last.result
@@ -110,10 +111,10 @@ returns-clause-spared g c = λ is.
     let bytes = c.pad-last.result in
     let some = c.if-self-eq0.false in
     let filled = w.open in
-    let less : w.sectors < geometry.area_sectors = let r = c.requires.within in
+    let less : w.sectors < geometry.area_sectors = let r = c.requires in
     omega (arith, r, some) in
-    let inside : place + w.sectors < old.sectors = let r = c.requires.places in
-    omega (arith, area_in geometry w.generation w.sectors less, r) in
+    let inside : place + w.sectors < old.sectors = let r = c.in_ok-test_sectors.ensures.enough in
+    omega (arith, area_in geometry w.generation w.sectors less, r, c.journal_place.ensures) in
     let told = subst (λ (x : Writing). IsStoredAs x (c.area_place.result
     + w.sectors) bytes c.store_sector.result old new) is c.store_sector.ensures.told in
     let placed =
@@ -128,6 +129,13 @@ returns-clause-spared g c = λ is.
     subst (λ (n : ℕ). SparesSectors place w.sectors n old new) last
     (spares_one place w.sectors bytes old new inside here placed))
     c.store_sector.ensures.whole
+
+pub returns-in_err-test_sectors-clause-calls : goal.returns-in_err-test_sectors-clause-calls
+returns-in_err-test_sectors-clause-calls g c =
+    let w = c.args.self.now in
+    let none = none_stored w.writing (area_place c.args.geometry.now w.generation + w.sectors)
+    (rounded_up (512 * w.sectors + w.filled) - w.sectors) (g.D.Disk.medium c.args.disk.now) in
+    (none.0, none.1, record { all = search rules; begun = none.2 })
 
 pub returns-then-self-eq0-clause-calls : goal.returns-then-self-eq0-clause-calls
 returns-then-self-eq0-clause-calls g c =
