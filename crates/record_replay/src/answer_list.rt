@@ -4,7 +4,7 @@
 
 ghost use Rattle.std.specs.Prelude.{◌≡◌};
 
-use crate::{Source, SourceFault};
+use crate::{Readiness, Source, SourceFault};
 use std::collections::VecDeque;
 use std::marker::Model;
 use wasi_abi::{Answer, Question};
@@ -43,5 +43,12 @@ impl Source for AnswerList {
 
     fn answer(&mut self, _question: Question) -> Result<Option<Answer>, SourceFault> {
         Ok(self.answers_left.pop_front())
+    }
+}
+
+/// It never waits, also where it has no answer left.
+impl Readiness for AnswerList {
+    fn is_ready(&self, _question: Question) -> bool {
+        true
     }
 }

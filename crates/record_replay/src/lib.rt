@@ -35,10 +35,8 @@
 //!   step further. Each line on the way, and each that waited, was released once, in order
 //!   (`replayed`). Where a replay is refused, all lines were released to which it had come. The
 //!   cause is told (`stopped`).
-//! - `EphemeralWorker::slice`: the answers that were handed over lead in so many steps to the process
-//!   that it shows. All lines on the way were released, each once, in order, with its number
-//!   (`done`). A slice that fails has come to where something failed (`failed`). Slices add
-//!   (`slices_add`), and the same answers lead to the same process (`one_slice`).
+//! - Slices add (`slices_add`), also one that fails (`slices_add_in_vain`). The same answers lead
+//!   to the same process (`one_slice`).
 //! - Laws: calls of any source and outlet follow one another, and records lead to one process
 //!   (`records_lead_to_one_process`). A refused replay has told lines of that process alone.
 //!
@@ -52,11 +50,10 @@
 //! # Who may touch what
 //!
 //! A source or an outlet keeps for its owner what it met; its fault says only that it failed. Only
-//! `release_waiting` releases lines of a process: in a replay, and in a slice, also one of `worker`,
-//! which also asks through the traits. `command_words` implements them. `LineList`
-//! takes memory; where that is wanting, it keeps what it had. A replay takes some for a copy of
-//! each answer, and its process for calls of the host. After an error of a replay its process is
-//! dropped.
+//! `release_waiting` releases lines of a process: in a replay, and in a slice of `worker`, which
+//! also asks through the traits. `command_words` implements them. `LineList` takes memory; where
+//! that is wanting, it keeps what it had. A replay takes some for a copy of each answer, and its
+//! process for calls of the host. After an error of a replay its process is dropped.
 #![tactic(auto)]
 
 mod answer_list;
@@ -85,7 +82,5 @@ pub use outlet::Outlet;
 pub use refusing::RefusingOutlet;
 pub use releasing::release_waiting;
 pub use replaying::replay;
-pub use slices::{
-    EphemeralWorker, Now, Refusal, SliceFault, one_slice, slices_add, slices_add_in_vain,
-};
-pub use source::Source;
+pub use slices::{Now, Refusal, SliceFault, one_slice, slices_add, slices_add_in_vain};
+pub use source::{Readiness, Source};

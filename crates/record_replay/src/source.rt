@@ -26,3 +26,9 @@ pub trait Source {
     fn answer(&mut self, question: Question) -> Result<Option<Answer>, SourceFault>
         ensures { gives self.old question result self.new };
 }
+
+/// What may say of a source whether it would answer at once.
+pub trait Readiness {
+    /// Whether the next call would return without waiting. A hint: nothing is promised.
+    fn is_ready(&self, question: Question) -> bool;
+}

@@ -1,5 +1,5 @@
-//! A process that is run slice by slice, answered from outside, and whose lines are released. Its
-//! answers are on no disk.
+//! What it means that a process is run slice by slice, answered from outside, and that its lines
+//! are released. `worker` runs one so.
 //!
 //! - A process's exchanges with the outside are one list, in their order. Each question is what the
 //!   calls before it have led the process to want. All lines that were emitted before it had been
@@ -10,10 +10,7 @@
 mod fault;
 mod laws;
 mod now;
-mod turns;
-mod worker;
 
 pub use fault::{Refusal, SliceFault};
 pub use laws::{one_slice, slices_add, slices_add_in_vain};
 pub use now::Now;
-pub use worker::EphemeralWorker;
