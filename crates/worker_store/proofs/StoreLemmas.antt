@@ -1,10 +1,13 @@
 -- The calls of a store, by the laws of the worker on its disk.
 use Rattle.std.proofs.Common.{◌≡◌, ◌<◌, ◌≤◌, ◌⊎◌, ◌^◌, ℕ, ◌+◌, List, [], ◌++◌}
-use Rattle.std.proofs.Common.{length}
+use Rattle.std.proofs.Common.{length, inl, inr}
 use Rattle.std.proofs.Common.{refl, sym, ap, ◌∙◌, subst, ⊎_elim, arith, Bool, true, false, Err}
+use Rattle.std.proofs.lemmas.Bool.{cases_lt}
 use Rattle.std.proofs.lemmas.List.{length-append}
+use Rattle.sector_disk.specs.declared.fault.DiskFault.TheVariants.{Range}
 use Rattle.sector_disk.specs.rules.DiskImage.{DiskImage}
 use Rattle.sector_disk.specs.rules.Medium.{Medium, After, Follows, IsAllSynced, LeavesOnly}
+use Rattle.sector_disk.specs.rules.Medium.{CallsUpTo}
 use Rattle.disk_layout.specs.declared.geometry.Geometry.{Geometry}
 use Rattle.wasi_abi.specs.rules.Versions.{version_number}
 use Rattle.disk_layout.specs.rules.Places.{total_sectors}
@@ -37,6 +40,7 @@ use Rattle.worker_store.specs.rules.Calls.{LeavesFronts, StoresAll, LeavesOneOfT
 use Rattle.worker_store.specs.rules.Calls.{BarrierFails}
 use Rattle.worker_store.specs.rules.Faults.{fault_of_journal}
 use Rattle.worker_store.specs.declared.fault.StoreFault.{StoreFault}
+use Rattle.worker_store.specs.declared.fault.StoreFault.TheVariants.{Full, Disk}
 
 -- ---- records
 
@@ -281,27 +285,40 @@ module _ {D : Type 0} (medium : D → Medium) where
 -- ---- why a barrier fails
 
 barrier_fault : (store : WorkerStore) (after : JournalState) (old new : Medium)
-    (fault : JournalFault) → total_sectors store.geometry ≤ old.sectors
-    → StoresKept store.geometry store.journal after (Err fault) old new
+    (fault : JournalFault) → StoresKept store.geometry store.journal after (Err fault) old new
     → BarrierFails store old new (fault_of_journal fault)
-barrier_fault store after old new of_journal.Full enough stores = let full = stores.full.0 refl in
+barrier_fault store after old new of_journal.Full stores = let full = stores.full.0 refl in
     (full.1, full.2)
-barrier_fault store after old new of_journal.TooLong enough stores =
-    absurd (stores.not_too_long refl)
-barrier_fault store after old new (of_journal.Disk fault) enough stores =
-    ⊎_elim (λ (few : old.sectors < total_sectors store.geometry).
-    absurd (omega (arith, few, enough))) (λ cause. cause) (stores.cause fault refl)
-barrier_fault store after old new of_journal.Memory enough stores = absurd (stores.no_memory refl)
-barrier_fault store after old new of_journal.Failed enough stores = stores.failed.0 refl
+barrier_fault store after old new of_journal.TooLong stores = absurd (stores.not_too_long refl)
+barrier_fault store after old new (of_journal.Disk fault) stores = stores.cause fault refl
+barrier_fault store after old new of_journal.Memory stores = absurd (stores.no_memory refl)
+barrier_fault store after old new of_journal.Failed stores = stores.failed.0 refl
 
 pub barrier_fails_so : (store : WorkerStore) (after : JournalState) (old new : Medium)
     (fault : JournalFault) (e : StoreFault) → e ≡ fault_of_journal fault
-    → total_sectors store.geometry ≤ old.sectors
     → StoresKept store.geometry store.journal after (Err fault) old new
     → BarrierFails store old new e
-barrier_fails_so store after old new fault e is enough stores =
+barrier_fails_so store after old new fault e is stores =
     subst (λ (f : StoreFault). BarrierFails store old new f) (sym is)
-    (barrier_fault store after old new fault enough stores)
+    (barrier_fault store after old new fault stores)
+
+-- no more calls than there are sectors: on a disk that has all, and on one that is left alone
+pub barrier_asks : {D : Type 0} (medium : D → Medium) (geometry : Geometry) (old new : D)
+    → ((medium old).sectors < total_sectors geometry → new ≡ old)
+    → CallsUpTo (geometry.journal_sectors + 1) (medium old) (medium new)
+    → CallsUpTo (medium old).sectors (medium old) (medium new)
+barrier_asks medium geometry old new alone asks =
+    ⊎_elim (λ (few : (medium old).sectors < total_sectors geometry).
+    (let same = ap (λ d. (medium d).counted) (alone few) in omega (arith, same)))
+    (λ (enough : total_sectors geometry ≤ (medium old).sectors). omega (arith, enough, asks))
+    (cases_lt (medium old).sectors (total_sectors geometry))
+
+-- the fault of a journal that is told so
+pub told_fault : (fault : JournalFault) (e : StoreFault) → e ≡ fault_of_journal fault
+    → (fault ≡ of_journal.Full) ⊎ (fault ≡ of_journal.Disk Range)
+    → (e ≡ Full) ⊎ (e ≡ Disk Range)
+told_fault fault e is (inl same) = inl (is ∙ ap fault_of_journal same)
+told_fault fault e is (inr same) = inr (is ∙ ap fault_of_journal same)
 
 -- ---- what a failure changes
 

@@ -33,6 +33,9 @@
 //! - `read_worker`, `read_newest`, `read_records`: of a disk that is at a savepoint what it stands
 //!   by (`gives`, `finds`, `scans`). Of any other one they give what is there, or tell what is
 //!   wrong with it, in one order (`tells`).
+//! - A disk with fewer sectors than the layout takes is left alone. `read_newest`, `read_records`
+//!   and the calls of a store answer `Range` there, but a barrier of too many records is `Full`
+//!   (`too_few`).
 //! - Each error comes only for its cause (`cause`). After an error of a store, and after `fail`,
 //!   each of its calls answers `Failed`, and touches neither disk nor store (`fails`, `refused`).
 //! - No call has more unsynced writes than before and its own. In a creation there are no more than

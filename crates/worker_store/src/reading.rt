@@ -1,6 +1,7 @@
 //! What is on a worker's disk, read back.
 
-ghost use Rattle.std.specs.Prelude.{◌≡◌, ◌+◌, ◌≤◌, IfErr, IfOk};
+ghost use Rattle.std.specs.Prelude.{◌≡◌, ◌⊎◌, ◌+◌, ◌<◌, ◌≤◌, IfErr, IfOk};
+ghost use Rattle.sector_disk.specs.declared.fault.DiskFault.{DiskFault};
 ghost use Rattle.sector_disk.specs.rules.DiskImage.{DiskImage};
 ghost use Rattle.sector_disk.specs.rules.Medium.{CallsUpTo};
 ghost use Rattle.disk_layout.specs.rules.Places.{total_sectors};
@@ -13,9 +14,11 @@ ghost use Rattle.worker_store.specs.Judging.{JudgesMark, JudgesScan};
 
 use crate::newest::NewestProcessImage;
 use crate::read_fault::ReadFault;
-use disk_layout::{Contents, Damage, Geometry, LayoutFault, Record, read_contents, takes_records};
+use disk_layout::{
+    Contents, Damage, Geometry, LayoutFault, Record, read_contents, takes_records, test_sectors,
+};
 use journal::{Journal, ScannedJournal};
-use sector_disk::Disk;
+use sector_disk::{Disk, DiskFault};
 use snapshot::{HashedImage, SnapshotFault, Snapshots};
 use state_image::reading::is_marked_otherwise;
 use std::alloc::Global;
@@ -50,23 +53,29 @@ pub fn read_worker<D: Disk>(alloc: Global, disk: &mut D) -> Result<Contents, Rea
 /// - `Snapshot` with `Damaged` where the area doesn't hold the image that the head names
 /// - `Layout` with `OtherMark` where the image has the mark of another version than the head
 ///
-/// It never says that there is no worker.
+/// It never says that there is no worker. On a disk with too few sectors it answers `Range`, and
+/// leaves it alone.
 pub fn read_newest<D: Disk>(
     alloc: Global,
     disk: &mut D,
     geometry: &Geometry,
 ) -> Result<NewestProcessImage, ReadFault>
-    requires { total_sectors geometry.now ≤ (D.medium disk.old).sectors }
     ensures reads { OnlyReads (D.medium disk.old) (D.medium disk.new) }
     ensures tells { (image : DiskImage) → (D.medium disk.new).shows image
         → TellsNewest geometry.now image result }
     ensures finds { (image : DiskImage) → (D.medium disk.new).shows image
         → ReadsNewest geometry.now image result }
     ensures own { DeniesWorker result → ⊥ }
-    ensures cause { IfErr result (HasReadCause (D.medium disk.old) (D.medium disk.new)) }
+    ensures too_few { (D.medium disk.old).sectors < total_sectors geometry.now
+        → (disk.new ≡ disk.old) × (result ≡ Err (ReadFault.Disk DiskFault.Range)) }
+    ensures cause { IfErr result (λ e. ((D.medium disk.old).sectors < total_sectors geometry.now)
+        ⊎ HasReadCause (D.medium disk.old) (D.medium disk.new) e) }
     ensures asks { CallsUpTo (geometry.now.area_sectors + 2) (D.medium disk.old)
         (D.medium disk.new) }
 {
+    if let Err(fault) = test_sectors(disk, geometry.total_sectors()) {
+        return Err(ReadFault::Disk(fault));
+    }
     let mut snapshots = Snapshots::new();
     let found = match snapshots.newest_head(disk) {
         Ok(found) => found,
@@ -109,7 +118,8 @@ fn judge_mark(
 /// The records of a generation, in the order of their steps. They are read as those of this
 /// version. Where the first sector of the journal shows a later generation, the head of that one is
 /// lost: then it is `Layout` with `LaterGeneration`, no other sector is read, and no memory is
-/// wanted. It never says that there is no worker.
+/// wanted. It never says that there is no worker. On a disk with too few sectors it answers
+/// `Range`, and leaves it alone.
 pub fn read_records<D: Disk>(
     alloc: Global,
     disk: &mut D,
@@ -117,7 +127,6 @@ pub fn read_records<D: Disk>(
     version: Version,
     generation: u64,
 ) -> Result<Vec<Record>, ReadFault>
-    requires { total_sectors geometry.now ≤ (D.medium disk.old).sectors }
     ensures reads { OnlyReads (D.medium disk.old) (D.medium disk.new) }
     ensures scans { (image : DiskImage) → (D.medium disk.new).shows image
         → ReadsRecords geometry.now version generation image result }
@@ -126,7 +135,10 @@ pub fn read_records<D: Disk>(
     ensures once { (why : Damage) → result ≡ Err (ReadFault.Layout (LayoutFault.Damaged why))
         → (why ≡ Damage.LaterGeneration) × CallsUpTo 1 (D.medium disk.old) (D.medium disk.new) }
     ensures own { DeniesWorker result → ⊥ }
-    ensures cause { IfErr result (HasReadCause (D.medium disk.old) (D.medium disk.new)) }
+    ensures too_few { (D.medium disk.old).sectors < total_sectors geometry.now
+        → (disk.new ≡ disk.old) × (result ≡ Err (ReadFault.Disk DiskFault.Range)) }
+    ensures cause { IfErr result (λ e. ((D.medium disk.old).sectors < total_sectors geometry.now)
+        ⊎ HasReadCause (D.medium disk.old) (D.medium disk.new) e) }
     ensures asks { CallsUpTo geometry.now.journal_sectors (D.medium disk.old) (D.medium disk.new) }
 {
     match Journal::scan(alloc, disk, geometry, version, generation) {

@@ -2,10 +2,10 @@
 
 use crate::fault::StoreFault;
 use crate::saving::write_snapshot;
-use disk_layout::{Geometry, Record, takes_records};
+use disk_layout::{Geometry, Record, takes_records, test_sectors};
 use journal::Journal;
 use process::Process;
-use sector_disk::Disk;
+use sector_disk::{Disk, DiskFault};
 use snapshot::{HashedImage, Writing};
 use std::alloc::Global;
 use wasi_abi::Version;
@@ -20,8 +20,9 @@ pub struct WorkerStore {
 }
 
 impl WorkerStore {
-    ghost use Rattle.std.specs.Prelude.{◌≡◌, ◌⊎◌, ◌-◌, ◌<◌, ◌≤◌, ◌↔◌, true, IfErr, IsTrue};
-    ghost use Rattle.std.specs.Prelude.{OnErr, OnOk, length};
+    ghost use Rattle.std.specs.Prelude.{◌≡◌, ◌⊎◌, ◌-◌, ◌<◌, ◌≤◌, ◌↔◌, false, true, IfErr};
+    ghost use Rattle.std.specs.Prelude.{IsTrue, OnErr, OnOk, length};
+    ghost use Rattle.sector_disk.specs.declared.fault.DiskFault.{DiskFault};
     ghost use Rattle.disk_layout.specs.rules.Journal.{record_bytes, TakesRecords};
     ghost use Rattle.disk_layout.specs.rules.Places.{total_sectors};
     ghost use Rattle.journal.specs.rules.Packed.{sectors_for};
@@ -34,7 +35,8 @@ impl WorkerStore {
     /// Opens the store of a worker that a recovery has brought back to this process, from the disk
     /// that stands for it. It is committed as this generation, one more than that of the newest
     /// snapshot, and in the version of the process. Lines that wait in the process have been
-    /// released by the caller. Where its image is the known one again, no digest is computed.
+    /// released by the caller. Where its image is the known one again, no digest is computed. On a
+    /// disk with too few sectors it answers `Range`, and leaves it alone.
     pub fn reopen<D: Disk>(
         alloc: Global,
         disk: &mut D,
@@ -43,10 +45,14 @@ impl WorkerStore {
         process: &Process,
         known: Option<HashedImage>,
     ) -> Result<WorkerStore, StoreFault>
-        requires { total_sectors geometry.now ≤ (D.medium disk.old).sectors }
-        ensures { ReopensStore geometry.now generation process.now result (D.medium disk.old)
-            (D.medium disk.new) }
+        ensures reopens { ReopensStore geometry.now generation process.now result
+            (D.medium disk.old) (D.medium disk.new) }
+        ensures too_few { (D.medium disk.old).sectors < total_sectors geometry.now
+            → (disk.new ≡ disk.old) × (result ≡ Err (StoreFault.Disk DiskFault.Range)) }
     {
+        if let Err(fault) = test_sectors(disk, geometry.total_sectors()) {
+            return Err(StoreFault::Disk(fault));
+        }
         let written = write_snapshot(disk, geometry, generation, Writing::Changes, process, known);
         if let Err(fault) = written {
             return Err(StoreFault::from(fault));
@@ -126,9 +132,9 @@ impl WorkerStore {
     }
 
     /// Puts the records that only memory holds on the disk, and syncs. Without such records it
-    /// leaves the disk alone.
+    /// leaves the disk alone. On a disk with too few sectors it answers `Range`, and leaves it
+    /// alone.
     pub fn barrier<D: Disk>(&mut self, disk: &mut D) -> Result<(), StoreFault>
-        requires { total_sectors self.old.geometry ≤ (D.medium disk.old).sectors }
         ensures stores { StoresPending self.old self.new result (D.medium disk.old)
             (D.medium disk.new) }
         ensures quiet { length self.old.journal.kept ≡ 0 → disk.new ≡ disk.old }
@@ -138,6 +144,10 @@ impl WorkerStore {
             < sectors_for (length self.old.journal.kept)
             → ((result ≡ Err StoreFault.Full) ⊎ (result ≡ Err StoreFault.Failed))
             × (disk.new ≡ disk.old) }
+        ensures too_few { (D.medium disk.old).sectors < total_sectors self.old.geometry
+            → (disk.new ≡ disk.old) × (self.old.journal.has_failed ≡ false
+            → 0 < length self.old.journal.kept
+            → (result ≡ Err StoreFault.Full) ⊎ (result ≡ Err (StoreFault.Disk DiskFault.Range))) }
         ensures refused { self.old.journal.has_failed ≡ true
             → (result ≡ Err StoreFault.Failed) × (self.new ≡ self.old) × (disk.new ≡ disk.old) }
     {
@@ -150,21 +160,28 @@ impl WorkerStore {
     /// Puts the image of a process on the disk, as the next generation, and begins its journal. Of
     /// the sectors of the image it writes those that differ from what the area holds. Lines that
     /// wait in the process have been released by the caller: the image tells only their number.
-    /// Records that only memory holds are dropped, since the image comes after them.
+    /// Records that only memory holds are dropped, since the image comes after them. On a disk with
+    /// too few sectors it answers `Range`, and leaves it alone.
     pub fn commit<D: Disk>(
         &mut self,
         alloc: Global,
         disk: &mut D,
         process: &Process,
     ) -> Result<(), StoreFault>
-        requires { total_sectors self.old.geometry ≤ (D.medium disk.old).sectors }
         ensures commits { CommitsProcess process.now self.old self.new result (D.medium disk.old)
             (D.medium disk.new) }
+        ensures too_few { self.old.journal.has_failed ≡ false
+            → (D.medium disk.old).sectors < total_sectors self.old.geometry
+            → (disk.new ≡ disk.old) × (result ≡ Err (StoreFault.Disk DiskFault.Range)) }
         ensures refused { self.old.journal.has_failed ≡ true
             → (result ≡ Err StoreFault.Failed) × (self.new ≡ self.old) × (disk.new ≡ disk.old) }
     {
         if self.has_failed() {
             return Err(StoreFault::Failed);
+        }
+        if let Err(fault) = test_sectors(disk, self.total_sectors()) {
+            self.fail();
+            return Err(StoreFault::Disk(fault));
         }
         let next = self.journal.generation().saturating_add(1);
         let written = write_snapshot(disk, &self.geometry, next, Writing::Changes, process, None);

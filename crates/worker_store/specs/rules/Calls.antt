@@ -15,7 +15,7 @@ use Rattle.journal.specs.rules.Packed.{sectors_for}
 use Rattle.journal.specs.rules.State.{room_of}
 use Rattle.process_rules.specs.Runs.{Kept}
 use Rattle.disk_layout.specs.declared.geometry.Geometry.{Geometry}
-use Rattle.disk_layout.specs.rules.Places.{area_place, rounded_up}
+use Rattle.disk_layout.specs.rules.Places.{area_place, rounded_up, total_sectors}
 use Rattle.snapshot.specs.declared.writing.Writing.TheVariants.{Changes}
 use Rattle.snapshot.specs.rules.Calls.{PerformsStoresAndHead}
 use Rattle.worker_store.specs.restart_theorem.Stands.{IsNumbered}
@@ -60,8 +60,8 @@ abbrev pub BarrierFails : WorkerStore → Medium → Medium → StoreFault → T
 BarrierFails store old new Full = (0 < length store.journal.kept)
     × (store.geometry.journal_sectors
     < store.journal.used + sectors_for (length store.journal.kept))
-BarrierFails store old new (Disk fault) = (spare old < sectors_for (length store.journal.kept))
-    ⊎ (old.faults < new.faults)
+BarrierFails store old new (Disk fault) = (old.sectors < total_sectors store.geometry)
+    ⊎ (spare old < sectors_for (length store.journal.kept)) ⊎ (old.faults < new.faults)
 BarrierFails store old new Failed = store.journal.has_failed ≡ true
 BarrierFails store old new other = ⊥
 
@@ -99,8 +99,8 @@ CommitCalls geometry g process result old new = PerformsStoresAndHead (record {
 abbrev pub CommitFails : WorkerStore → ProcessValue → Medium → Medium → StoreFault → Type 0
 CommitFails store process old new TooBig = (NUMBERS_END ≤ store.journal.generation + 1)
     ⊎ (SECTOR_SIZE * store.geometry.area_sectors < length (process_image (saved_of process)))
-CommitFails store process old new (Disk fault) = (spare old < store.geometry.area_sectors)
-    ⊎ (old.room ≡ 0) ⊎ (old.faults < new.faults)
+CommitFails store process old new (Disk fault) = (old.sectors < total_sectors store.geometry)
+    ⊎ (spare old < store.geometry.area_sectors) ⊎ (old.room ≡ 0) ⊎ (old.faults < new.faults)
 CommitFails store process old new Failed = store.journal.has_failed ≡ true
 CommitFails store process old new other = ⊥
 
@@ -140,6 +140,6 @@ StoresAgain geometry g process store old new =
 abbrev pub ReopeningFails : Geometry → ℕ → ProcessValue → Medium → Medium → StoreFault → Type 0
 ReopeningFails geometry g process old new TooBig = (NUMBERS_END ≤ g)
     ⊎ (SECTOR_SIZE * geometry.area_sectors < length (process_image (saved_of process)))
-ReopeningFails geometry g process old new (Disk fault) = (spare old < geometry.area_sectors)
-    ⊎ (old.room ≡ 0) ⊎ (old.faults < new.faults)
+ReopeningFails geometry g process old new (Disk fault) = (old.sectors < total_sectors geometry)
+    ⊎ (spare old < geometry.area_sectors) ⊎ (old.room ≡ 0) ⊎ (old.faults < new.faults)
 ReopeningFails geometry g process old new other = ⊥

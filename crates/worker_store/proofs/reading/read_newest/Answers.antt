@@ -1,6 +1,7 @@
-use Rattle.std.proofs.Common.{rules, ℕ, ap, sym, subst, inl, ◌∙◌}
+use Rattle.std.proofs.Common.{◌<◌, rules, arith, ℕ, ap, sym, subst, inl, inr, ⊎_elim, ◌∙◌}
 use Rattle.std.proofs.lemmas.Bool.{false≢true}
 use Rattle.disk_layout.specs.declared.head.Head.{Head}
+use Rattle.disk_layout.specs.rules.Places.{journal_place, total_sectors}
 use Rattle.snapshot.specs.rules.Heads.{FindsHead}
 use Rattle.std.specs.Prelude.{Result, Err, List, IsTrue, Option}
 use Rattle.sector_disk.proofs.Moments.{stays_shows}
@@ -46,12 +47,12 @@ returns-clause-tells g c image shown =
     (let r : Result (List ℕ) SnapshotFault = Err f in r)) same))))
     (c.in-Err-process_image_of.ensures.process_image image shown)
 
-pub returns-in-Err-clause-tells : goal.returns-in-Err-clause-tells
-returns-in-Err-clause-tells g c = search rules
+pub returns-in-Err-newest_head-clause-tells : goal.returns-in-Err-newest_head-clause-tells
+returns-in-Err-newest_head-clause-tells g c = search rules
 
-pub returns-in_default-clause-tells : goal.returns-in_default-clause-tells
-returns-in_default-clause-tells g c image shown =
-    inl (subst (λ (o : Option Head). FindsHead image o) c.in_default.is
+pub returns-in_default-found-clause-tells : goal.returns-in_default-found-clause-tells
+returns-in_default-found-clause-tells g c image shown =
+    inl (subst (λ (o : Option Head). FindsHead image o) c.in_default-found.is
     (c.in-Ok.ensures.finds image shown))
 
 pub returns-in_default-known_version-clause-tells :
@@ -69,15 +70,15 @@ returns-then-not-takes_records-clause-tells g c image shown =
 
 -- ---- where a savepoint is
 
-pub returns-in-Err-clause-finds : goal.returns-in-Err-clause-finds
-returns-in-Err-clause-finds g c image shown =
+pub returns-in-Err-newest_head-clause-finds : goal.returns-in-Err-newest_head-clause-finds
+returns-in-Err-newest_head-clause-finds g c image shown =
     reads_newest c.args.geometry.now image (Err c.from.result)
-    (returns-in-Err-clause-tells g c image shown)
+    (returns-in-Err-newest_head-clause-tells g c image shown)
 
-pub returns-in_default-clause-finds : goal.returns-in_default-clause-finds
-returns-in_default-clause-finds g c image shown =
+pub returns-in_default-found-clause-finds : goal.returns-in_default-found-clause-finds
+returns-in_default-found-clause-finds g c image shown =
     reads_newest c.args.geometry.now image (Err (read.Snapshot Damaged))
-    (returns-in_default-clause-tells g c image shown)
+    (returns-in_default-found-clause-tells g c image shown)
 
 pub returns-in_default-known_version-clause-finds :
     goal.returns-in_default-known_version-clause-finds
@@ -105,18 +106,41 @@ returns-clause-finds g c image shown =
 
 pub returns-in-Err-clause-cause : goal.returns-in-Err-clause-cause
 returns-in-Err-clause-cause g c =
-    head_cause (Option Head) (g.D.Disk.medium c.args.disk.now)
-    (g.D.Disk.medium c.newest_head.new.disk) c.in-Err.fault c.from.result c.from.ensures
-    c.new-snapshots.result c.new-snapshots.ensures.idle (c.in-Err.ensures.cause (search rules))
+    let few : (g.D.Disk.medium c.args.disk.now).sectors < total_sectors c.args.geometry.now =
+    let f = c.in-Err.ensures.too_few.1 in let n = c.total_sectors.ensures in omega (arith, f, n) in
+    inl few
+
+pub returns-in-Err-newest_head-clause-cause : goal.returns-in-Err-newest_head-clause-cause
+returns-in-Err-newest_head-clause-cause g c =
+    let old = g.D.Disk.medium c.args.disk.now in
+    let enough = c.in_default.ensures.enough in
+    let total = c.total_sectors.ensures in
+    inr (head_cause (Option Head) old (g.D.Disk.medium c.newest_head.new.disk)
+    c.in-Err-newest_head.fault c.from.result c.from.ensures c.new-snapshots.result
+    c.new-snapshots.ensures.idle (⊎_elim (λ failed. inl failed)
+    (λ told. inr (
+      told.0,
+      told.1,
+      ⊎_elim (λ (few : old.sectors < 3). absurd (omega (arith, few, enough, total)))
+          (λ failure. failure) told.2,
+    )) (c.in-Err-newest_head.ensures.cause (search rules))))
 
 pub returns-clause-cause : goal.returns-clause-cause
 returns-clause-cause g c =
-    snapshot_later (List ℕ) (g.D.Disk.medium c.args.disk.now)
-    (g.D.Disk.medium c.process_image_of.new.disk) (g.D.Disk.medium c.newest_head.new.disk)
-    c.in-Ok.ensures.reads c.in-Err-process_image_of.fault c.from-in-Err-process_image_of.result
+    let old = g.D.Disk.medium c.args.disk.now in
+    let mid = g.D.Disk.medium c.newest_head.new.disk in
+    let enough = c.in_default.ensures.enough in
+    let total = c.total_sectors.ensures in
+    let reads = c.in-Ok.ensures.reads in
+    let same = reads.leaves.passes.sectors in
+    inr (snapshot_later (List ℕ) old (g.D.Disk.medium c.process_image_of.new.disk) mid reads
+    c.in-Err-process_image_of.fault c.from-in-Err-process_image_of.result
     c.from-in-Err-process_image_of.ensures
     (λ same. idle_works c.new-snapshots.result c.new-snapshots.ensures.idle
     (subst (λ (s : Snapshots). IsTrue (is_failed s)) c.in-Ok.ensures.same
     (c.in-Err-process_image_of.ensures.fails.refused.0 (ap (λ (f : SnapshotFault).
     (let r : Result (List ℕ) SnapshotFault = Err f in r)) same))))
-    c.in-Err-process_image_of.ensures.cause
+    (λ fault is. ⊎_elim
+    (λ (few : mid.sectors < journal_place c.args.geometry.now).
+    absurd (omega (arith, few, same, enough, total)))
+    (λ failure. failure) (c.in-Err-process_image_of.ensures.cause fault is)))

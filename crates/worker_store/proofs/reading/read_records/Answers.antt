@@ -1,8 +1,13 @@
-use Rattle.std.proofs.Common.{ap, ⊎_elim, arith}
+use Rattle.std.proofs.Common.{◌≡◌, ◌<◌, ◌≤◌, ◌∙◌, ap, inl, inr, ⊎_elim, arith}
+use Rattle.std.proofs.lemmas.Bool.{cases_lt}
 use Rattle.std.specs.Prelude.{Result, Err}
+use Rattle.sector_disk.specs.declared.fault.DiskFault.TheVariants.{Range}
+use Rattle.disk_layout.specs.rules.Places.{total_sectors}
 use Rattle.disk_layout.specs.declared.fault.LayoutFault.TheVariants as layout
 use Rattle.journal.specs.declared.fault.JournalFault.{JournalFault}
+use Rattle.journal.specs.declared.fault.JournalFault.TheVariants as journal
 use Rattle.journal.specs.declared.scanned.ScannedJournal.{ScannedJournal}
+use Rattle.worker_store.specs.rules.ReadFaults.{read_of_journal}
 use Rattle.worker_store.proofs.ReadCauseLemmas.{journal_cause}
 use Rattle.worker_store.proofs.ScanLemmas.{judged_scan, unscanned, not_of_layout, refused_later}
 use Rattle.worker_store.proofs.ScanLemmas.{reads_records}
@@ -51,15 +56,24 @@ returns-in-Err-clause-once g c why same =
 pub returns-in-Err-clause-cause : goal.returns-in-Err-clause-cause
 returns-in-Err-clause-cause g c =
     let failed = c.in-Err.ensures in
-    journal_cause ScannedJournal (g.D.Disk.medium c.args.disk.now)
-    (g.D.Disk.medium c.scan.new.disk) c.in-Err.fault c.from.result c.from.ensures failed.which_fault
-    (λ fault is. ⊎_elim (λ few. absurd (omega (arith, few, c.requires))) (λ failure. failure)
-    (failed.cause fault is))
+    let old = g.D.Disk.medium c.args.disk.now in
+    let total = total_sectors c.args.geometry.now in
+    ⊎_elim (λ (few : old.sectors < total). inl few)
+    (λ (enough : total ≤ old.sectors).
+    inr (journal_cause ScannedJournal old (g.D.Disk.medium c.scan.new.disk) c.in-Err.fault
+    c.from.result c.from.ensures failed.which_fault
+    (λ fault is. ⊎_elim (λ (few : old.sectors < total). absurd (omega (arith, few, enough)))
+    (λ failure. failure) (failed.cause fault is))))
+    (cases_lt old.sectors total)
 
--- ---- how many calls
+-- ---- on a disk with too few sectors
 
-pub returns-in-Ok-clause-asks : goal.returns-in-Ok-clause-asks
-returns-in-Ok-clause-asks g c = c.in-Ok.ensures.asks c.requires
+pub returns-in-Ok-clause-too_few : goal.returns-in-Ok-clause-too_few
+returns-in-Ok-clause-too_few g c few = let no = (c.in-Ok.ensures.too_few few).1 in absurd (cc)
 
-pub returns-in-Err-clause-asks : goal.returns-in-Err-clause-asks
-returns-in-Err-clause-asks g c = c.in-Err.ensures.asks c.requires
+pub returns-in-Err-clause-too_few : goal.returns-in-Err-clause-too_few
+returns-in-Err-clause-too_few g c few =
+    let small = c.in-Err.ensures.too_few few in
+    let same = small.1 in
+    let named : c.in-Err.fault ≡ journal.Disk Range = cc in
+    (small.0, ap Err (c.from.ensures ∙ ap read_of_journal named))

@@ -1,10 +1,14 @@
-use Rattle.std.proofs.Common.{◌+◌, length, refl, ap, arith, rules}
+use Rattle.std.proofs.Common.{◌≡◌, ◌+◌, length, refl, ap, inl, inr, ⊎_elim, arith, rules, Err}
 use Rattle.std.proofs.lemmas.Grind.{common_steps}
+use Rattle.sector_disk.specs.declared.fault.DiskFault.TheVariants.{Range}
+use Rattle.journal.specs.declared.fault.JournalFault.TheVariants as of_journal
 use Rattle.journal.specs.rules.Packed.{sectors_for}
 use Rattle.journal.specs.rules.State.{JournalState}
+use Rattle.worker_store.specs.declared.fault.StoreFault.TheVariants.{Full, Disk}
 use Rattle.worker_store.specs.declared.store.WorkerStore.{WorkerStore}
 use Rattle.worker_store.proofs.AppendLemmas.{store_refuses}
 use Rattle.worker_store.proofs.StoreLemmas.{barrier_leaves, barrier_stores, barrier_fails_so}
+use Rattle.worker_store.proofs.StoreLemmas.{barrier_asks, told_fault}
 use Rattle.worker_store.proofs.store.WorkerStore.barrier.Goals as goal
 
 pub returns-in-Err-clause-stores : goal.returns-in-Err-clause-stores
@@ -18,14 +22,16 @@ returns-in-Err-clause-stores g c =
       calls = search rules;
       cause = barrier_fails_so c.args.self.now c.barrier.new.self (g.D.Disk.medium c.args.disk.now)
           (g.D.Disk.medium c.barrier.new.disk) c.in-Err.fault c.from.result c.from.ensures
-          c.requires c.in-Err.ensures.stores;
+          c.in-Err.ensures.stores;
       fails = ap (λ (j : JournalState). j.has_failed) c.in-Err.ensures.stores.err;
       stays = record {
         geometry = refl;
         generation = ap (λ (j : JournalState). j.generation) c.in-Err.ensures.stores.err;
       };
       passes = search rules;
-      asks = first_of (search rules, grind (arith, common_steps));
+      asks = barrier_asks g.D.Disk.medium c.args.self.now.geometry c.args.disk.now
+          c.barrier.new.disk (λ few. (c.barrier.ensures.too_few few).0)
+          c.barrier.ensures.stores.asks;
       counts = first_of (search rules, grind (arith, common_steps));
     }
 
@@ -55,9 +61,35 @@ returns-clause-stores g c =
         generation = ap (λ (j : JournalState). j.generation) c.in_default.ensures.stores.ok;
       };
       passes = search rules;
-      asks = first_of (search rules, grind (arith, common_steps));
+      asks = barrier_asks g.D.Disk.medium c.args.self.now.geometry c.args.disk.now
+          c.barrier.new.disk (λ few. (c.barrier.ensures.too_few few).0)
+          c.barrier.ensures.stores.asks;
       counts = first_of (search rules, grind (arith, common_steps));
     }
+
+-- ---- on a disk with too few sectors
+
+pub returns-in-Err-clause-too_few : goal.returns-in-Err-clause-too_few
+returns-in-Err-clause-too_few g c few =
+    let small = c.in-Err.ensures.too_few few in (
+      small.0,
+      λ works some.
+          ⊎_elim (λ (full : c.from.result ≡ Full). (let e = ap Err full in inl e))
+          (λ (range : c.from.result ≡ Disk Range). (let e = ap Err range in inr e))
+          (told_fault c.in-Err.fault c.from.result c.from.ensures
+          (⊎_elim (λ full. (let e : c.in-Err.fault ≡ of_journal.Full = cc in inl e))
+          (λ range. (let e : c.in-Err.fault ≡ of_journal.Disk Range = cc in inr e))
+          (small.1 works some))),
+    )
+
+pub returns-clause-too_few : goal.returns-clause-too_few
+returns-clause-too_few g c few =
+    let small = c.in_default.ensures.too_few few in (
+      small.0,
+      λ works some.
+          absurd (⊎_elim (λ full. (let no : ⊥ = cc in no)) (λ range. (let no : ⊥ = cc in no))
+          (small.1 works some)),
+    )
 
 pub returns-in-Err-clause-refused : goal.returns-in-Err-clause-refused
 returns-in-Err-clause-refused g c failed =

@@ -1,18 +1,20 @@
 use Rattle.std.proofs.Common.{◌≡◌, ◌+◌, ◌<◌, ◌≤◌, ◌∙◌, [], length, refl, sym, ap, arith, true}
-use Rattle.std.proofs.Common.{false, ⊎_elim, rules}
+use Rattle.std.proofs.Common.{false, inl, ⊎_elim, rules}
 use Rattle.std.proofs.lemmas.Grind.{common_steps}
 use Rattle.std.proofs.lemmas.Bool.{cases_lt}
 use Rattle.std.specs.Prelude.{Result, Err}
 use Rattle.wasi_abi.specs.declared.numbers.TheConstants.{NUMBERS_END}
+use Rattle.wasi_abi.specs.rules.Versions.{version_number}
 use Rattle.sector_disk.proofs.Moments.{started, weaker}
-use Rattle.disk_layout.specs.rules.Places.{area_place, rounded_up}
+use Rattle.disk_layout.specs.rules.Places.{area_place, rounded_up, total_sectors}
 use Rattle.journal.specs.rules.State.{JournalState, state}
 use Rattle.snapshot.specs.declared.fault.SnapshotFault.{SnapshotFault}
 use Rattle.snapshot.specs.declared.writing.Writing.TheVariants.{Changes}
+use Rattle.snapshot.proofs.SnapshotLemmas.{none_commits}
 use Rattle.state_image.specs.rules.ProcessImage.{process_image}
 use Rattle.state_image.specs.rules.Saving.{saved_of}
 use Rattle.worker_store.specs.declared.fault.StoreFault.{StoreFault}
-use Rattle.worker_store.specs.declared.fault.StoreFault.TheVariants.{Failed}
+use Rattle.worker_store.specs.declared.fault.StoreFault.TheVariants.{Disk, Failed}
 use Rattle.worker_store.proofs.SavingLemmas.{none_performed, none_performed_still, stored_err}
 use Rattle.worker_store.proofs.SavingLemmas.{stored_ok}
 use Rattle.worker_store.specs.declared.store.WorkerStore.{WorkerStore}
@@ -21,6 +23,35 @@ use Rattle.worker_store.proofs.store.WorkerStore.commit.Goals as goal
 
 pub returns-in-Err-clause-commits : goal.returns-in-Err-clause-commits
 returns-in-Err-clause-commits g c =
+    let m = g.D.Disk.medium c.args.disk.now in
+    let s = c.args.self.now in
+    let image = process_image (saved_of c.args.process.now) in
+    let version = version_number (saved_of c.args.process.now).version in
+    let next = s.journal.generation + 1 in
+    let few : m.sectors < total_sectors s.geometry = let f = c.in-Err.ensures.too_few.1 in
+    let n = c.total_sectors.ensures in omega (arith, f, n) in
+    record {
+      any_moment = commit_leaves g.D.Disk.medium s c.args.process.now c.args.disk.now
+          c.args.disk.now next (λ below. refl) (none_commits s.geometry next version image m);
+      durable = tt;
+      calls = let r : Result (Unit {0}) StoreFault = Err (Disk c.in-Err.fault) in
+          none_performed Changes (area_place s.geometry next) (rounded_up (length image)) next r m
+          refl;
+      cause = inl few;
+      fails = ap (λ (s : WorkerStore). s.journal.has_failed) c.fail.ensures;
+      unchanged = c.fail.ensures;
+      stays = ap (λ (s : WorkerStore). s.geometry) c.fail.ensures;
+      numbered = tt;
+      fresh = tt;
+      begun = tt;
+      all_synced = tt;
+      passes = started m (λ image. Unit {0});
+      asks = omega arith;
+      counts = first_of (search rules, grind (arith, common_steps));
+    }
+
+pub returns-in-Err-written-clause-commits : goal.returns-in-Err-written-clause-commits
+returns-in-Err-written-clause-commits g c =
     record {
       any_moment = commit_leaves g.D.Disk.medium c.args.self.now c.args.process.now c.args.disk.now
           c.write_snapshot-written.new.disk c.saturating_add-next.result
@@ -47,9 +78,9 @@ returns-in-Err-clause-commits g c =
           let s = c.generation.ensures in omega (arith, late, e, s))) refl)
           (cases_lt s.journal.generation NUMBERS_END);
       cause = first_of (search rules, grind (arith, common_steps));
-      fails = ap (λ (s : WorkerStore). s.journal.has_failed) c.fail.ensures;
-      unchanged = c.fail.ensures;
-      stays = ap (λ (s : WorkerStore). s.geometry) c.fail.ensures;
+      fails = ap (λ (s : WorkerStore). s.journal.has_failed) c.fail-in-Err-written.ensures;
+      unchanged = c.fail-in-Err-written.ensures;
+      stays = ap (λ (s : WorkerStore). s.geometry) c.fail-in-Err-written.ensures;
       numbered = search rules;
       fresh = first_of (search rules, grind (arith, common_steps));
       begun = first_of (search rules, grind (arith, common_steps));
@@ -77,7 +108,7 @@ returns-clause-commits g c =
           } in
           let leaves = c.write_snapshot-written.ensures.any_moment in
           let p = leaves.passes in
-          let ok = c.in_default.ensures in
+          let ok = c.in_default-written.ensures in
           commit_stores g.D.Disk.medium before c.args.process.now c.args.disk.now
           c.write_snapshot-written.new.disk c.saturating_add-next.result
           (λ below. let e = c.saturating_add-next.ensures in let s = c.generation.ensures in
@@ -90,15 +121,16 @@ returns-clause-commits g c =
           (rounded_up (length (process_image (saved_of c.args.process.now))))
           c.saturating_add-next.result (s.journal.generation + 1) (g.D.Disk.medium c.args.disk.now)
           (g.D.Disk.medium c.write_snapshot-written.new.disk)
-          (let early = c.in_default.ensures.early in let e = c.saturating_add-next.ensures in
+          (let early = c.in_default-written.ensures.early in
+          let e = c.saturating_add-next.ensures in
           let s = c.generation.ensures in omega (arith, early, e, s)) tt tt
-          c.in_default.ensures.calls;
+          c.in_default-written.ensures.calls;
       cause = first_of (search rules, grind (arith, common_steps));
       fails = search rules;
       unchanged = search rules;
       stays = search rules;
       numbered = let fresh = ap (λ (j : JournalState). j.generation) c.fresh.ensures in
-          let early = c.in_default.ensures.early in
+          let early = c.in_default-written.ensures.early in
           let next = c.saturating_add-next.ensures in
           let now = c.generation.ensures in
           omega (arith, fresh, early, next, now);
@@ -139,8 +171,8 @@ returns-then-has_failed-clause-commits g c =
       counts = first_of (search rules, grind (arith, common_steps));
     }
 
-pub returns-in-Err-clause-refused : goal.returns-in-Err-clause-refused
-returns-in-Err-clause-refused g c failed =
+pub returns-in-Err-written-clause-refused : goal.returns-in-Err-written-clause-refused
+returns-in-Err-written-clause-refused g c failed =
     let asked = c.has_failed.ensures in
     let works = c.if-has_failed.false in
     absurd (cc)
