@@ -62,7 +62,7 @@ pub lines_of_runs : (guest : Guest) (p q : ProcessState) (kept : List Kept) (n :
 lines_of_runs guest p q kept n runs =
     more_lines p.host q.host (runs_emit guest p q kept n runs)
 
-none_more : (xs ys zs : List Kept) (a : ℕ) → xs ++ ys ≡ take a zs → xs ≡ zs → ys ≡ []
+pub none_more : (xs ys zs : List Kept) (a : ℕ) → xs ++ ys ≡ take a zs → xs ≡ zs → ys ≡ []
 none_more xs ys zs a e same = by ys (length-append xs ys) (ap length e) (ap length same)
   where
     by : (ys : List Kept) → length (xs ++ ys) ≡ length xs + length ys

@@ -6,18 +6,19 @@ use Rattle.std.proofs.lemmas.List.{drop_all}
 use Rattle.std.specs.Prelude.{Result, Ok, Err, map}
 use Rattle.sector_disk.specs.rules.Medium.{Medium}
 use Rattle.record_replay.specs.rules.Calls.{Giving, Taking}
-use Rattle.worker_store.specs.restart_theorem.Lives.{Act, Checkpoint, Upgrade}
-use Rattle.worker_store.specs.restart_theorem.Lives.{Slice}
+use Rattle.worker_store.specs.restart_theorem.Lives.{Act, Slice, Batch, Checkpoint, Upgrade}
 use Rattle.record_replay.specs.declared.slices.now.Now.{Now}
 use Rattle.worker.specs.declared.fault.WorkFault.{WorkFault}
 use Rattle.worker.specs.declared.recover_fault.RecoverFault.{RecoverFault}
 use Rattle.worker.specs.declared.recover_fault.RecoverFault.TheVariants as recover
+use Rattle.worker.specs.rules.Batches.{BatchCarries}
 use Rattle.worker.specs.rules.Checkpoints.{CheckpointFails}
 use Rattle.worker.specs.rules.DurableCalls.{SliceCarries, CheckpointCarries, UpgradeCarries}
 use Rattle.worker.specs.rules.Upgrades.{UpgradeFails}
 use Rattle.worker.specs.rules.DurableValues.{DurableValue}
-use Rattle.worker.specs.rules.OneLife.{CallsInOrder, no_more, sliced, slice_failed, saved}
-use Rattle.worker.specs.rules.OneLife.{saving_failed, was_upgraded, upgrade_failed}
+use Rattle.worker.specs.rules.OneLife.{CallsInOrder, no_more, sliced, slice_failed, batched}
+use Rattle.worker.specs.rules.OneLife.{batch_failed, saved, saving_failed, was_upgraded}
+use Rattle.worker.specs.rules.OneLife.{upgrade_failed}
 use Rattle.worker.specs.declared.story.life.PlannedAct.{PlannedAct}
 use Rattle.worker.specs.rules.Planned.{act_of}
 use Rattle.worker.specs.LifeCalls.{DoesAct}
@@ -38,6 +39,21 @@ module _ {D S O : Type 0} (medium : D → Medium) (gives : Giving S) (takes : Ta
       → DoesAct medium gives takes (Slice fuel) w disk source outlet (Err why) w' disk' source'
       outlet'
   slice_fails fuel why source source' outlet outlet' carries = λ acts. slice_failed carries
+
+  pub batch_is_done : (fuel most : ℕ) (said : Now) (source source' : S) (outlet outlet' : O)
+      → BatchCarries gives takes w fuel most (Ok said) w' (medium disk) (medium disk') source
+      source' outlet outlet'
+      → DoesAct medium gives takes (Batch fuel most) w disk source outlet (Ok tt) w' disk' source'
+      outlet'
+  batch_is_done fuel most said source source' outlet outlet' carries =
+      λ acts undone last source_last outlet_last rest. batched said carries rest
+
+  pub batch_fails : (fuel most : ℕ) (why : WorkFault) (source source' : S) (outlet outlet' : O)
+      → BatchCarries gives takes w fuel most (Err why) w' (medium disk) (medium disk') source
+      source' outlet outlet'
+      → DoesAct medium gives takes (Batch fuel most) w disk source outlet (Err why) w' disk' source'
+      outlet'
+  batch_fails fuel most why source source' outlet outlet' carries = λ acts. batch_failed carries
 
   pub saving_is_done : (source : S) (outlet : O)
       → CheckpointCarries w (Ok tt) w' (medium disk) (medium disk')

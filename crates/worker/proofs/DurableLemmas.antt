@@ -1,6 +1,9 @@
 pub mod OnDisk
 pub mod Bounds
+pub mod Syncing
+pub mod Holding
 pub mod Ends
+pub mod Telling
 pub mod Flushing
 pub mod Rooms
 pub mod Hearing
@@ -8,5 +11,14 @@ pub mod Keeping
 pub mod Asking
 pub mod Advancing
 pub mod InVain
+pub mod Stopping
+pub mod AskingInBatch
 pub mod Working
+pub mod Queueing
+pub mod BatchParts
+pub mod Batching
+pub mod BatchFaults
+pub mod InBatch
+pub mod Freeing
+pub mod BatchEnds
 pub mod Slicing

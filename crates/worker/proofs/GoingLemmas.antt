@@ -166,7 +166,7 @@ inputs_more (p ∷ planned) one = ap (λ (l : List Inputs). inputs_of p ∷ l) (
 module _ (bytes : List ℕ) (config : Settings) (planned : List PlannedLife)
     (reports : List LifeReport) (found next : MemDisk) (one : PlannedLife) (report : LifeReport)
   where
-    one_more_has_gone : GoneOn bytes config planned reports found
+    pub one_more_has_gone : GoneOn bytes config planned reports found
         → LivesOn bytes config one found report next
         → IsRunOn bytes config one report found next
         → GoneOn bytes config (planned ++ one ∷ []) (reports ++ report ∷ []) next
@@ -190,30 +190,6 @@ module _ (bytes : List ℕ) (config : Settings) (planned : List PlannedLife)
           kept = subst (λ (p : Promise). IsKeptOn m bytes config p next)
               (sym (promised_more nothing_yet gone.lives on.life)) on.kept;
         }
-
--- so it is with the life at a place of a list
-pub next_has_gone : (bytes : List ℕ) (config : Settings) (all : List PlannedLife) (i : ℕ)
-    (one : PlannedLife) (reports reports' : List LifeReport) (report : LifeReport)
-    (found next : MemDisk) → i < length all → one ≡ get_or all i one
-    → GoneOn bytes config (take i all) reports found → LivesOn bytes config one found report next
-    → IsRunOn bytes config one report found next → reports' ≡ reports ++ report ∷ []
-    → GoneOn bytes config (take (i + 1) all) reports' next
-next_has_gone bytes config all i one reports reports' report found next within is so_far lives
-    run more =
-    let front : take (i + 1) all ≡ take i all ++ one ∷ [] =
-    take_more all i one within ∙ ap (λ (p : PlannedLife). take i all ++ p ∷ []) (sym is) in
-    subst (λ (p : List PlannedLife). GoneOn bytes config p reports' next) (sym front)
-    (subst (λ (r : List LifeReport). GoneOn bytes config (take i all ++ one ∷ []) r next) (sym more)
-    (one_more_has_gone bytes config (take i all) reports found next one report so_far lives run))
-
--- all lives are told
-pub all_are_told : (bytes : List ℕ) (config : Settings) (all : List PlannedLife) (i : ℕ)
-    (reports : List LifeReport) (disk : MemDisk) → length all ≤ i
-    → GoneOn bytes config (take i all) reports disk → TellsLives bytes config all reports
-all_are_told bytes config all i reports disk whole so_far m accepted =
-    let gone = subst (λ (p : List PlannedLife). GoneOn bytes config p reports disk)
-    (take_all i all whole) so_far m accepted in
-    (gone.lives, gone.go_on, gone.told, gone.few, gone.first, disk, gone.empty, gone.run)
 
 -- ---- one life
 

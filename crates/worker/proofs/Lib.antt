@@ -1,3 +1,4 @@
+mod EnoughLemmas
 mod SavingLemmas
 mod CallCountLemmas
 mod PayingLemmas
@@ -28,6 +29,8 @@ pub mod OutletLemmas
 mod HeardLemmas
 mod EndLemmas
 mod GoingLemmas
+mod KeptLemmas
+mod StartLemmas
 mod RunLemmas
 pub mod StopLemmas
 mod FoundDiskLemmas

@@ -7,10 +7,12 @@ use Rattle.record_replay.specs.rules.Calls.{Giving, Taking}
 use Rattle.record_replay.specs.declared.slices.now.Now.{Now}
 use Rattle.record_replay.specs.declared.slices.fault.SliceFault.TheVariants as slice
 use Rattle.worker.specs.declared.fault.WorkFault.TheVariants.{Work}
+use Rattle.worker.specs.rules.Batches.{RunsBatch}
 use Rattle.worker.specs.rules.CallCounts.{most_saving}
 use Rattle.worker.specs.rules.DurableValues.{DurableValue, IsTooSmallFor}
 use Rattle.worker.specs.rules.Effects.{KeepsInSaving, RunsSlice, SavesWorker, UpgradesWorker}
 use Rattle.worker.proofs.CheckpointLemmas.{failed_carries, failed_fails, failed_calls}
+use Rattle.worker.proofs.DurableLemmas.BatchEnds.{failed_batch_carries}
 use Rattle.worker.proofs.DurableLemmas.InVain.{not_both}
 use Rattle.worker.proofs.DurableLemmas.Working.{failed_carries as slice_failed_carries}
 use Rattle.worker.proofs.RecoveryCallLemmas.{none_called}
@@ -36,6 +38,24 @@ module _ (w : DurableValue) (failed : w.has_failed ≡ true) (disk : Medium)
     done = tt;
     carries = slice_failed_carries gives takes w w fuel (Err (Work slice.Failed)) disk disk source
         outlet failed;
+    abreast = tt;
+    fails = failed;
+    calls = failed_slice_calls Now w.store disk (Work slice.Failed);
+    replayed = refl;
+    failed = λ works. absurd (not_both w.has_failed failed works);
+    on_any_disk = failed;
+    room = room;
+    counts = counts_none w.store.geometry disk;
+  }
+
+  pub batch_refused : {S O : Type 0} (gives : Giving S) (takes : Taking O) (fuel most : ℕ)
+      (source : S) (outlet : O) → RunsBatch gives takes fuel most w w (Err (Work slice.Failed)) disk
+      disk source source outlet outlet
+  batch_refused gives takes fuel most source outlet = record {
+    shows = λ works. absurd (not_both w.has_failed failed works);
+    done = tt;
+    carries = failed_batch_carries gives takes w w fuel most (Err (Work slice.Failed)) disk disk
+        source outlet failed;
     abreast = tt;
     fails = failed;
     calls = failed_slice_calls Now w.store disk (Work slice.Failed);

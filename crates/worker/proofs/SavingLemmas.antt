@@ -29,6 +29,7 @@ use Rattle.worker_store.specs.rules.Calls.{LeavesFronts, StoresAll, BarrierFails
 use Rattle.worker_store.specs.rules.Calls.{StoresNext, CommitCalls, CommitFails}
 use Rattle.worker_store.specs.rules.Stores.{IsStoreOf, IsOfStore}
 use Rattle.worker.specs.Savings.{LeavesFrontOrNext, SaveCalls, IsSaveFault, SaveFails}
+use Rattle.worker.proofs.EnoughLemmas.{store_has_enough}
 
 -- ---- moments
 
@@ -118,9 +119,12 @@ module _ (m : Module) (config : Settings) (point : Savepoint m config) (before :
   barrier_fault store.TooBig fails = absurd fails
   barrier_fault store.Damaged fails = absurd fails
   barrier_fault (store.Layout fault) fails = absurd fails
-  barrier_fault (store.Disk fault) (inl few) =
+  barrier_fault (store.Disk fault) (inl small) =
+      let enough = store_has_enough m config point before records pending last now old is in
+      absurd (omega (arith, small, enough))
+  barrier_fault (store.Disk fault) (inr (inl few)) =
       let synced = is.all_synced.unsynced in inl (omega (arith, few, synced))
-  barrier_fault (store.Disk fault) (inr failed) = inr (inr (inr failed))
+  barrier_fault (store.Disk fault) (inr (inr failed)) = inr (inr (inr failed))
   barrier_fault store.Memory fails = absurd fails
   barrier_fault store.Failed failed = let works = is.works in absurd (cc)
 
@@ -139,14 +143,18 @@ module _ (m : Module) (config : Settings) (point : Savepoint m config) (before :
     commit_fault store.TooLong fails = absurd fails
     commit_fault store.Damaged fails = absurd fails
     commit_fault (store.Layout fault) fails = absurd fails
-    commit_fault (store.Disk fault) (inl few) =
+    commit_fault (store.Disk fault) (inl small) =
+        let enough = store_has_enough m config point between (records ++ pending) [] now now mid
+        there in
+        absurd (omega (arith, small, enough))
+    commit_fault (store.Disk fault) (inr (inl few)) =
         let synced = there.all_synced.unsynced in
         let same = ap (λ (g : Geometry). g.area_sectors) stays.geometry in
         let room = passes.room in
         inr (inl (omega (arith, few, synced, same, room)))
-    commit_fault (store.Disk fault) (inr (inl none)) =
+    commit_fault (store.Disk fault) (inr (inr (inl none))) =
         let room = passes.room in inr (inr (inl (omega (arith, none, room))))
-    commit_fault (store.Disk fault) (inr (inr failed)) =
+    commit_fault (store.Disk fault) (inr (inr (inr failed))) =
         let faults = passes.faults in inr (inr (inr (omega (arith, failed, faults))))
     commit_fault store.Memory fails = absurd fails
     commit_fault store.Failed failed = let works = there.works in absurd (cc)

@@ -14,7 +14,7 @@ use Rattle.sector_disk.specs.declared.disk_call.DiskCall.{DiskCall}
 use Rattle.sector_disk.specs.declared.sector.TheConstants.{SECTOR_SIZE}
 use Rattle.sector_disk.specs.rules.Medium.{Medium, Passes, IsAllSynced, BeginsCalls, CountsUpTo}
 use Rattle.sector_disk.proofs.Moments.{started, goes_on}
-use Rattle.disk_layout.specs.rules.Places.{Geometry, journal_place}
+use Rattle.disk_layout.specs.rules.Places.{Geometry, journal_place, total_sectors}
 use Rattle.disk_layout.specs.rules.Journal.{Record}
 use Rattle.journal.specs.rules.Packed.{sectors_for}
 use Rattle.journal.specs.rules.State.{JournalState}
@@ -281,25 +281,30 @@ module _ (old new : WorkerStore) (disk disk' : Medium) (stays : IsOfStore old ne
     calls = with_none (barrier_calls old.geometry old.journal) disk.calls disk'.calls made;
   }
 
-  barrier_cause : (fault : StoreFault) → BarrierFails old disk disk' fault
+  barrier_cause : (fault : StoreFault) → total_sectors old.geometry ≤ disk.sectors
+      → BarrierFails old disk disk' fault
       → HasPlace old fault disk disk' → HasTurnCause old disk disk' (fault_of_store fault)
-  barrier_cause store.Full fails place = tt
-  barrier_cause store.TooLong fails place = absurd fails
-  barrier_cause store.TooBig fails place = absurd fails
-  barrier_cause store.Damaged fails place = absurd fails
-  barrier_cause (store.Layout fault) fails place = absurd fails
-  barrier_cause (store.Disk fault) (inl few) (inl within) = inl (inl (omega (arith, few, within)))
-  barrier_cause (store.Disk fault) (inl few) (inr (inl full, same)) = absurd (cc)
-  barrier_cause (store.Disk fault) (inl few) (inr (inr failed, same)) = absurd (cc)
-  barrier_cause (store.Disk fault) (inr failed) place = inr failed
-  barrier_cause store.Memory fails place = absurd fails
-  barrier_cause store.Failed failed place = failed
+  barrier_cause store.Full enough fails place = tt
+  barrier_cause store.TooLong enough fails place = absurd fails
+  barrier_cause store.TooBig enough fails place = absurd fails
+  barrier_cause store.Damaged enough fails place = absurd fails
+  barrier_cause (store.Layout fault) enough fails place = absurd fails
+  barrier_cause (store.Disk fault) enough (inl small) place =
+      absurd (omega (arith, small, enough))
+  barrier_cause (store.Disk fault) enough (inr (inl few)) (inl within) =
+      inl (inl (omega (arith, few, within)))
+  barrier_cause (store.Disk fault) enough (inr (inl few)) (inr (inl full, same)) = absurd (cc)
+  barrier_cause (store.Disk fault) enough (inr (inl few)) (inr (inr failed, same)) = absurd (cc)
+  barrier_cause (store.Disk fault) enough (inr (inr failed)) place = inr failed
+  barrier_cause store.Memory enough fails place = absurd fails
+  barrier_cause store.Failed enough failed place = failed
 
-  barrier_stops : (fault : StoreFault) → BarrierFails old disk disk' fault
+  barrier_stops : (fault : StoreFault) → total_sectors old.geometry ≤ disk.sectors
+      → BarrierFails old disk disk' fault
       → HasPlace old fault disk disk'
       → BeginsCalls (barrier_calls old.geometry old.journal) disk disk'
       → StoreStops old new (fault_of_store fault) disk disk'
-  barrier_stops fault fails (inl within) begun = record {
+  barrier_stops fault enough fails (inl within) begun = record {
     geometry = stays.geometry;
     passes = passes;
     counts = counts;
@@ -309,9 +314,9 @@ module _ (old new : WorkerStore) (disk disk' : Medium) (stays : IsOfStore old ne
     last_are = inl (are_barrier old.geometry old.journal within);
     left_out = begun.0;
     calls = begun.1;
-    cause = barrier_cause fault fails (inl within);
+    cause = barrier_cause fault enough fails (inl within);
   }
-  barrier_stops fault fails (inr still) begun = record {
+  barrier_stops fault enough fails (inr still) begun = record {
     geometry = stays.geometry;
     passes = passes;
     counts = counts;
@@ -321,7 +326,7 @@ module _ (old new : WorkerStore) (disk disk' : Medium) (stays : IsOfStore old ne
     last_are = inl (0, 0, omega arith, refl);
     left_out = 0;
     calls = still.1;
-    cause = barrier_cause fault fails (inr still);
+    cause = barrier_cause fault enough fails (inr still);
   }
 
 -- by its contract
@@ -339,17 +344,19 @@ module _ {D : Type 0} (medium : D → Medium) (old new : WorkerStore) (disk disk
   pub barrier_failed : (fault : StoreFault)
       → StoresPending old new (Err fault) (medium disk) (medium disk')
       → RefusesMore medium old disk disk' (Err fault)
+      → total_sectors old.geometry ≤ (medium disk).sectors
       → StoreStops old new (fault_of_store fault) (medium disk) (medium disk')
-  barrier_failed fault stores full =
+  barrier_failed fault stores full enough =
       barrier_stops old new (medium disk) (medium disk') stores.stays stores.passes
-      (barrier_counts medium old _ disk disk' full stores.counts) fault stores.cause
+      (barrier_counts medium old _ disk disk' full stores.counts) fault enough stores.cause
       (has_place medium old disk disk' fault full) stores.calls.begun
 
 -- ---- a commit
 
 module _ (old new : WorkerStore) (process : ProcessValue) (disk disk' : Medium)
     (passes : Passes disk disk' (λ image. Unit {0}))
-    (counts : CountsUpTo (disk.unsynced + old.geometry.area_sectors + 1) disk disk') where
+    (counts : CountsUpTo (disk.unsynced + old.geometry.area_sectors + 1) disk disk')
+    (enough : total_sectors old.geometry ≤ disk.sectors) where
   commit_goes : new
       ≡ begun_store old.geometry (saved_of process).version (old.journal.generation + 1)
       → IsAllSynced disk'
@@ -380,9 +387,10 @@ module _ (old new : WorkerStore) (process : ProcessValue) (disk disk' : Medium)
   commit_cause store.TooLong fails = absurd fails
   commit_cause store.Damaged fails = absurd fails
   commit_cause (store.Layout fault) fails = absurd fails
-  commit_cause (store.Disk fault) (inl few) = inl (inr (inl few))
-  commit_cause (store.Disk fault) (inr (inl no_room)) = inl (inr (inr no_room))
-  commit_cause (store.Disk fault) (inr (inr failed)) = inr failed
+  commit_cause (store.Disk fault) (inl small) = absurd (omega (arith, small, enough))
+  commit_cause (store.Disk fault) (inr (inl few)) = inl (inr (inl few))
+  commit_cause (store.Disk fault) (inr (inr (inl no_room))) = inl (inr (inr no_room))
+  commit_cause (store.Disk fault) (inr (inr (inr failed))) = inr failed
   commit_cause store.Memory fails = absurd fails
   commit_cause store.Failed failed = failed
 
@@ -411,14 +419,14 @@ module _ (old new : WorkerStore) (process : ProcessValue) (disk disk' : Medium)
 
 -- whatever it has answered
 pub commit_runs : (old new : WorkerStore) (process : ProcessValue) (disk disk' : Medium)
-    (result : Said) → CommitsProcess process old new result disk disk'
-    → StoreSaves result old new disk disk'
-commit_runs old new process disk disk' (Ok done) commits =
-    commit_goes old new process disk disk' commits.passes commits.counts commits.begun
+    (result : Said) → total_sectors old.geometry ≤ disk.sectors
+    → CommitsProcess process old new result disk disk' → StoreSaves result old new disk disk'
+commit_runs old new process disk disk' (Ok done) enough commits =
+    commit_goes old new process disk disk' commits.passes commits.counts enough commits.begun
     commits.all_synced commits.calls
-commit_runs old new process disk disk' (Err fault) commits =
-    commit_stops old new process disk disk' commits.passes commits.counts fault commits.stays
-    commits.unchanged commits.cause commits.calls
+commit_runs old new process disk disk' (Err fault) enough commits =
+    commit_stops old new process disk disk' commits.passes commits.counts enough fault
+    commits.stays commits.unchanged commits.cause commits.calls
 
 -- after a barrier
 pub saves_join : (a b c : WorkerStore) (d e f : Medium) (result : Said) → StoreGoes a b d e
@@ -430,21 +438,24 @@ saves_join a b c d e f (Err fault) one two =
 -- ---- why a save fails
 
 pub barrier_save_cause : (old : WorkerStore) (process : ProcessValue) (disk disk' : Medium)
-    (fault : StoreFault) → BarrierFails old disk disk' fault
-    → HasSaveCause old process disk disk' fault
-barrier_save_cause old process disk disk' store.Full fails =
+    (fault : StoreFault) → total_sectors old.geometry ≤ disk.sectors
+    → BarrierFails old disk disk' fault → HasSaveCause old process disk disk' fault
+barrier_save_cause old process disk disk' store.Full enough fails =
     let more = fails.1 in omega (arith, more)
-barrier_save_cause old process disk disk' store.TooLong fails = absurd fails
-barrier_save_cause old process disk disk' store.TooBig fails = absurd fails
-barrier_save_cause old process disk disk' store.Damaged fails = absurd fails
-barrier_save_cause old process disk disk' (store.Layout fault) fails = absurd fails
-barrier_save_cause old process disk disk' (store.Disk fault) (inl few) = inl few
-barrier_save_cause old process disk disk' (store.Disk fault) (inr failed) = inr (inr (inr failed))
-barrier_save_cause old process disk disk' store.Memory fails = absurd fails
-barrier_save_cause old process disk disk' store.Failed failed = failed
+barrier_save_cause old process disk disk' store.TooLong enough fails = absurd fails
+barrier_save_cause old process disk disk' store.TooBig enough fails = absurd fails
+barrier_save_cause old process disk disk' store.Damaged enough fails = absurd fails
+barrier_save_cause old process disk disk' (store.Layout fault) enough fails = absurd fails
+barrier_save_cause old process disk disk' (store.Disk fault) enough (inl small) =
+    absurd (omega (arith, small, enough))
+barrier_save_cause old process disk disk' (store.Disk fault) enough (inr (inl few)) = inl few
+barrier_save_cause old process disk disk' (store.Disk fault) enough (inr (inr failed)) =
+    inr (inr (inr failed))
+barrier_save_cause old process disk disk' store.Memory enough fails = absurd fails
+barrier_save_cause old process disk disk' store.Failed enough failed = failed
 
 module _ (a b : WorkerStore) (process : ProcessValue) (d e f : Medium) (one : StoreGoes a b d e)
-    (stays : IsOfStore a b) where
+    (stays : IsOfStore a b) (enough : total_sectors b.geometry ≤ e.sectors) where
   commit_fault_cause : (fault : StoreFault) → CommitFails b process e f fault
       → HasSaveCause a process d f fault
   commit_fault_cause store.TooBig (inl late) =
@@ -456,17 +467,18 @@ module _ (a b : WorkerStore) (process : ProcessValue) (d e f : Medium) (one : St
   commit_fault_cause store.TooLong fails = absurd fails
   commit_fault_cause store.Damaged fails = absurd fails
   commit_fault_cause (store.Layout fault) fails = absurd fails
-  commit_fault_cause (store.Disk fault) (inl few) =
+  commit_fault_cause (store.Disk fault) (inl small) = absurd (omega (arith, small, enough))
+  commit_fault_cause (store.Disk fault) (inr (inl few)) =
       let passes = one.passes in
       let fewer = one.unsynced in
       let room = passes.room in
       let same = ap (λ (g : Geometry). g.area_sectors) stays.geometry in
       inr (inl (omega (arith, few, fewer, room, same)))
-  commit_fault_cause (store.Disk fault) (inr (inl no_room)) =
+  commit_fault_cause (store.Disk fault) (inr (inr (inl no_room))) =
       let passes = one.passes in
       let room = passes.room in
       inr (inr (inl (omega (arith, no_room, room))))
-  commit_fault_cause (store.Disk fault) (inr (inr failed)) =
+  commit_fault_cause (store.Disk fault) (inr (inr (inr failed))) =
       let passes = one.passes in
       let faults = passes.faults in
       inr (inr (inr (omega (arith, failed, faults))))

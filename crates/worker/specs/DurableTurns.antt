@@ -1,6 +1,6 @@
 -- The turns of a slice of a worker on its disk.
 use Rattle.std.specs.Prelude.{◌≡◌, ◌≢◌, ℕ, ◌⊎◌, ◌+◌, ◌-◌, ◌<◌, ◌≤◌, Bool, true, false, List, []}
-use Rattle.std.specs.Prelude.{◌∷◌}
+use Rattle.std.specs.Prelude.{◌∷◌, ◌++◌, suc, drop}
 use Rattle.std.specs.Prelude.{length, map, Some, None, Result, Ok, Err}
 use Rattle.wasm_syntax.specs.declared.module.Module.{Module}
 use Rattle.wasi_abi.specs.declared.answer.Question.{Question}
@@ -17,18 +17,20 @@ use Rattle.disk_layout.specs.rules.Journal.{Record, record_bytes, longest_record
 use Rattle.journal.specs.rules.Steps.{RecordFits}
 use Rattle.worker_store.specs.declared.fault.StoreFault.{StoreFault}
 use Rattle.worker_store.specs.declared.fault.StoreFault.TheVariants as store
-use Rattle.record_replay.specs.rules.Waiting.{ReleasesSome}
+use Rattle.record_replay.specs.rules.Waiting.{ReleasesSome, first_waiting}
 use Rattle.worker_store.specs.rules.Stores.{with_record}
 use Rattle.worker_store.specs.rules.Calls.{AppendFails}
 use Rattle.sector_disk.specs.rules.Medium.{Medium}
 use Rattle.state_image.specs.rules.Saving.{saved_of}
 use Rattle.journal.specs.rules.State.{room_of}
 use Rattle.record_replay.specs.rules.Calls.{Giving, Taking, Begun, Exchange, Asks, Tells}
-use Rattle.record_replay.specs.rules.Calls.{Releases, Exchanges}
-use Rattle.worker_store.specs.restart_theorem.Lives.{Act, Slice, Reply, Fails, Waits, Cause, SourceSaid, Ended}
+use Rattle.record_replay.specs.rules.Calls.{Releases, Exchanges, all_taken}
+use Rattle.worker_store.specs.restart_theorem.Lives.{Act, Slice, Reply, Fails, Waits, Cause}
+use Rattle.worker_store.specs.restart_theorem.Lives.{SourceSaid, Ended}
 use Rattle.worker_store.specs.restart_theorem.Courses.{Stage, Open, phase_ended, next_stage}
 use Rattle.worker_store.specs.restart_theorem.Promises.{Promise, after, fuel_of, IsEnding}
 use Rattle.worker_store.specs.restart_theorem.Holds.{KeepsPromise, StaysWithin}
+use Rattle.worker_store.specs.laws.Acts.{most_held}
 use Rattle.worker_store.specs.laws.Underway.{IsUnderWay}
 use Rattle.worker_store.specs.rules.BetweenCalls.{IsForetold}
 use Rattle.worker_store.specs.laws.Pieces.{AreDone}
@@ -55,35 +57,47 @@ pub record Course : Type 0 where
   pub act : Act
   pub first : ℕ
 
--- A worker within a slice, which has come to p. The disk holds what is promised, the guest's syncs
--- up to this step included, by a savepoint of this generation at most.
+-- These releases are still to be made: of lines that are held, and then of those that wait.
+abbrev pub to_tell : List Begun → ProcessValue → List Begun
+to_tell lines_held v = lines_held ++ all_taken (first_waiting v) (waiting_in v)
+
+-- A worker within a slice, which has come to p. These lines are held that it has handed over: all
+-- before them were told. The disk holds what is promised, the guest's syncs up to this step
+-- included, by a savepoint of this generation at most.
 pub record IsRunningOn (c : Course) (promise : Promise) (stage : Stage) (p : ProcessState)
-    (step latest : ℕ) (w : RunningWorker) (disk : Medium) : Type 0 where
-  pub opened : promise.has_opened ≡ true
-  pub texts : IsOfBytes (host_of c.config)
-  pub shows : ShowsProcess w.process c.guest p
-  pub module_is : w.process.machine.guest ≡ c.code
-  pub way : IsUnderWay c.code c.config c.guest promise stage c.act w.process.host.released p
-  pub began : stage.step ≡ c.first
-  pub on_disk : IsOnDisk c.code c.config c.guest promise p step latest w.store disk
-  pub synced : promise.synced ≤ p.steps
-  pub abreast : IsAbreast promise stage p w.is_abreast
+    (step latest : ℕ) (lines_held : List Begun) (w : RunningWorker) (disk : Medium) : Type 0
+  where
+    pub opened : promise.has_opened ≡ true
+    pub texts : IsOfBytes (host_of c.config)
+    pub shows : ShowsProcess w.process c.guest p
+    pub module_is : w.process.machine.guest ≡ c.code
+    pub told : ℕ
+    pub counted : told + length lines_held ≡ w.process.host.released
+    pub queued : to_tell lines_held w.process ≡ all_taken (suc told) (drop told p.host.lines)
+    pub way : IsUnderWay c.code c.config c.guest promise stage c.act told p
+    pub began : stage.step ≡ c.first
+    pub on_disk : IsOnDisk c.code c.config c.guest promise p step latest w.store disk
+    pub synced : promise.synced ≤ p.steps
+    pub abreast : IsAbreast promise stage p w.is_abreast
 
 -- between two turns
-abbrev pub IsBetweenTurns : Course → Promise → Stage → ProcessState → RunningWorker
+abbrev pub IsBetweenTurns : Course → Promise → Stage → ProcessState → List Begun → RunningWorker
     → Medium → Type 0
-IsBetweenTurns c promise stage p w disk =
-    IsRunningOn c promise stage p p.steps promise.events w disk
+IsBetweenTurns c promise stage p lines_held w disk =
+    IsRunningOn c promise stage p p.steps promise.events lines_held w disk
 
 -- something may be owed for the last step
-abbrev pub IsOwingTurn : Course → Promise → Stage → ProcessState → RunningWorker → Medium → Type 0
-IsOwingTurn c promise stage p w disk =
-    IsRunningOn c promise stage p (p.steps - 1) promise.events w disk
+abbrev pub IsOwingTurn : Course → Promise → Stage → ProcessState → List Begun → RunningWorker
+    → Medium → Type 0
+IsOwingTurn c promise stage p lines_held w disk =
+    IsRunningOn c promise stage p (p.steps - 1) promise.events lines_held w disk
 
--- the next step wants an answer
+-- The next step wants an answer. No more lines are held than may.
 pub record IsAskingOn (c : Course) (promise : Promise) (stage : Stage) (p : ProcessState)
-    (question : Question) (latest : ℕ) (w : RunningWorker) (disk : Medium) : Type 0 where
-  pub running : IsRunningOn c promise stage p p.steps latest w disk
+    (question : Question) (latest : ℕ) (lines_held : List Begun) (w : RunningWorker)
+    (disk : Medium) : Type 0 where
+  pub running : IsRunningOn c promise stage p p.steps latest lines_held w disk
+  pub few : length lines_held ≤ most_held c.act
   pub none_waits : waiting_in w.process ≡ []
   pub unended : p.ended ≡ None
   pub wants : next_of c.guest p None ≡ Wants question
@@ -93,14 +107,14 @@ pub record IsAskingOn (c : Course) (promise : Promise) (stage : Stage) (p : Proc
 
 -- it goes on, by these exchanges
 pub record TurnGoes (c : Course) (promise : Promise) (stage : Stage) (exchanges : List Exchange)
-    (w : RunningWorker) (disk disk' : Medium) : Type 0 where
+    (lines_held : List Begun) (w : RunningWorker) (disk disk' : Medium) : Type 0 where
   pub promise' : Promise
   pub stage' : Stage
   pub process : ProcessState
   pub done : AreDone c.code c.config promise stage exchanges promise' stage'
   pub onward : GoesOnFrom c.code c.config promise promise' disk disk'
   pub bounded : StaysWithin promise'.events disk disk'
-  pub running : IsBetweenTurns c promise' stage' process w disk'
+  pub running : IsBetweenTurns c promise' stage' process lines_held w disk'
 
 -- what is promised at its end, by whichever act that takes steps
 abbrev pub slice_end : Promise → Reply → ℕ → RunningWorker → Promise
@@ -147,8 +161,8 @@ abbrev pub Flushes : {O : Type 0} → Taking O → RunningWorker → RunningWork
 Flushes takes old new disk disk' outlet outlet' = (begun : List Begun)
     × Releases takes outlet begun outlet'
     × ((c : Course) (promise : Promise) (stage : Stage) (p : ProcessState)
-    → IsOwingTurn c promise stage p old disk → IsForetold stage (told_lines_of begun)
-    → TurnGoes c promise stage (told_lines_of begun) new disk disk')
+    → IsOwingTurn c promise stage p [] old disk → IsForetold stage (told_lines_of begun)
+    → TurnGoes c promise stage (told_lines_of begun) [] new disk disk')
 
 -- one of the two failed
 abbrev pub FlushesInVain : {O : Type 0} → Taking O → RunningWorker → WorkFault
@@ -156,7 +170,7 @@ abbrev pub FlushesInVain : {O : Type 0} → Taking O → RunningWorker → WorkF
 FlushesInVain takes old why new disk disk' outlet outlet' = (begun : List Begun)
     × Releases takes outlet begun outlet'
     × ((c : Course) (promise : Promise) (stage : Stage) (p : ProcessState)
-    → IsOwingTurn c promise stage p old disk → IsForetold stage (told_lines_of begun)
+    → IsOwingTurn c promise stage p [] old disk → IsForetold stage (told_lines_of begun)
     → TurnFails c promise stage why (told_lines_of begun) new disk disk')
 
 -- the store failed, which wants no memory and no number; or the outlet did
@@ -177,12 +191,19 @@ IsOfStoreFault why = (fault : StoreFault) × (why ≡ fault_of_store fault)
 abbrev pub HasRoom : RunningWorker → Type 0
 HasRoom w = longest_record w.store.journal.version ≤ room_of w.store.geometry w.store.journal
 
--- The disk has room for the answer. It may be one generation on: the question comes next.
+-- none is held, or the journal has room for any answer
+abbrev pub HoldsNoLine : List Begun → RunningWorker → Type 0
+HoldsNoLine lines_held w = (lines_held ≡ []) ⊎ HasRoom w
+
+-- The disk has room for the answer. It may be one generation on, but not over lines that are held:
+-- the question comes next.
 abbrev pub MakesRoom : RunningWorker → RunningWorker → Medium → Medium → Type 0
 MakesRoom old new disk disk' =
     (c : Course) (promise : Promise) (stage : Stage) (p : ProcessState) (question : Question)
-    → IsAskingOn c promise stage p question promise.events old disk
-    → IsAskingOn c promise stage p question (promise.events + 1) new disk'
+    (lines_held : List Begun)
+    → IsAskingOn c promise stage p question promise.events lines_held old disk
+    → HoldsNoLine lines_held old
+    → IsAskingOn c promise stage p question (promise.events + 1) lines_held new disk'
     × HasRoom new × GoesOnFrom c.code c.config promise promise disk disk'
     × StaysWithin (promise.events + 1) disk disk'
 
@@ -190,8 +211,9 @@ MakesRoom old new disk disk' =
 abbrev pub MakesNoRoom : RunningWorker → WorkFault → RunningWorker → Medium → Medium → Type 0
 MakesNoRoom old why new disk disk' =
     (c : Course) (promise : Promise) (stage : Stage) (p : ProcessState) (question : Question)
-    → IsAskingOn c promise stage p question promise.events old disk
-    → TurnFails c promise stage why [] new disk disk'
+    (lines_held : List Begun)
+    → IsAskingOn c promise stage p question promise.events lines_held old disk
+    → HoldsNoLine lines_held old → TurnFails c promise stage why [] new disk disk'
 
 -- a question, with what the source said to it
 abbrev pub asks_once : Question → SourceSaid → List Exchange
@@ -227,6 +249,7 @@ pub record IsNotTaken (old : RunningWorker) (question : Question) (r : Record) (
   pub fault : ProcessFault
   pub given : GivesAnswer old.process r.answer (Err fault) new.process
   pub is : why ≡ Work (slice_fault fault)
+  pub appended : new.store ≡ with_record old.store r
 
 -- an answer doesn't fit
 pub record IsMisfit (old : RunningWorker) (question : Question) (r : Record) (why : WorkFault)
@@ -267,7 +290,7 @@ pub record Hears {S : Type 0} (gives : Giving S) (old : RunningWorker)
 abbrev pub TurnAsks : Course → Promise → Stage → Bool → List Exchange → RunningWorker
     → Medium → Medium → Type 0
 TurnAsks c promise stage true exchanges w disk disk' =
-    TurnGoes c promise stage exchanges w disk disk'
+    TurnGoes c promise stage exchanges [] w disk disk'
 TurnAsks c promise stage false exchanges w disk disk' =
     TurnEnds c promise stage Waits exchanges w disk disk'
 
@@ -284,19 +307,19 @@ abbrev pub AsksTurn : {S : Type 0} → Giving S → RunningWorker → Question �
 AsksTurn gives old question (Ok is_there) new disk disk' source source' =
     (exchanges : List Exchange) × AsksOutside gives question exchanges source source'
     × ((c : Course) (promise : Promise) (stage : Stage) (p : ProcessState)
-    → IsAskingOn c promise stage p question promise.events old disk → IsForetold stage exchanges
+    → IsAskingOn c promise stage p question promise.events [] old disk → IsForetold stage exchanges
     → TurnAsks c promise stage is_there exchanges new disk disk') × (length exchanges ≡ 1)
 AsksTurn gives old question (Err why) new disk disk' source source' = (exchanges : List Exchange)
     × AsksOutside gives question exchanges source source'
     × ((c : Course) (promise : Promise) (stage : Stage) (p : ProcessState)
-    → IsAskingOn c promise stage p question promise.events old disk → IsForetold stage exchanges
+    → IsAskingOn c promise stage p question promise.events [] old disk → IsForetold stage exchanges
     → TurnFails c promise stage why exchanges new disk disk')
 
--- the store failed, and the source wasn't asked; or it was, in vain
+-- the store failed to make room, and the source wasn't asked; or it was, in vain
 abbrev pub AsksVainly : {S : Type 0} → Giving S → RunningWorker → Question → WorkFault
     → RunningWorker → S → S → Type 0
 AsksVainly gives old question why new source source' =
-    (IsOfStoreFault why × (new.process ≡ old.process) × (source' ≡ source))
+    (IsOfStoreFault why × (new.process ≡ old.process) × (source' ≡ source) × (HasRoom old → ⊥))
     ⊎ ((mid : RunningWorker) × (step : ℕ) × (mid.process ≡ old.process)
     × Hears gives mid question step (Err why) new source source')
 
@@ -308,7 +331,7 @@ abbrev pub WorksOn : {S O : Type 0} → Giving S → Taking O → RunningWorker 
 WorksOn gives takes old fuel result new disk disk' source source' outlet outlet' =
     (exchanges : List Exchange) × Exchanges gives takes source outlet exchanges source' outlet'
     × ((c : Course) (promise : Promise) (stage : Stage) (p : ProcessState) → fuel_of c.act ≡ fuel
-    → c.first ≡ old.process.steps → IsBetweenTurns c promise stage p old disk
+    → c.first ≡ old.process.steps → IsBetweenTurns c promise stage p [] old disk
     → IsForetold stage exchanges → (reply : Reply) × IsReplyOf result reply
     × HasCauseOf result c.guest c.config new.process disk disk'
     × TurnEnds c promise stage reply exchanges new disk disk')

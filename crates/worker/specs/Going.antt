@@ -1,12 +1,12 @@
 -- Lives that have gone on, and the disk that the last of them left.
-use Rattle.std.specs.Prelude.{◌≡◌, ℕ, ◌≤◌, List, [], ◌∷◌, length, map, ◌+◌, ◌*◌}
+use Rattle.std.specs.Prelude.{◌≡◌, ℕ, ◌≤◌, List, [], ◌∷◌, ◌++◌, length, map, ◌+◌, ◌*◌}
 use Rattle.wasm_syntax.specs.declared.module.Module.{Module}
 use Rattle.wasm_semantics.specs.Acceptance.{IsAccepted}
 use Rattle.wasi_abi.specs.rules.Configs.{Settings}
 use Rattle.machine.specs.rules.Offers.{offer}
 use Rattle.sector_disk.specs.declared.memory.MemDisk.{MemDisk}
 use Rattle.sector_disk.specs.rules.Medium.{Medium}
-use Rattle.sector_disk.specs.rules.Memory.{memory_medium}
+use Rattle.sector_disk.specs.rules.Memory.{memory_medium, memory_state_of, MemoryState}
 use Rattle.disk_layout.specs.rules.Places.{geometry_of, total_sectors}
 use Rattle.disk_layout.specs.rules.Unsynced.{most_unsynced}
 use Rattle.worker_store.specs.restart_theorem.Lives.{Life}
@@ -14,6 +14,7 @@ use Rattle.worker_store.specs.restart_theorem.Promises.{Promise, nothing_yet, pr
 use Rattle.worker_store.specs.restart_theorem.Holds.{KeepsPromise, KeepsBounds}
 use Rattle.worker.specs.declared.story.life.PlannedLife.{PlannedLife}
 use Rattle.worker.specs.declared.story.report.LifeReport.{LifeReport}
+use Rattle.worker.specs.declared.story.starting.StoryStart.{StoryStart}
 use Rattle.worker.specs.rules.CallCounts.{most_calls}
 use Rattle.worker.specs.rules.Planned.{inputs_of}
 use Rattle.worker.specs.rules.StoryDisks.{IsEmptyDiskFor, AreRunOn}
@@ -72,3 +73,33 @@ pub record HaveGoneOn (m : Module) (bytes : List ℕ) (config : Settings)
 abbrev pub GoneOn : List ℕ → Settings → List PlannedLife → List LifeReport → MemDisk → Type 0
 GoneOn bytes config planned reports disk = (m : Module) → IsAccepted offer config.pages bytes m
     → HaveGoneOn m bytes config planned reports disk
+
+-- ---- lives that go on from others
+
+-- Whatever lives have gone on to the disk that is found, these go on behind them. They leave the
+-- last disk, and what is told of them comes behind what was told.
+abbrev pub GoOnBehind : List ℕ → Settings → List PlannedLife → MemDisk → List LifeReport → MemDisk
+    → List LifeReport → Type 0
+GoOnBehind bytes config planned found told last all = (earlier : List PlannedLife)
+    (before : List LifeReport) → GoneOn bytes config earlier (before ++ told) found
+    → GoneOn bytes config (earlier ++ planned) (before ++ all) last
+
+-- one report more for each life
+abbrev pub AddsReports : List PlannedLife → List LifeReport → List LifeReport → Type 0
+AddsReports planned told all =
+    (more : List LifeReport) × (all ≡ told ++ more) × (length more ≡ length planned)
+
+-- a disk of so many sectors, which takes so many writes between two syncs
+pub record HasSize (sectors writes : ℕ) (disk : MemDisk) : Type 0 where
+  pub sectors_are : length (memory_state_of disk).durable ≡ sectors
+  pub writes_are : (memory_state_of disk).limit ≡ writes
+
+-- the state of a disk that holds what was kept of one
+abbrev pub kept_at : StoryStart → MemoryState
+kept_at start = record { durable = start.sectors.items; pending = []; limit = start.writes }
+
+-- These lives have gone on to a start, and were told so: to any disk that holds what it keeps.
+abbrev pub HaveStarted : List ℕ → Settings → List PlannedLife → List LifeReport → StoryStart
+    → Type 0
+HaveStarted bytes config planned reports start = (disk : MemDisk)
+    → memory_state_of disk ≡ kept_at start → GoneOn bytes config planned reports disk

@@ -1,6 +1,7 @@
 pub mod rules
 pub mod laws
 pub mod DurableTurns
+pub mod BatchTurns
 pub mod StoreTurns
 pub mod Findings
 pub mod FoundDisks

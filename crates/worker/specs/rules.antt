@@ -4,6 +4,7 @@ pub mod DurableCalls
 pub mod DurableCreations
 pub mod DurableFailures
 pub mod Effects
+pub mod Batches
 pub mod WorkFaults
 pub mod DurableValues
 pub mod Inspections

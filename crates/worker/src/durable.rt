@@ -4,6 +4,7 @@ ghost use Rattle.std.specs.Prelude.{◌≡◌};
 
 use crate::fault::WorkFault;
 use crate::running_worker::RunningWorker;
+use disk_layout::test_sectors;
 use process::Process;
 use record_replay::SliceFault;
 use sector_disk::{Disk, DiskFault};
@@ -70,9 +71,9 @@ impl Worker {
         if self.running.store.has_failed() {
             return Err(WorkFault::Work(SliceFault::Failed));
         }
-        if disk.sectors() < self.running.store.total_sectors() {
+        if let Err(fault) = test_sectors(disk, self.running.store.total_sectors()) {
             self.running.store.fail();
-            return Err(WorkFault::Disk(DiskFault::Range));
+            return Err(WorkFault::Disk(fault));
         }
         Ok(())
     }

@@ -31,9 +31,12 @@
 //!   decides the result (`recovers`, `shown`). Want of memory may end a recovery anywhere, and then
 //!   says only what the layers before have found. One that opens a worker reads heads, image and
 //!   journal once, and commits once.
-//! - `Worker::slice` runs as `EphemeralWorker::slice` of `record_replay` does (`done`, `failed`).
-//!   Where it says that the worker waits or has ended, no line is beyond its process (`abreast`).
-//!   None is beyond that of a worker that is created, or recovered at its end.
+//! - `Worker::slice` runs as a worker without a disk would (`done`, `failed`). Where it says that
+//!   the worker waits or has ended, no line is beyond its process (`abreast`). None is beyond that
+//!   of a worker that is created, or recovered at its end.
+//! - `Worker::batch` is a slice in which lines may wait, until one barrier serves them all (`done`,
+//!   `carries`). Where it fails, it has run so far as one whose lines go to a list, and `ToldUpTo`
+//!   says how many were told (`failed`).
 //! - `Worker::checkpoint` is a barrier and a commit: no later life opens before it (`saved`).
 //!   `Worker::upgrade` is the same, and saves the process in version 2 (`done`).
 //! - `read_survey`, `inspect`: what a disk shows, in numbers or whole. Nothing is written.
@@ -56,6 +59,7 @@
 //! process and the journal take.
 #![tactic(auto)]
 
+mod batches;
 mod checkpoints;
 mod copying;
 mod creating;
@@ -84,7 +88,7 @@ pub use durable::Worker;
 pub use fault::WorkFault;
 pub use inspecting::inspect;
 pub use inspection::Inspection;
-pub use record_replay::SliceFault;
+pub use record_replay::{Readiness, SliceFault};
 pub use recover_fault::RecoverFault;
 pub use running_worker::RunningWorker;
 pub use surveyed::Survey;

@@ -4,7 +4,7 @@
 //! **An answer is tested before it is kept.** One that doesn't fit is never a record, not even in
 //! memory. No record has to be taken back, and none is too long for the journal.
 
-ghost use Rattle.std.specs.Prelude.{◌≡◌, ◌≤◌, IfErr, IfOk, OnErr, OnOk, Ok, true};
+ghost use Rattle.std.specs.Prelude.{◌≡◌, ◌≤◌, Err, IfErr, IfOk, OnErr, OnOk, Ok, true};
 ghost use Rattle.process.specs.rules.Values.{IsProcess};
 ghost use Rattle.sector_disk.specs.rules.Medium.{CallsUpTo};
 ghost use Rattle.disk_layout.specs.rules.Places.{total_sectors};
@@ -12,10 +12,11 @@ ghost use Rattle.record_replay.specs.rules.Waiting.{ReleasesAll};
 ghost use Rattle.record_replay.specs.Turns.{AsksOnce};
 ghost use Rattle.worker.specs.DurableTurns.{AsksTurn, Hears, MakesNoRoom, MakesRoom};
 ghost use Rattle.worker.specs.DurableTurns.{Flushes, FlushesVainly, AsksVainly};
-ghost use Rattle.worker.specs.DurableTurns.{IsOfStoreFault};
+ghost use Rattle.worker.specs.DurableTurns.{HasRoom, IsOfStoreFault};
 ghost use Rattle.worker.specs.DurableTurns.{FlushesInVain, TakesNone, TakesOnRecord};
 ghost use Rattle.worker.specs.rules.CallCounts.{most_saving};
-ghost use Rattle.worker.specs.StoreTurns.{HearsOrNot, PaysCalls, StoreRuns};
+ghost use Rattle.worker.specs.BatchTurns.{AsksHolding};
+ghost use Rattle.worker.specs.StoreTurns.{HearsOrNot, PaysCalls, StoreGoes, StoreRuns};
 
 use crate::fault::WorkFault;
 use crate::running_worker::RunningWorker;
@@ -70,8 +71,12 @@ impl RunningWorker {
         ensures abreast { OnOk result (self.new.is_abreast ≡ true) }
         ensures asks { AsksTurn S.gives self.old question result self.new (D.medium disk.old)
             (D.medium disk.new) source.old source.new }
+        ensures holding { AsksHolding D.medium S.gives self.old question result self.new
+            disk.old disk.new source.old source.new }
         ensures failed { IfErr result (λ why. AsksVainly S.gives self.old question why self.new
             source.old source.new) }
+        ensures goes { result ≡ Err (WorkFault.Work SliceFault.Source)
+            → StoreGoes self.old.store self.new.store (D.medium disk.old) (D.medium disk.new) }
         ensures runs { StoreRuns result self.old.store self.new.store (D.medium disk.old)
             (D.medium disk.new) }
         ensures places { self.new.store.geometry ≡ self.old.store.geometry }
@@ -95,6 +100,7 @@ impl RunningWorker {
         ensures fails { IfErr result (λ why. MakesNoRoom self.old why self.new
             (D.medium disk.old) (D.medium disk.new)) }
         ensures failed { IfErr result IsOfStoreFault }
+        ensures lacking { OnErr result (HasRoom self.old → ⊥) }
         ensures runs { StoreRuns result self.old.store self.new.store (D.medium disk.old)
             (D.medium disk.new) }
         ensures places { self.new.store.geometry ≡ self.old.store.geometry }

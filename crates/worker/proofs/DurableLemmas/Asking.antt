@@ -6,7 +6,7 @@ use Rattle.wasi_abi.specs.declared.answer.Question.{Question}
 use Rattle.wasi_abi.specs.declared.answer.Answer.{Answer}
 use Rattle.sector_disk.specs.rules.Medium.{Medium}
 use Rattle.record_replay.specs.declared.fault.SourceFault.{SourceFault}
-use Rattle.record_replay.specs.rules.Calls.{Giving, Exchange}
+use Rattle.record_replay.specs.rules.Calls.{Giving, Begun, Exchange}
 use Rattle.worker_store.specs.restart_theorem.Lives.{Reply, Fails, Waits, SourceSaid, OfSource}
 use Rattle.worker_store.specs.restart_theorem.Courses.{Stage}
 use Rattle.worker_store.specs.restart_theorem.Promises.{Promise}
@@ -21,10 +21,8 @@ use Rattle.worker.specs.declared.fault.WorkFault.TheVariants.{Work}
 use Rattle.worker.specs.declared.running_worker.RunningWorker.{RunningWorker}
 use Rattle.record_replay.specs.Turns.{AsksOnce, AnswersBy}
 use Rattle.worker.specs.DurableTurns.{Course, TurnGoes, TurnEnds, TurnFails}
-use Rattle.worker.specs.DurableTurns.{slice_end}
-use Rattle.worker.specs.DurableTurns.{MakesRoom, MakesNoRoom, asks_once, TakesOnRecord}
-use Rattle.worker.specs.DurableTurns.{IsAskingOn}
-use Rattle.worker.specs.DurableTurns.{TakesNone}
+use Rattle.worker.specs.DurableTurns.{slice_end, MakesRoom, MakesNoRoom, asks_once, TakesOnRecord}
+use Rattle.worker.specs.DurableTurns.{IsAskingOn, TakesNone}
 use Rattle.worker.specs.DurableTurns.{LacksRecord, IsNotTaken, IsMisfit, HearsBy, Hears}
 use Rattle.worker.specs.DurableTurns.{AsksTurn}
 use Rattle.worker.proofs.AbreastLemmas.{abreast_now, asking_is_still, none_beyond}
@@ -32,8 +30,7 @@ use Rattle.worker.proofs.DurableLemmas.Advancing.{says_abreast}
 use Rattle.worker.proofs.DurableLemmas.Bounds.{bounds_join, question_counts}
 use Rattle.worker.proofs.DurableLemmas.Ends.{cause_before}
 use Rattle.worker.proofs.DurableLemmas.Hearing.{waits_once, source_fails, misfits}
-use Rattle.worker.proofs.DurableLemmas.Hearing.{lacks_record}
-use Rattle.worker.proofs.DurableLemmas.Hearing.{not_taken, taken}
+use Rattle.worker.proofs.DurableLemmas.Hearing.{lacks_record, not_taken, taken}
 
 -- ---- behind a part without exchanges
 
@@ -41,10 +38,11 @@ module _ {D : Type 0} (medium : D → Medium) (c : Course) (promise : Promise) (
     (exchanges : List Exchange) (w : RunningWorker) (disk mid disk' : D)
     (goes : GoesOnFrom c.code c.config promise promise (medium disk) (medium mid))
     (bounded : StaysWithin (promise.events + 1) (medium disk) (medium mid)) where
-  goes_behind : (turn : TurnGoes c promise stage exchanges w (medium mid) (medium disk'))
+  pub goes_behind : (lines_held : List Begun)
+      (turn : TurnGoes c promise stage exchanges lines_held w (medium mid) (medium disk'))
       → promise.events + 1 ≤ turn.promise'.events
-      → TurnGoes c promise stage exchanges w (medium disk) (medium disk')
-  goes_behind turn counts = record {
+      → TurnGoes c promise stage exchanges lines_held w (medium disk) (medium disk')
+  goes_behind lines_held turn counts = record {
     promise' = turn.promise';
     stage' = turn.stage';
     process = turn.process;
@@ -80,7 +78,7 @@ module _ {D : Type 0} (medium : D → Medium) (c : Course) (promise : Promise) (
       one_on : promise.events ≤ turn.between.events → promise.events + 1 ≤ turn.between.events + 1
       one_on le = omega (arith, le)
 
-  fails_behind : (why : WorkFault)
+  pub fails_behind : (why : WorkFault)
       → TurnFails c promise stage why exchanges w (medium mid) (medium disk')
       → TurnFails c promise stage why exchanges w (medium disk) (medium disk')
   fails_behind why turn =
@@ -98,10 +96,10 @@ module _ {D : Type 0} (medium : D → Medium) (c : Course) (promise : Promise) (
 module _ {D : Type 0} (medium : D → Medium) where
   -- so the worker may say it
   said_asking : (c : Course) (promise : Promise) (stage : Stage) (p : ProcessState)
-      (question : Question) (latest : ℕ) (w : RunningWorker) (disk : D)
-      → IsAskingOn c promise stage p question latest w (medium disk)
-      → IsAskingOn c promise stage p question latest (says_abreast w) (medium disk)
-  said_asking c promise stage p question latest w disk asking =
+      (question : Question) (latest : ℕ) (lines_held : List Begun) (w : RunningWorker) (disk : D)
+      → IsAskingOn c promise stage p question latest lines_held w (medium disk)
+      → IsAskingOn c promise stage p question latest lines_held (says_abreast w) (medium disk)
+  said_asking c promise stage p question latest lines_held w disk asking =
       let there = asking.running in
       record {
         running = record {
@@ -109,6 +107,9 @@ module _ {D : Type 0} (medium : D → Medium) where
           texts = there.texts;
           shows = there.shows;
           module_is = there.module_is;
+          told = there.told;
+          counted = there.counted;
+          queued = there.queued;
           way = there.way;
           began = there.began;
           on_disk = there.on_disk;
@@ -117,6 +118,7 @@ module _ {D : Type 0} (medium : D → Medium) where
               (none_beyond medium c.code c.config c.guest promise p p.steps latest w.store disk
               there.on_disk (asking_is_still c.guest p question asking.wants));
         };
+        few = asking.few;
         none_waits = asking.none_waits;
         unended = asking.unended;
         wants = asking.wants;
@@ -126,9 +128,9 @@ module _ {D : Type 0} (medium : D → Medium) where
   pub room_said : (old mid : RunningWorker) (disk disk' : D)
       → MakesRoom old mid (medium disk) (medium disk')
       → MakesRoom old (says_abreast mid) (medium disk) (medium disk')
-  room_said old mid disk disk' makes c promise stage p question asking =
-      let made = makes c promise stage p question asking in (
-        said_asking c promise stage p question (promise.events + 1) mid disk' made.0,
+  room_said old mid disk disk' makes c promise stage p question lines_held asking free =
+      let made = makes c promise stage p question lines_held asking free in (
+        said_asking c promise stage p question (promise.events + 1) lines_held mid disk' made.0,
         made.1,
         made.2,
         made.3,
@@ -147,7 +149,7 @@ module _ {D S : Type 0} (medium : D → Medium) (gives : Giving S) (old mid new 
     asks_once question (Err e),
     (refl, asked),
     λ c promise stage p asking foretold.
-        let made = makes c promise stage p question asking in
+        let made = makes c promise stage p question [] asking (inl refl) in
         fails_behind medium c promise stage (asks_once question (Err e)) new disk disk' disk' made.2
         made.3 (Work slice.Source) (
           OfSource,
@@ -155,7 +157,7 @@ module _ {D S : Type 0} (medium : D → Medium) (gives : Giving S) (old mid new 
           tt,
           subst (λ w. TurnEnds c promise stage (Fails OfSource) (asks_once question (Err e)) w
               (medium disk') (medium disk')) (sym still)
-              (source_fails medium c promise stage p question mid disk' made.0 says e foretold),
+              (source_fails medium c promise stage p question [] mid disk' made.0 says e foretold),
         ),
   )
 
@@ -165,12 +167,12 @@ module _ {D S : Type 0} (medium : D → Medium) (gives : Giving S) (old mid new 
     asks_once question (Ok None),
     (refl, asked),
     λ c promise stage p asking foretold.
-        let made = makes c promise stage p question asking in
+        let made = makes c promise stage p question [] asking (inl refl) in
         ends_behind medium c promise stage (asks_once question (Ok None)) new disk
         disk' disk' made.2 made.3 Waits
         (subst (λ w. TurnEnds c promise stage Waits (asks_once question (Ok None)) w (medium disk')
         (medium disk')) (sym still)
-        (waits_once medium c promise stage p question mid disk' made.0 says foretold)),
+        (waits_once medium c promise stage p question [] mid disk' made.0 says refl foretold)),
     refl,
   )
 
@@ -181,14 +183,15 @@ module _ {D S : Type 0} (medium : D → Medium) (gives : Giving S) (old mid new 
     asks_once question (Ok (Some a)),
     (refl, asked),
     λ c promise stage p asking foretold.
-        let made = makes c promise stage p question asking in
+        let made = makes c promise stage p question [] asking (inl refl) in
         let running = asking.running in
         let shows = running.shows in
         let steps : old.process.steps ≡ p.steps = shows.steps in
-        let turn = taken medium c promise stage p question mid disk' made.0 says a foretold step new
+        let turn = taken medium c promise stage p question [] mid disk' made.0 says a foretold step
+        new
         (step_is ∙ ap (λ n. n + 1) steps) takes in
         goes_behind medium c promise stage (asks_once question (Ok (Some a))) new disk disk' disk'
-        made.2 made.3 turn
+        made.2 made.3 [] turn
         (question_counts c.code c.config promise turn.promise' stage turn.stage'
         (record { question = question; said = Ok (Some a) }) turn.done),
     refl,
@@ -201,19 +204,21 @@ module _ {D S : Type 0} (medium : D → Medium) (gives : Giving S) (old mid new 
     asks_once question (Ok (Some a)),
     (refl, asked),
     λ c promise stage p asking foretold.
-        let made = makes c promise stage p question asking in
+        let made = makes c promise stage p question [] asking (inl refl) in
         fails_behind medium c promise stage (asks_once question (Ok (Some a))) new disk disk' disk'
         made.2 made.3 why (⊎_elim
         (λ (h : IsMisfit mid question (record { step = step; answer = a }) why new).
-        misfits medium c promise stage p question mid disk' made.0 says a foretold step why new h)
+        misfits medium c promise stage p question [] mid disk' made.0 says a foretold step why new
+        h)
         (λ (rest : LacksRecord mid question (record { step = step; answer = a }) why new
         ⊎ IsNotTaken mid question (record { step = step; answer = a }) why new).
         ⊎_elim
         (λ (h : LacksRecord mid question (record { step = step; answer = a }) why new).
-        lacks_record medium c promise stage p question mid disk' made.0 says a foretold step
+        lacks_record medium c promise stage p question [] mid disk' made.0 says a foretold step
         why new made.1 h)
         (λ (h : IsNotTaken mid question (record { step = step; answer = a }) why new).
-        not_taken medium c promise stage p question mid disk' made.0 says a foretold step why new h)
+        not_taken medium c promise stage p question [] mid disk' made.0 says a foretold step why new
+        h)
         rest) none),
   )
 
@@ -263,7 +268,8 @@ pub asks_nothing : {D S : Type 0} (medium : D → Medium) (gives : Giving S) (ol
 asks_nothing medium gives old new question why disk disk' source none = (
   [],
   refl,
-  λ c promise stage p asking foretold. none c promise stage p question asking,
+  λ c promise stage p asking foretold.
+      none c promise stage p question [] asking (inl refl),
 )
 
 -- ---- as it is without a disk

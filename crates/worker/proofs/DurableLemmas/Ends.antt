@@ -15,9 +15,10 @@ use Rattle.disk_layout.specs.rules.Journal.{Record}
 use Rattle.journal.specs.rules.Packed.{sectors_for}
 use Rattle.journal.specs.rules.State.{JournalState}
 use Rattle.state_image.specs.rules.Saving.{saved_of}
-use Rattle.record_replay.specs.rules.Calls.{Exchange}
+use Rattle.record_replay.specs.rules.Calls.{Begun, Exchange}
 use Rattle.worker_store.specs.restart_theorem.Lives.{Slice, Reply, Cause, Fails, Ended}
-use Rattle.worker_store.specs.restart_theorem.Courses.{Stage, Phase, Open, MayFail, phase_ended, next_stage}
+use Rattle.worker_store.specs.restart_theorem.Courses.{Stage, Phase, Open, MayFail, phase_ended}
+use Rattle.worker_store.specs.restart_theorem.Courses.{next_stage}
 use Rattle.worker_store.specs.restart_theorem.Promises.{Promise, synced_by, IsEnding}
 use Rattle.worker_store.specs.restart_theorem.Holds.{KeepsPromise, CarriesPromise, StaysWithin}
 use Rattle.worker_store.specs.restart_theorem.Exchanges.{none}
@@ -229,10 +230,10 @@ failed_end c promise stage p w phase held cause broken shows module_is may bound
 
 -- what is under way is where it was
 pub broken_open : (c : Course) (promise : Promise) (stage : Stage) (p : ProcessState)
-    (step latest : ℕ) (w : RunningWorker) (disk : Medium)
-    → IsRunningOn c promise stage p step latest w disk
+    (step latest : ℕ) (lines_held : List Begun) (w : RunningWorker) (disk : Medium)
+    → IsRunningOn c promise stage p step latest lines_held w disk
     → IsBroken c.code c.config c.guest promise stage c.act (length promise.kept) p Open
-broken_open c promise stage p step latest w disk running = record {
+broken_open c promise stage p step latest lines_held w disk running = record {
   in_slice = running.way.in_slice;
   is = running.way.is_open;
   told = among_first stage.line _ (length p.host.lines) running.way.line running.way.emitted;

@@ -1,21 +1,20 @@
 -- What is owed for a step: records on the disk, and then lines that are released.
 use Rattle.std.proofs.Common.{◌≡◌, ℕ, suc, ◌+◌, ◌-◌, ◌≤◌, List, [], ◌++◌, length, drop}
-use Rattle.std.proofs.Common.{refl, sym, ap, ◌∙◌, subst, arith}
-use Rattle.std.proofs.lemmas.List.{append-nil}
+use Rattle.std.proofs.Common.{refl, sym, ap, ◌∙◌, subst, arith, ◌∷◌, Err}
+use Rattle.std.proofs.lemmas.List.{append-nil, drop_all}
 use Rattle.process_rules.specs.Processes.{ProcessState}
-use Rattle.process.specs.rules.Values.{ProcessValue, ShowsProcess, waiting_in}
+use Rattle.process.specs.rules.Values.{HasReleased, ProcessValue, ShowsProcess, waiting_in}
 use Rattle.sector_disk.specs.rules.Medium.{Medium}
 use Rattle.state_image.specs.rules.Saving.{saved_of}
 use Rattle.disk_layout.specs.rules.Journal.{Record}
-use Rattle.record_replay.specs.rules.Calls.{Taking, Exchange, all_taken}
-use Rattle.record_replay.specs.rules.Calls.{last_refused}
+use Rattle.record_replay.specs.declared.fault.OutletFault.{OutletFault}
+use Rattle.record_replay.specs.rules.Calls.{Taking, Begun, Exchange, all_taken}
 use Rattle.record_replay.specs.rules.Waiting.{ReleasesAll, ReleasesSome}
-use Rattle.record_replay.proofs.Emitted.{waiting_behind, released_whole, released_none}
+use Rattle.record_replay.proofs.Emitted.{released_whole}
 use Rattle.worker_store.specs.restart_theorem.Lives.{Slice, Fails, OfDisk, OfOutlet}
 use Rattle.worker_store.specs.restart_theorem.Courses.{Stage, Broken}
 use Rattle.worker_store.specs.restart_theorem.Promises.{Promise}
 use Rattle.worker_store.specs.restart_theorem.Holds.{StaysWithin}
-use Rattle.worker_store.specs.laws.Underway.{IsUnderWay}
 use Rattle.worker_store.specs.rules.BetweenCalls.{IsForetold}
 use Rattle.worker_store.specs.laws.Pieces.{AreDone}
 use Rattle.worker_store.specs.laws.Telling.{AddsLines}
@@ -25,7 +24,6 @@ use Rattle.worker_store.proofs.LawLemmas.Carrying.{carried_keeps, barrier_carrie
 use Rattle.worker_store.proofs.LawLemmas.Carrying.{barrier_carries_on}
 use Rattle.worker_store.proofs.LawLemmas.Raising.{all_syncs_are_held, ended_carries}
 use Rattle.worker_store.proofs.LawLemmas.Saving.{ends_promise_no_less}
-use Rattle.worker_store.proofs.LawLemmas.Telling.{all_lines_are_told, lines_are_told_in_vain}
 use Rattle.worker_store.proofs.LawLemmas.TurnLemmas.{told_still_holds, parts_leave_begun}
 use Rattle.worker_store.proofs.LawLemmas.TurnLemmas.{turns_join}
 use Rattle.worker_store.proofs.LawLemmas.TurnLemmas.{rests_go_on, lines_carry, same_no_more}
@@ -40,15 +38,18 @@ use Rattle.worker.specs.declared.running_worker.RunningWorker.{RunningWorker}
 use Rattle.worker.specs.rules.WorkFaults.{fault_of_store}
 use Rattle.worker.specs.rules.OpenWorkers.{IsOnDisk, IsAbreast}
 use Rattle.worker.specs.rules.DurableCalls.{ComesOf, HasCauseAt}
-use Rattle.worker.specs.DurableTurns.{Course, IsOwingTurn, TurnGoes}
+use Rattle.worker.specs.DurableTurns.{Course, to_tell}
+use Rattle.worker.specs.BatchTurns.{FlushesAll, FlushesNot, IsTellingTurn, RefusesOne, TurnTells}
 use Rattle.worker.specs.DurableTurns.{TurnFails, slice_end, told_lines_of, Flushes}
 use Rattle.worker.specs.DurableTurns.{FlushesInVain}
 use Rattle.worker.proofs.AbreastLemmas.{abreast_on, told_changes_none}
 use Rattle.worker.proofs.SavingLemmas.{barrier_fault}
 use Rattle.worker.proofs.DurableLemmas.OnDisk.{reached_now, fewer_syncs}
 use Rattle.worker.proofs.DurableLemmas.Bounds.{fronts_within}
+use Rattle.worker.proofs.DurableLemmas.Holding.{none_to_tell, cut_taken, waiting_refused}
+use Rattle.worker.proofs.DurableLemmas.Telling.{telling_of, running_of, told_so, refused_so}
+use Rattle.worker.proofs.DurableLemmas.Telling.{disk_ends}
 use Rattle.worker.proofs.DurableLemmas.Ends.{ends_on, fails_at_call, failed_end}
-use Rattle.worker.proofs.DurableLemmas.Ends.{broken_open}
 use Rattle.worker.proofs.DurableLemmas.Ends.{carried_on, not_open, disk_cause}
 
 -- ---- the barrier
@@ -95,8 +96,8 @@ abbrev pub with_store : RunningWorker → WorkerStore → RunningWorker
 with_store w after = record w { store = after }
 
 module _ {D : Type 0} (medium : D → Medium) (c : Course) (promise : Promise) (stage : Stage)
-    (p : ProcessState) (w : RunningWorker) (after : WorkerStore) (disk disk' : D)
-    (owing : IsOwingTurn c promise stage p w (medium disk))
+    (p : ProcessState) (lines_held : List Begun) (w : RunningWorker) (after : WorkerStore)
+    (disk disk' : D) (owing : IsTellingTurn c promise stage p lines_held w (medium disk))
     (fronts : LeavesFronts w.store (medium disk) (medium disk')) where
   -- no image is of a later generation
   barrier_bounds : (later : ℕ) → promise.events ≤ later
@@ -133,9 +134,8 @@ module _ {D : Type 0} (medium : D → Medium) (c : Course) (promise : Promise) (
             (medium disk') fault is fails,
         fails_at_call medium c promise stage (with_store w after) disk disk' OfDisk held
             owing.opened
-            (failed_end c promise stage p (with_store w after) _ held OfDisk
-            (broken_open c promise stage p _ _ w (medium disk) owing) owing.shows owing.module_is
-            tt tt)
+            (disk_ends c promise stage p owing.told (with_store w after) owing.may owing.shows
+            owing.module_is)
             (barrier_carries medium c.code c.config promise
             (slice_end promise (Fails OfDisk) held w) point w.store.journal is.records
             is.pending is.last is.now disk disk'
@@ -168,9 +168,6 @@ module _ {D : Type 0} (medium : D → Medium) (c : Course) (promise : Promise) (
         (fronts c.code c.config is.point is.records is.pending is.last is.now is.stores))
 
     -- ---- the lines
-
-    drops : drop w.process.host.released p.host.lines ≡ waiting_in w.process
-    drops = waiting_behind w.process c.guest p owing.shows
 
     module _ (promise' : Promise) (adds : AddsLines promise (length p.host.lines) promise') where
       lines_carried : IsCarried promise' owing.on_disk.point after.journal
@@ -227,39 +224,41 @@ module _ {D : Type 0} (medium : D → Medium) (c : Course) (promise : Promise) (
             early = omega (arith, early, more);
           }
 
-    module _ {O : Type 0} (takes : Taking O) (w' : RunningWorker) (outlet outlet' : O)
+    module _ (w' : RunningWorker)
         (same_store : w'.store ≡ after) (same_says : w'.is_abreast ≡ w.is_abreast) where
       -- all lines are released
-      pub lines_flushed : ReleasesAll takes w.process w'.process outlet outlet'
-          → IsForetold stage (told_lines_of (all_taken (suc w.process.host.released)
-          (waiting_in w.process)))
-          → TurnGoes c promise stage (told_lines_of (all_taken (suc w.process.host.released)
-          (waiting_in w.process))) w' (medium disk) (medium disk')
+      pub lines_flushed : HasReleased (length (waiting_in w.process)) w.process w'.process
+          → IsForetold stage (told_lines_of (to_tell lines_held w.process))
+          → TurnTells c promise stage p (told_lines_of (to_tell lines_held w.process)) w'
+          (medium disk) (medium disk')
       lines_flushed released foretold =
-          let told = all_lines_are_told c.code c.config c.guest promise stage c.act
-          w.process.host.released p (waiting_in w.process) owing.way drops foretold in
-          let made = told.0 in
+          let told = told_so c promise stage p owing.told (to_tell lines_held w.process)
+          owing.queued owing.may foretold in
+          let made = told.made in
           let leaves = parts_leave_begun c.code c.config promise made.promise' stage made.stage'
-          (told_lines_of (all_taken (suc w.process.host.released) (waiting_in w.process)))
-          made.done in
-          let shown = released.released.shows c.guest p owing.shows in
-          let none_left = released_none takes w.process w'.process outlet outlet' released in
+          (told_lines_of (to_tell lines_held w.process)) made.done in
+          let shown = released.shows c.guest p owing.shows in
+          let none_left : waiting_in w'.process ≡ [] =
+          ap waiting_in released.is
+          ∙ drop_all (length (waiting_in w.process)) (waiting_in w.process) (omega arith) in
           let adds = made.adds in
           record {
             promise' = made.promise';
             stage' = made.stage';
-            process = p;
             done = made.done;
             onward = goes_told made.promise' made.adds made.stage' leaves;
             bounded = barrier_bounds made.promise'.events adds.events;
-            running = record {
+            telling = record {
               opened = leaves.opened ∙ owing.opened;
               texts = owing.texts;
               shows = shown;
-              module_is = ap (λ (v : ProcessValue). v.machine.guest) released.released.is
-                  ∙ owing.module_is;
-              way = subst (λ n. IsUnderWay c.code c.config c.guest made.promise' made.stage' c.act
-                  n p) (sym (released_whole w'.process c.guest p shown none_left)) told.1;
+              module_is = ap (λ (v : ProcessValue). v.machine.guest) released.is ∙ owing.module_is;
+              told = length p.host.lines;
+              counted = (let whole = released_whole w'.process c.guest p shown none_left in
+                  let all : length p.host.lines + 0 ≡ w'.process.host.released =
+                  omega (arith, whole) in all);
+              queued = none_to_tell w'.process p.host.lines none_left;
+              may = told.may;
               began = leaves.step ∙ owing.began;
               on_disk = subst (λ s. IsOnDisk c.code c.config c.guest made.promise' p p.steps
                   made.promise'.events s (medium disk')) (sym same_store)
@@ -270,43 +269,44 @@ module _ {D : Type 0} (medium : D → Medium) (c : Course) (promise : Promise) (
                   (sym same_says)
                   (abreast_told made.promise' adds made.stage' made.done owing.abreast);
             };
+            phase = told.phase;
           }
         where
           abreast_told : (promise' : Promise) → AddsLines promise (length p.host.lines) promise'
               → (stage' : Stage)
               → (done : AreDone c.code c.config promise stage (told_lines_of
-              (all_taken (suc w.process.host.released) (waiting_in w.process))) promise' stage')
+              (to_tell lines_held w.process)) promise' stage')
               → IsAbreast promise stage p w.is_abreast → IsAbreast promise' stage' p w.is_abreast
           abreast_told promise' adds stage' done is =
               abreast_on promise promise' stage stage' p p w.is_abreast adds.begun (omega arith)
               (ap (λ (s : Stage). s.is_abreast) done.stage_is
-              ∙ told_changes_none (all_taken (suc w.process.host.released) (waiting_in w.process))
-              (told_lines_of (all_taken (suc w.process.host.released) (waiting_in w.process)))
-              done.events stage done.are refl) is
+              ∙ told_changes_none (to_tell lines_held w.process)
+              (told_lines_of (to_tell lines_held w.process)) done.events stage done.are refl) is
 
           same_below : (a b n : ℕ) → a ≡ b → b ≤ n → a ≤ n
           same_below a b n e le = omega (arith, e, le)
 
       -- one is refused
-      pub lines_in_vain : (some : ReleasesSome takes w.process w'.process outlet outlet')
-          → IsForetold stage (told_lines_of (last_refused (suc w.process.host.released) some.told
-          some.line))
-          → TurnFails c promise stage (Work slice.Outlet) (told_lines_of
-          (last_refused (suc w.process.host.released) some.told some.line)) w' (medium disk)
+      pub lines_in_vain : w'.process ≡ w.process → (front back : List Begun) (last : Begun)
+          (fault : OutletFault) → to_tell lines_held w.process ≡ front ++ (last ∷ back)
+          → IsForetold stage (told_lines_of (front ++ (record last { said = Err fault } ∷ [])))
+          → TurnFails c promise stage (Work slice.Outlet)
+          (told_lines_of (front ++ (record last { said = Err fault } ∷ []))) w' (medium disk)
           (medium disk')
-      lines_in_vain some foretold =
-          let told = lines_are_told_in_vain c.code c.config c.guest promise stage c.act
-          w.process.host.released p some.told some.others some.line owing.way
-          (drops ∙ some.waiting) foretold in
-          let made = told.0 in
-          let exchanges : List Exchange =
-          told_lines_of (last_refused (suc w.process.host.released) some.told some.line) in
+      lines_in_vain same front back last fault are foretold =
+          let begun : List Begun = front ++ (record last { said = Err fault } ∷ []) in
+          let cut = cut_taken (suc owing.told) (drop owing.told p.host.lines) front back last fault
+          (sym owing.queued ∙ are) in
+          let told = refused_so c promise stage p owing.told begun cut.before cut.others cut.line
+          cut.begun_is owing.may cut.are foretold in
+          let made = told.made in
+          let exchanges : List Exchange = told_lines_of begun in
           let leaves = parts_leave_begun c.code c.config promise made.promise' stage made.stage'
           exchanges made.done in
           let shown : ShowsProcess w'.process c.guest p =
-          subst (λ v. ShowsProcess v c.guest p) (sym some.same) owing.shows in
+          subst (λ v. ShowsProcess v c.guest p) (sym same) owing.shows in
           let module_is : w'.process.machine.guest ≡ c.code =
-          ap (λ (v : ProcessValue). v.machine.guest) some.same ∙ owing.module_is in
+          ap (λ (v : ProcessValue). v.machine.guest) same ∙ owing.module_is in
           let adds = made.adds in
           let more = adds.events in
           let is = owing.on_disk in (
@@ -316,7 +316,7 @@ module _ {D : Type 0} (medium : D → Medium) (c : Course) (promise : Promise) (
             ends_on medium c promise made.promise' stage made.stage' exchanges w' disk disk'
                 (Fails OfOutlet) (length promise.kept) made.done
                 (failed_end c made.promise' made.stage' p w' (Broken OfOutlet)
-                (length promise.kept) OfOutlet told.1 shown module_is refl tt)
+                (length promise.kept) OfOutlet told.broken shown module_is refl tt)
                 (goes_told made.promise' made.adds made.stage' leaves)
                 (barrier_bounds (made.promise'.events + 1) (omega (arith, more))) is.point
                 after.journal
@@ -331,16 +331,54 @@ module _ {D : Type 0} (medium : D → Medium) (c : Course) (promise : Promise) (
 module _ {D O : Type 0} (medium : D → Medium) (takes : Taking O) (w : RunningWorker)
     (after : WorkerStore) (disk disk' : D)
     (fronts : LeavesFronts w.store (medium disk) (medium disk')) where
+  -- whatever is held
+  module _ (lines_held : List Begun) where
+    pub flushes_not : (fault : StoreFault) (outlet : O)
+        → BarrierFails w.store (medium disk) (medium disk') fault
+        → FlushesNot takes lines_held w (fault_of_store fault) (with_store w after) (medium disk)
+        (medium disk') outlet outlet
+    flushes_not fault outlet fails = (
+      [],
+      refl,
+      λ c promise stage p telling foretold.
+          barrier_in_vain medium c promise stage p lines_held w after disk disk' telling fronts
+          fault fails,
+    )
+
+    module _ (all : StoresAll w.store after (medium disk) (medium disk')) (w' : RunningWorker)
+        (same_store : w'.store ≡ after) (same_says : w'.is_abreast ≡ w.is_abreast) where
+      pub flushes_queue : HasReleased (length (waiting_in w.process)) w.process w'.process
+          → FlushesAll lines_held w w' (medium disk) (medium disk')
+      flushes_queue released c promise stage p telling foretold =
+          lines_flushed medium c promise stage p lines_held w after disk disk' telling fronts all
+          w' same_store same_says released foretold
+
+      pub refuses_queue : (outlet outlet' : O) → w'.process ≡ w.process
+          → RefusesOne takes (to_tell lines_held w.process) outlet outlet'
+          → FlushesNot takes lines_held w (Work slice.Outlet) w' (medium disk) (medium disk') outlet
+          outlet'
+      refuses_queue outlet outlet' same h = (
+        h.0 ++ (record h.1 { said = Err h.3 } ∷ []),
+        h.5,
+        λ c promise stage p telling foretold.
+            lines_in_vain medium c promise stage p lines_held w after disk disk' telling fronts all
+            w' same_store same_says same h.0 h.2 h.1 h.3 h.4 foretold,
+      )
+
+  -- where none is
   pub flush_not_stored : (fault : StoreFault) (outlet : O)
       → BarrierFails w.store (medium disk) (medium disk') fault
       → FlushesInVain takes w (fault_of_store fault) (with_store w after) (medium disk)
       (medium disk') outlet outlet
-  flush_not_stored fault outlet fails = (
-    [],
-    refl,
-    λ c promise stage p owing foretold.
-        barrier_in_vain medium c promise stage p w after disk disk' owing fronts fault fails,
-  )
+  flush_not_stored fault outlet fails =
+      let none = flushes_not [] fault outlet fails in (
+        none.0,
+        none.1,
+        λ c promise stage p owing foretold.
+            none.2 c promise stage p
+            (telling_of c promise stage p (p.steps - 1) promise.events [] w (medium disk) owing)
+            foretold,
+      )
 
   module _ (all : StoresAll w.store after (medium disk) (medium disk')) (w' : RunningWorker)
       (outlet outlet' : O) (same_store : w'.store ≡ after)
@@ -351,16 +389,31 @@ module _ {D O : Type 0} (medium : D → Medium) (takes : Taking O) (w : RunningW
       all_taken (suc w.process.host.released) (waiting_in w.process),
       released.told,
       λ c promise stage p owing foretold.
-          lines_flushed medium c promise stage p w after disk disk' owing fronts all takes w' outlet
-          outlet' same_store same_says released foretold,
+          let tells = flushes_queue [] all w' same_store same_says released.released c promise stage
+          p (telling_of c promise stage p (p.steps - 1) promise.events [] w (medium disk) owing)
+          foretold in
+          let way = owing.way in
+          record {
+            promise' = tells.promise';
+            stage' = tells.stage';
+            process = p;
+            done = tells.done;
+            onward = tells.onward;
+            bounded = tells.bounded;
+            running = running_of c tells.promise' tells.stage' p p.steps tells.promise'.events [] w'
+                (medium disk') (tells.phase ∙ way.is_open) tells.telling;
+          },
     )
 
     pub flushes_some : ReleasesSome takes w.process w'.process outlet outlet'
         → FlushesInVain takes w (Work slice.Outlet) w' (medium disk) (medium disk') outlet outlet'
-    flushes_some some = (
-      last_refused (suc w.process.host.released) some.told some.line,
-      some.refused,
-      λ c promise stage p owing foretold.
-          lines_in_vain medium c promise stage p w after disk disk' owing fronts all takes w' outlet
-          outlet' same_store same_says some foretold,
-    )
+    flushes_some some =
+        let refused = refuses_queue [] all w' same_store same_says outlet outlet' some.same
+        (waiting_refused takes [] w.process outlet outlet outlet' w'.process refl some) in (
+          refused.0,
+          refused.1,
+          λ c promise stage p owing foretold.
+              refused.2 c promise stage p
+              (telling_of c promise stage p (p.steps - 1) promise.events [] w (medium disk) owing)
+              foretold,
+        )

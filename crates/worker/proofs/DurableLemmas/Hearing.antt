@@ -1,7 +1,7 @@
 -- What a source says to a question, as an event, and what becomes of an answer.
 use Rattle.std.proofs.Common.{◌≡◌, ◌⊎◌, ℕ, ◌+◌, ◌-◌, ◌<◌, ◌≤◌, [], ◌∷◌, ◌++◌, length, refl}
 use Rattle.std.proofs.Common.{sym, ap, ◌∙◌, subst, inl, inr, arith, Bool, true, false, Some}
-use Rattle.std.proofs.Common.{None, Ok, Err}
+use Rattle.std.proofs.Common.{None, Ok, Err, List}
 use Rattle.std.proofs.lemmas.List.{append-nil}
 use Rattle.wasi_abi.specs.declared.answer.Question.{Question}
 use Rattle.wasi_abi.specs.declared.answer.Answer.{Answer}
@@ -10,7 +10,7 @@ use Rattle.wasi_abi.specs.rules.Versions.{text_limit}
 use Rattle.wasi_calls_rules.specs.WasiStates.{WasiState}
 use Rattle.process_rules.specs.Processes.{ProcessState, Guest}
 use Rattle.process_rules.specs.Runs.{Given, Moves, Wants, next_of, none, take as takes_one}
-use Rattle.process_rules.proofs.Growing.{move_counts}
+use Rattle.process_rules.proofs.Growing.{move_counts, move_emits}
 use Rattle.process.specs.declared.fault.ProcessFault.{ProcessFault}
 use Rattle.process.specs.declared.fault.ProcessFault.TheVariants as stop
 use Rattle.process.specs.rules.Values.{ProcessValue, ShowsProcess}
@@ -23,15 +23,18 @@ use Rattle.wasi_abi.specs.declared.version.Version.{Version}
 use Rattle.journal.specs.rules.State.{room_of}
 use Rattle.journal.proofs.RecordLemmas.{record_of, length-record}
 use Rattle.record_replay.specs.declared.fault.SourceFault.{SourceFault}
+use Rattle.record_replay.specs.rules.Calls.{Begun}
 use Rattle.record_replay.proofs.Emitted.{released_whole}
-use Rattle.worker_store.specs.restart_theorem.Lives.{Fails, Waits, Cause, SourceSaid, Asked, kept_of_said}
-use Rattle.worker_store.specs.restart_theorem.Lives.{OfSource, OfAnswer, OfMemory, OfBounds}
-use Rattle.worker_store.specs.restart_theorem.Courses.{Stage, Phase, Open, Broken, NoneThere, MayFail}
-use Rattle.worker_store.specs.restart_theorem.Courses.{next_stage}
+use Rattle.worker_store.specs.restart_theorem.Lives.{Fails, Waits, Cause, SourceSaid, Asked}
+use Rattle.worker_store.specs.restart_theorem.Lives.{kept_of_said, OfSource, OfAnswer, OfMemory}
+use Rattle.worker_store.specs.restart_theorem.Lives.{OfBounds}
+use Rattle.worker_store.specs.restart_theorem.Courses.{Stage, Phase, Open, Broken, NoneThere}
+use Rattle.worker_store.specs.restart_theorem.Courses.{MayFail, next_stage}
 use Rattle.worker_store.specs.restart_theorem.Courses.{first_said}
 use Rattle.worker_store.specs.restart_theorem.Promises.{Promise, after, IsFitting, IsInquiring}
 use Rattle.worker_store.specs.restart_theorem.Holds.{StaysWithin}
 use Rattle.worker_store.specs.restart_theorem.Exchanges.{none as no_exchange, asked}
+use Rattle.worker_store.specs.laws.Acts.{most_held}
 use Rattle.worker_store.specs.laws.Underway.{IsUnderWay, IsBroken, IsAtQuestion}
 use Rattle.worker_store.specs.laws.CallEnds.{HasBound}
 use Rattle.worker_store.specs.rules.BetweenCalls.{IsForetold}
@@ -64,15 +67,14 @@ use Rattle.record_replay.specs.rules.Refusals.{slice_fault}
 use Rattle.worker.specs.rules.DurableCalls.{ComesOf, NeedsMemory, HasCauseAt}
 use Rattle.worker.specs.rules.OpenWorkers.{IsOnDisk}
 use Rattle.worker.specs.DurableTurns.{Course, IsAskingOn, HasRoom, TurnGoes}
-use Rattle.worker.specs.DurableTurns.{TurnEnds}
-use Rattle.worker.specs.DurableTurns.{TurnFails, asks_once, TakesOnRecord, LacksRecord}
-use Rattle.worker.specs.DurableTurns.{IsNotTaken}
-use Rattle.worker.specs.DurableTurns.{IsMisfit}
+use Rattle.worker.specs.DurableTurns.{TurnEnds, TurnFails, asks_once, TakesOnRecord, LacksRecord}
+use Rattle.worker.specs.DurableTurns.{IsNotTaken, IsMisfit}
 use Rattle.worker.proofs.AbreastLemmas.{lines_of_runs}
 use Rattle.worker.proofs.ShortAnswers.{short_payload}
 use Rattle.worker.proofs.DurableLemmas.OnDisk.{IsReachedBy, reached_now, valid_module}
 use Rattle.worker.proofs.DurableLemmas.OnDisk.{runs_there, one_version}
 use Rattle.worker.proofs.DurableLemmas.Bounds.{on_disk_still}
+use Rattle.worker.proofs.DurableLemmas.Holding.{to_tell_on}
 use Rattle.worker.proofs.DurableLemmas.Ends.{ends_on, failed_end, open_again, not_open}
 
 -- where a question leads
@@ -90,19 +92,26 @@ too_long : (v : Version) (payload : ℕ) → payload ≤ text_limit v → text_l
 too_long v payload few long = omega (arith, few, long)
 
 module _ {D : Type 0} (medium : D → Medium) (c : Course) (promise : Promise) (stage : Stage)
-    (p : ProcessState) (question : Question) (w : RunningWorker) (disk : D)
-    (asking : IsAskingOn c promise stage p question (promise.events + 1) w (medium disk))
+    (p : ProcessState) (question : Question) (lines_held : List Begun) (w : RunningWorker)
+    (disk : D)
+    (asking : IsAskingOn c promise stage p question (promise.events + 1) lines_held w (medium disk))
     (says : w.is_abreast ≡ true) where
-  all_told : w.process.host.released ≡ length p.host.lines
+  pub all_told : w.process.host.released ≡ length p.host.lines
   all_told = let running = asking.running in
       released_whole w.process c.guest p running.shows asking.none_waits
 
-  abbrev at_question : IsAtQuestion c.code c.config c.guest promise stage c.act p question
+  pub few_wait : length p.host.lines ≤ asking.running.told + most_held c.act
+  few_wait =
+      let counted = asking.running.counted in
+      let all = all_told in
+      let few = asking.few in
+      omega (arith, counted, all, few)
+
+  abbrev pub at_question : IsAtQuestion c.code c.config c.guest promise stage c.act p question
   at_question = let running = asking.running in record {
-    told = length p.host.lines;
-    way = subst (λ n. IsUnderWay c.code c.config c.guest promise stage c.act n p) all_told
-        running.way;
-    few = omega arith;
+    told = running.told;
+    way = running.way;
+    few = few_wait;
     running = asking.unended;
     wants = asking.wants;
     room = asking.room;
@@ -117,7 +126,7 @@ module _ {D : Type 0} (medium : D → Medium) (c : Course) (promise : Promise) (
   wants_there = subst (λ (g : Guest). next_of g p None ≡ Wants question) (sym by_answers.guest_is)
       asking.wants
 
-  same_limit : text_limit p.host.version ≡ text_limit w.process.host.host.version
+  pub same_limit : text_limit p.host.version ≡ text_limit w.process.host.host.version
   same_limit =
       let running = asking.running in
       let shows = running.shows in
@@ -125,7 +134,7 @@ module _ {D : Type 0} (medium : D → Medium) (c : Course) (promise : Promise) (
       ap (λ (h : WasiState). text_limit h.version) host.is
 
   -- the disk is left alone
-  bounds_still : (later : ℕ) → promise.events + 1 ≤ later
+  pub bounds_still : (later : ℕ) → promise.events + 1 ≤ later
       → StaysWithin later (medium disk) (medium disk)
   bounds_still later le = let running = asking.running in
       on_disk_still medium c.code c.config c.guest promise p p.steps (promise.events + 1) w.store
@@ -134,7 +143,7 @@ module _ {D : Type 0} (medium : D → Medium) (c : Course) (promise : Promise) (
   -- ---- what was said
 
   module _ (said : SourceSaid) (fits : Bool) where
-    done_once : IsFitting (text_limit p.host.version) question said fits
+    pub done_once : IsFitting (text_limit p.host.version) question said fits
         → IsForetold stage (asks_once question said)
         → AreDone c.code c.config promise stage (asks_once question said)
         (promise_once promise p question said fits) (stage_once stage p question said fits)
@@ -157,7 +166,7 @@ module _ {D : Type 0} (medium : D → Medium) (c : Course) (promise : Promise) (
           stage_is = refl;
         }
 
-    syncs_once : SyncsAreHeld c.code c.config (promise.kept ++ kept_of_said said fits)
+    pub syncs_once : SyncsAreHeld c.code c.config (promise.kept ++ kept_of_said said fits)
         (count_at asking.running.on_disk.point asking.running.on_disk.records) p.steps
     syncs_once =
         let running = asking.running in
@@ -167,7 +176,7 @@ module _ {D : Type 0} (medium : D → Medium) (c : Course) (promise : Promise) (
         disk is) by_answers.reached (said_widens_none said fits p.steps)
         (count_at is.point is.records) is.syncs
 
-    carried_once : IsCarried (promise_once promise p question said fits)
+    pub carried_once : IsCarried (promise_once promise p question said fits)
         asking.running.on_disk.point w.store.journal asking.running.on_disk.records
         asking.running.on_disk.pending asking.running.on_disk.last
         asking.running.on_disk.now (medium disk)
@@ -177,7 +186,7 @@ module _ {D : Type 0} (medium : D → Medium) (c : Course) (promise : Promise) (
         asked_carries medium c.code c.config promise is.point w.store.journal is.records is.pending
         is.last is.now p.steps question said fits disk is.carried running.synced syncs_once
 
-    goes_once : IsFitting (text_limit p.host.version) question said fits
+    pub goes_once : IsFitting (text_limit p.host.version) question said fits
         → IsForetold stage (asks_once question said)
         → GoesOnFrom c.code c.config promise (promise_once promise p question said
         fits) (medium disk) (medium disk)
@@ -240,12 +249,17 @@ module _ {D : Type 0} (medium : D → Medium) (c : Course) (promise : Promise) (
   -- ---- no answer
 
   -- there is none yet
-  pub waits_once : IsForetold stage (asks_once question (Ok None))
+  pub waits_once : length lines_held ≡ 0 → IsForetold stage (asks_once question (Ok None))
       → TurnEnds c promise stage Waits (asks_once question (Ok None)) w (medium disk) (medium disk)
-  waits_once foretold =
+  waits_once none_held foretold =
       let running = asking.running in
       let is = running.on_disk in
-      let way = at_question.way in
+      let counted = running.counted in
+      let all = all_told in
+      let told_all : running.told ≡ length p.host.lines = omega (arith, counted, all, none_held) in
+      let way : IsUnderWay c.code c.config c.guest promise stage c.act (length p.host.lines) p =
+      subst (λ n. IsUnderWay c.code c.config c.guest promise stage c.act n p) told_all running.way
+      in
       let more : Promise = promise_once promise p question (Ok None) false in
       let inside : Stage = stage_once stage p question (Ok None) false in
       let none_more : more.kept ≡ promise.kept = append-nil promise.kept in
@@ -482,7 +496,7 @@ module _ {D : Type 0} (medium : D → Medium) (c : Course) (promise : Promise) (
           }
 
       goes_taken : Fits (text_limit p.host.version) question a
-          → TurnGoes c promise stage (asks_once question (Ok (Some a))) w'
+          → TurnGoes c promise stage (asks_once question (Ok (Some a))) lines_held w'
           (medium disk) (medium disk)
       goes_taken fits =
           let running = asking.running in
@@ -502,9 +516,12 @@ module _ {D : Type 0} (medium : D → Medium) (c : Course) (promise : Promise) (
               texts = running.texts;
               shows = shows;
               module_is = takes.guest_same ∙ running.module_is;
-              way = subst (λ n. IsUnderWay c.code c.config c.guest more_promise
-                  (stage_once stage p question (Ok (Some a)) true) c.act n q)
-                  (sym (takes.released_same ∙ all_told)) way;
+              told = running.told;
+              counted = running.counted ∙ sym takes.released_same;
+              queued = to_tell_on w.process w'.process c.guest p q running.shows shows
+                  takes.released_same (move_emits c.guest p q (Some a) moves) lines_held
+                  running.told running.counted running.queued;
+              way = way;
               began = running.began;
               on_disk = on_disk_next;
               synced = omega (arith, few, one_more);
@@ -521,7 +538,8 @@ module _ {D : Type 0} (medium : D → Medium) (c : Course) (promise : Promise) (
 
     pub taken : (step : ℕ) (w' : RunningWorker) → step ≡ p.steps + 1
         → TakesOnRecord w question (record_of step a) w'
-        → TurnGoes c promise stage (asks_once question (Ok (Some a))) w' (medium disk) (medium disk)
+        → TurnGoes c promise stage (asks_once question (Ok (Some a))) lines_held w' (medium disk)
+        (medium disk)
     taken step w' is_next takes =
         let running = asking.running in
         let given = takes.given c.guest p running.shows in

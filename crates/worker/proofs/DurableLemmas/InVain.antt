@@ -42,7 +42,7 @@ use Rattle.worker.specs.DurableTurns.{HearsBy, IsMisfit, LacksRecord, IsNotTaken
 
 -- ---- faults
 
-same_fault : (a b : WorkFault) → ◌≡◌ {A = Result Bool WorkFault} (Err a) (Err b) → a ≡ b
+pub same_fault : (a b : WorkFault) → ◌≡◌ {A = Result Bool WorkFault} (Err a) (Err b) → a ≡ b
 same_fault a b e = cc
 
 -- a barrier wants no memory, and no number
@@ -72,7 +72,7 @@ module _ (guest : Guest) (p : ProcessState) (fuel : ℕ) (exchanges : List Excha
   store_cause stops (store.Layout why) disk big memory = (within, stops)
 
   -- where its disk is wanted
-  disk_cause_of : StopsAtDisk guest p exchanges steps q → (fault : StoreFault)
+  pub disk_cause_of : StopsAtDisk guest p exchanges steps q → (fault : StoreFault)
       → (fault ≡ store.TooBig → StopsAtQuestion guest p fuel exchanges steps q)
       → (fault ≡ store.Memory → StopsForMemory guest p fuel exchanges steps q)
       → IsDiskCause guest p fuel exchanges steps q (fault_of_store fault)
@@ -95,12 +95,12 @@ module _ {S O : Type 0} (gives : Giving S) (takes : Taking O) where
 
   module _ (old v : ProcessValue) (fuel first : ℕ) (s t : S) (o q : O)
       (turning : Turning gives takes old v fuel first s t o q) where
-    abbrev gone : (guest : Guest) (p : ProcessState) → ShowsProcess old guest p
+    abbrev pub gone : (guest : Guest) (p : ProcessState) → ShowsProcess old guest p
         → Goes gives takes old v fuel guest p s t o q
     gone guest p shows = turning.goes guest p shows
 
     -- all lines were told
-    up_to_now : (guest : Guest) (p : ProcessState) (shows : ShowsProcess old guest p)
+    pub up_to_now : (guest : Guest) (p : ProcessState) (shows : ShowsProcess old guest p)
         → waiting_in v ≡ []
         → LeadsUpTo guest p (gone guest p shows).exchanges (gone guest p shows).steps
         (gone guest p shows).process None
@@ -124,7 +124,7 @@ module _ {S O : Type 0} (gives : Giving S) (takes : Taking O) where
         inl (waiting_in v, g.last (λ none. absurd (cc)))
 
     -- it is as it was
-    abbrev stays_at : (guest : Guest) (p : ProcessState) → ShowsProcess old guest p
+    abbrev pub stays_at : (guest : Guest) (p : ProcessState) → ShowsProcess old guest p
         → Fails gives takes (working old) (failing v) guest p s t o q
     stays_at guest p shows = record {
       exchanges = (gone guest p shows).exchanges;
@@ -165,12 +165,12 @@ module _ {S O : Type 0} (gives : Giving S) (takes : Taking O) where
 
   module _ (old v : ProcessValue) (fuel first : ℕ) (s t : S) (o q : O) (question : Question)
       (questioning : Questioning gives takes old v fuel first s t o q question) where
-    abbrev so_far : (guest : Guest) (p : ProcessState) → ShowsProcess old guest p
+    abbrev pub so_far : (guest : Guest) (p : ProcessState) → ShowsProcess old guest p
         → Goes gives takes old v fuel guest p s t o q
     so_far guest p shows = questioning.turning.goes guest p shows
 
     -- it may be memory for the answer
-    memory_for : (guest : Guest) (p : ProcessState) (shows : ShowsProcess old guest p)
+    pub memory_for : (guest : Guest) (p : ProcessState) (shows : ShowsProcess old guest p)
         (exchanges : List Exchange) (given : Option Answer)
         → LeadsUpTo guest p exchanges (so_far guest p shows).steps (so_far guest p shows).process
         given
@@ -206,10 +206,10 @@ module _ {S O : Type 0} (gives : Giving S) (takes : Taking O) where
     -- it is asked
     module _ (u : S) (said : SourceSaid) (asked : gives t question said u) (new : ProcessValue)
         (same : new ≡ v) where
-      abbrev this_ask : Ask
+      abbrev pub this_ask : Ask
       this_ask = record { question = question; said = said }
 
-      abbrev asks_here : (guest : Guest) (p : ProcessState) → ShowsProcess old guest p
+      abbrev pub asks_here : (guest : Guest) (p : ProcessState) → ShowsProcess old guest p
           → Fails gives takes (working old) (failing new) guest p s u o q
       asks_here guest p shows = record {
         exchanges = (so_far guest p shows).exchanges ++ (Asks this_ask ∷ []);
@@ -244,7 +244,7 @@ module _ {S O : Type 0} (gives : Giving S) (takes : Taking O) where
         ),
       )
 
-      up_to_answer : (a : Answer) → said ≡ Ok (Some a)
+      pub up_to_answer : (a : Answer) → said ≡ Ok (Some a)
           → (guest : Guest) (p : ProcessState) (shows : ShowsProcess old guest p)
           → LeadsUpTo guest p ((so_far guest p shows).exchanges ++ (Asks this_ask ∷ []))
           (so_far guest p shows).steps (so_far guest p shows).process (Some a)

@@ -54,15 +54,16 @@ module _ (old : RunningWorker) (question : Question) (r : Record) (limit : ℕ)
     }))
 
     -- the process doesn't take it
-    pub answer_refused : (fault : ProcessFault)
+    pub answer_refused : (fault : ProcessFault) → after ≡ with_record old.store r
         → GivesAnswer old.process r.answer (Err fault) process
         → TakesNone old question r (Work (slice_fault fault))
         (record old { process = process; store = after })
-    answer_refused fault given = inr (inr (record {
+    answer_refused fault appended given = inr (inr (record {
       fits = fits_there is;
       fault = fault;
       given = given;
       is = refl;
+      appended = appended;
     }))
 
     -- it does

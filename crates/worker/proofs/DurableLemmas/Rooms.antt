@@ -1,5 +1,5 @@
 -- Room on the disk for the next answer.
-use Rattle.std.proofs.Common.{◌≡◌, ℕ, ◌+◌, ◌-◌, ◌*◌, ◌≤◌, [], length, refl}
+use Rattle.std.proofs.Common.{◌≡◌, ℕ, ◌+◌, ◌-◌, ◌*◌, ◌≤◌, List, [], length, refl}
 use Rattle.std.proofs.Common.{sym, ap, ◌∙◌, subst, inl, inr, arith, false, take, drop}
 use Rattle.std.proofs.lemmas.List.{append-nil}
 use Rattle.wasi_abi.specs.declared.answer.Question.{Question}
@@ -15,6 +15,7 @@ use Rattle.disk_layout.specs.declared.journal_sectors.TheConstants.{PAYLOAD_SIZE
 use Rattle.disk_layout.specs.rules.Journal.{longest_record, TakesRecords}
 use Rattle.disk_layout.proofs.LongRecordLemmas.{journals_have_room}
 use Rattle.journal.specs.rules.State.{JournalState, state}
+use Rattle.record_replay.specs.rules.Calls.{Begun}
 use Rattle.record_replay.proofs.Emitted.{released_whole}
 use Rattle.worker_store.specs.restart_theorem.Lives.{Slice, Fails, Cause, OfDisk, OfBounds}
 use Rattle.worker_store.specs.restart_theorem.Courses.{Stage, Open, MayFail}
@@ -41,14 +42,13 @@ use Rattle.worker.specs.rules.DurableCalls.{ComesOf, HasCauseAt}
 use Rattle.worker.specs.rules.OpenWorkers.{IsOnDisk}
 use Rattle.worker.specs.Savings.{LeavesFrontOrNext, IsSaveFault, SaveFails}
 use Rattle.worker.specs.DurableTurns.{Course, IsAskingOn, HasRoom, MakesRoom}
-use Rattle.worker.specs.DurableTurns.{MakesNoRoom}
+use Rattle.worker.specs.DurableTurns.{HoldsNoLine, MakesNoRoom}
 use Rattle.worker.specs.DurableTurns.{TurnFails, slice_end}
 use Rattle.worker.proofs.SavingActLemmas.{CanSave, can_save, all_first}
 use Rattle.worker.proofs.DurableLemmas.OnDisk.{keeps_now, fewer_syncs, lowered_to, room_now}
 use Rattle.worker.proofs.DurableLemmas.Bounds.{on_disk_still, saves_within}
 use Rattle.worker.proofs.DurableLemmas.Ends.{fails_at_call, failed_end, broken_open}
-use Rattle.worker.proofs.DurableLemmas.Ends.{carried_on}
-use Rattle.worker.proofs.DurableLemmas.Ends.{stays_on, disk_cause}
+use Rattle.worker.proofs.DurableLemmas.Ends.{carried_on, stays_on, disk_cause}
 use Rattle.worker.proofs.DurableLemmas.Flushing.{with_store}
 
 -- ---- there is room already
@@ -56,7 +56,7 @@ use Rattle.worker.proofs.DurableLemmas.Flushing.{with_store}
 module _ {D : Type 0} (medium : D → Medium) where
   pub has_room : (w : RunningWorker) (disk : D) → HasRoom w
       → MakesRoom w w (medium disk) (medium disk)
-  has_room w disk room c promise stage p question asking =
+  has_room w disk room c promise stage p question lines_held asking free =
       let running = asking.running in
       let is = running.on_disk in (
         record {
@@ -65,6 +65,9 @@ module _ {D : Type 0} (medium : D → Medium) where
             texts = running.texts;
             shows = running.shows;
             module_is = running.module_is;
+            told = running.told;
+            counted = running.counted;
+            queued = running.queued;
             way = running.way;
             began = running.began;
             on_disk = lowered_to medium c.code c.config c.guest promise p p.steps promise.events
@@ -72,6 +75,7 @@ module _ {D : Type 0} (medium : D → Medium) where
             synced = running.synced;
             abreast = running.abreast;
           };
+          few = asking.few;
           none_waits = asking.none_waits;
           unended = asking.unended;
           wants = asking.wants;
@@ -96,6 +100,13 @@ enough : (long sectors used kept : ℕ) → long ≤ PAYLOAD_SIZE * sectors → 
 enough long sectors used kept room none_used none_kept =
     omega (arith, room, none_used, none_kept)
 
+-- where there is none, no line is held
+none_held : (w : RunningWorker) (lines_held : List Begun) → (HasRoom w → ⊥)
+    → HoldsNoLine lines_held w
+    → lines_held ≡ []
+none_held w lines_held full (inl is) = is
+none_held w lines_held full (inr room) = absurd (full room)
+
 -- why an error of a save comes
 record SaveComes (c : Course) (promise : Promise) (p : ProcessState) (fault : StoreFault)
     (v : ProcessValue) (old new : Medium) : Type 0 where
@@ -109,7 +120,7 @@ module _ {D : Type 0} (medium : D → Medium) (w : RunningWorker) (after : Worke
     (disk disk' : D) (fit : ProcessImagesFitAreas) (numbered : IsProcess w.process)
     (leaves : LeavesFrontOrNext w.store w.process (medium disk) (medium disk')) where
   module _ (c : Course) (promise : Promise) (stage : Stage) (p : ProcessState) (question : Question)
-      (asking : IsAskingOn c promise stage p question promise.events w (medium disk)) where
+      (asking : IsAskingOn c promise stage p question promise.events [] w (medium disk)) where
     ready : CanSave c.code c.config c.guest promise p p.steps promise.events w.store (medium disk)
         asking.running.on_disk [] p w.process
     ready =
@@ -126,8 +137,9 @@ module _ {D : Type 0} (medium : D → Medium) (w : RunningWorker) (after : Worke
         let way = running.way in
         let told : w.process.host.released ≡ length p.host.lines =
         released_whole w.process c.guest p running.shows asking.none_waits in
-        let few : w.process.host.released ≤ promise.heard = way.heard in
-        omega (arith, told, few)
+        let few : running.told ≤ promise.heard = way.heard in
+        let counted : running.told + 0 ≡ w.process.host.released = running.counted in
+        omega (arith, told, few, counted)
 
     all_kept : take (length ready.next.front) promise.kept ≡ ready.next.front
     all_kept =
@@ -214,7 +226,7 @@ module _ {D : Type 0} (medium : D → Medium) (w : RunningWorker) (after : Worke
           fails_at_call medium c promise stage (with_store w after) disk disk' why.cause held
               running.opened
               (failed_end c promise stage p (with_store w after) Open held why.cause
-              (broken_open c promise stage p _ _ w (medium disk) running) running.shows
+              (broken_open c promise stage p _ _ [] w (medium disk) running) running.shows
               running.module_is why.may why.bound)
               (save_carries medium c.code c.config promise
               (slice_end promise (Fails why.cause) held w) point can.next w.store.journal
@@ -317,32 +329,44 @@ module _ {D : Type 0} (medium : D → Medium) (w : RunningWorker) (after : Worke
 
   pub makes_no_room : (fault : StoreFault)
       → SaveFails w.store w.process (medium disk) (medium disk') fault
+      → (HasRoom w → ⊥)
       → MakesNoRoom w (fault_of_store fault) (with_store w after) (medium disk) (medium disk')
-  makes_no_room fault fails c promise stage p question asking =
-      save_in_vain c promise stage p question asking fault fails
+  makes_no_room fault fails full c promise stage p question lines_held asking free =
+      save_in_vain c promise stage p question
+      (subst (λ (l : List Begun). IsAskingOn c promise stage p question promise.events l w
+      (medium disk)) (none_held w lines_held full free) asking) fault fails
 
   pub makes_room : StoresNext w.store after w.process (medium disk) (medium disk')
       → after.journal ≡ state (saved_of w.process).version after.journal.generation 0 [] false
-      → MakesRoom w (with_store w after) (medium disk) (medium disk')
-  makes_room stores fresh c promise stage p question asking =
+      → (HasRoom w → ⊥) → MakesRoom w (with_store w after) (medium disk) (medium disk')
+  makes_room stores fresh full c promise stage p question lines_held asked free =
+      let is_none = none_held w lines_held full free in
+      let asking : IsAskingOn c promise stage p question promise.events [] w (medium disk) =
+      subst (λ (l : List Begun). IsAskingOn c promise stage p question promise.events l w
+      (medium disk)) is_none asked in
       let running = asking.running in (
-        record {
-          running = record {
-            opened = running.opened;
-            texts = running.texts;
-            shows = running.shows;
-            module_is = running.module_is;
-            way = running.way;
-            began = running.began;
-            on_disk = saved_on c promise stage p question asking stores;
-            synced = running.synced;
-            abreast = running.abreast;
-          };
-          none_waits = asking.none_waits;
-          unended = asking.unended;
-          wants = asking.wants;
-          room = asking.room;
-        },
+        subst (λ (l : List Begun). IsAskingOn c promise stage p question (promise.events + 1) l
+            (with_store w after) (medium disk')) (sym is_none) (record {
+              running = record {
+                opened = running.opened;
+                texts = running.texts;
+                shows = running.shows;
+                module_is = running.module_is;
+                told = running.told;
+                counted = running.counted;
+                queued = running.queued;
+                way = running.way;
+                began = running.began;
+                on_disk = saved_on c promise stage p question asking stores;
+                synced = running.synced;
+                abreast = running.abreast;
+              };
+              few = asking.few;
+              none_waits = asking.none_waits;
+              unended = asking.unended;
+              wants = asking.wants;
+              room = asking.room;
+            }),
         room_after c promise stage p question asking stores fresh,
         save_goes c promise stage p question asking stores,
         save_bounds c promise stage p question asking,

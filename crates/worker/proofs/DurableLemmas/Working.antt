@@ -1,7 +1,6 @@
 -- The turns of a slice of a worker on its disk, one after another.
 use Rattle.std.proofs.Common.{◌≡◌, ℕ, ◌+◌, ◌-◌, ◌≤◌, List, [], ◌∷◌, ◌++◌, refl, sym, ap}
-use Rattle.std.proofs.Common.{◌∙◌}
-use Rattle.std.proofs.Common.{subst, arith, true, false, Ok, Err, ◌*◌, length, length-append}
+use Rattle.std.proofs.Common.{◌∙◌, subst, arith, true, false, Ok, Err, ◌*◌, length, length-append}
 use Rattle.std.specs.Prelude.{Result}
 use Rattle.wasm_syntax.specs.declared.module.Module.{Module}
 use Rattle.wasi_abi.specs.declared.answer.Question.{Question}
@@ -18,12 +17,13 @@ use Rattle.state_image.specs.rules.Saving.{saved_of}
 use Rattle.record_replay.specs.rules.Calls.{Giving, Taking, Begun, Exchange, Asks, Tells, Exchanges}
 use Rattle.record_replay.specs.rules.Calls.{Releases, AnswersInOrder}
 use Rattle.record_replay.proofs.Following.{exchanges_join}
-use Rattle.worker_store.specs.restart_theorem.Lives.{Act, Slice, Reply, Spent, Over, Waits, Fails, Ended}
-use Rattle.worker_store.specs.restart_theorem.Courses.{Stage, Open, phase_ended, next_stage, stage_after}
+use Rattle.worker_store.specs.restart_theorem.Lives.{Act, Slice, Reply, Spent, Over, Waits, Fails}
+use Rattle.worker_store.specs.restart_theorem.Lives.{Ended}
+use Rattle.worker_store.specs.restart_theorem.Courses.{Stage, Open, phase_ended, next_stage}
+use Rattle.worker_store.specs.restart_theorem.Courses.{stage_after}
 use Rattle.worker_store.specs.restart_theorem.Promises.{Promise, fuel_of}
 use Rattle.worker_store.specs.restart_theorem.Holds.{CarriesPromise, StaysWithin}
-use Rattle.worker_store.specs.laws.Acts.{TakesSteps}
-use Rattle.worker_store.specs.laws.Underway.{IsUnderWay}
+use Rattle.worker_store.specs.laws.Acts.{TakesSteps, most_held}
 use Rattle.worker_store.specs.rules.BetweenCalls.{IsForetold}
 use Rattle.worker_store.specs.laws.Turns.{LeavesBegun}
 use Rattle.worker_store.proofs.LawLemmas.Acts.{steps_end_alike}
@@ -52,6 +52,7 @@ use Rattle.worker.specs.DurableTurns.{AsksOutside, AsksTurn, WorksOn}
 use Rattle.record_replay.proofs.Joining.{tells_ask_nothing, releases_of_tells}
 use Rattle.worker.proofs.DurableLemmas.OnDisk.{keeps_now}
 use Rattle.worker.proofs.DurableLemmas.Bounds.{bounds_join, on_disk_still}
+use Rattle.worker.proofs.DurableLemmas.Holding.{none_to_tell}
 use Rattle.worker.proofs.DurableLemmas.Ends.{cause_before, done_nothing, stays_on, not_open}
 use Rattle.worker.proofs.DurableLemmas.Advancing.{with_process, says_abreast}
 use Rattle.worker.proofs.DurableLemmas.Advancing.{advance_owes, advance_asks}
@@ -62,9 +63,9 @@ use Rattle.worker.proofs.DurableLemmas.Advancing.{advance_fails}
 
 module _ {D : Type 0} (medium : D → Medium) (c : Course) (promise : Promise) (stage : Stage)
     (xs ys : List Exchange) (w w' : RunningWorker) (disk mid disk' : D)
-    (a : TurnGoes c promise stage xs w (medium disk) (medium mid)) where
-  goes_after : TurnGoes c a.promise' a.stage' ys w' (medium mid) (medium disk')
-      → TurnGoes c promise stage (xs ++ ys) w' (medium disk) (medium disk')
+    (a : TurnGoes c promise stage xs [] w (medium disk) (medium mid)) where
+  goes_after : TurnGoes c a.promise' a.stage' ys [] w' (medium mid) (medium disk')
+      → TurnGoes c promise stage (xs ++ ys) [] w' (medium disk) (medium disk')
   goes_after b = record {
     promise' = b.promise';
     stage' = b.stage';
@@ -116,7 +117,7 @@ causes_before (Err why) guest config v old mid new passes cause =
 -- ---- exchanges
 
 module _ {S O : Type 0} (gives : Giving S) (takes : Taking O) where
-  told_alone : (source : S) (outlet outlet' : O) (begun : List Begun)
+  pub told_alone : (source : S) (outlet outlet' : O) (begun : List Begun)
       → Releases takes outlet begun outlet'
       → Exchanges gives takes source outlet (told_lines_of begun) source outlet'
   told_alone source outlet outlet' begun released = record {
@@ -125,7 +126,8 @@ module _ {S O : Type 0} (gives : Giving S) (takes : Taking O) where
         released;
   }
 
-  asked_alone : (question : Question) (exchanges : List Exchange) (source source' : S) (outlet : O)
+  pub asked_alone : (question : Question) (exchanges : List Exchange) (source source' : S)
+      (outlet : O)
       → AsksOutside gives question exchanges source source'
       → Exchanges gives takes source outlet exchanges source' outlet
   asked_alone question [] source source' outlet same = record { asked = same; released = refl }
@@ -134,7 +136,8 @@ module _ {S O : Type 0} (gives : Giving S) (takes : Taking O) where
   asked_alone question (Asks ask ∷ (x ∷ others)) source source' outlet h = absurd h
   asked_alone question (Tells begun ∷ others) source source' outlet h = absurd h
 
-  nothing_alone : (source : S) (outlet : O) → Exchanges gives takes source outlet [] source outlet
+  pub nothing_alone : (source : S) (outlet : O)
+      → Exchanges gives takes source outlet [] source outlet
   nothing_alone source outlet = record { asked = refl; released = refl }
 
 -- ---- a slice so far
@@ -146,9 +149,9 @@ module _ {D S O : Type 0} (medium : D → Medium) (gives : Giving S) (takes : Ta
       (exchanges : List Exchange)
       × Exchanges gives takes source outlet exchanges source' outlet'
       × ((c : Course) (promise : Promise) (stage : Stage) (p : ProcessState) → fuel_of c.act ≡ fuel
-      → c.first ≡ old.process.steps → IsBetweenTurns c promise stage p old (medium disk)
+      → c.first ≡ old.process.steps → IsBetweenTurns c promise stage p [] old (medium disk)
       → IsForetold stage exchanges
-      → TurnGoes c promise stage exchanges w (medium disk) (medium disk'))
+      → TurnGoes c promise stage exchanges [] w (medium disk) (medium disk'))
       × ((medium disk').counted + owed (medium disk).sectors w.store.journal.kept
       ≤ (medium disk).counted + (medium disk).sectors
       + length exchanges * most_calls (medium disk).sectors)
@@ -179,8 +182,8 @@ module _ {D S O : Type 0} (medium : D → Medium) (gives : Giving S) (takes : Ta
     -- it goes on
     pub then_goes : ((c : Course) (promise : Promise) (stage : Stage) (p : ProcessState)
         → fuel_of c.act ≡ fuel → c.first ≡ old.process.steps
-        → IsBetweenTurns c promise stage p w (medium mid) → IsForetold stage ys
-        → TurnGoes c promise stage ys w' (medium mid) (medium disk'))
+        → IsBetweenTurns c promise stage p [] w (medium mid) → IsForetold stage ys
+        → TurnGoes c promise stage ys [] w' (medium mid) (medium disk'))
         → (medium disk').counted + owed (medium disk).sectors w'.store.journal.kept
         ≤ (medium mid).counted + owed (medium disk).sectors w.store.journal.kept
         + length ys * most_calls (medium disk).sectors
@@ -208,7 +211,7 @@ module _ {D S O : Type 0} (medium : D → Medium) (gives : Giving S) (takes : Ta
     pub then_ends : (result : Result Now WorkFault)
         → ((c : Course) (promise : Promise) (stage : Stage) (p : ProcessState)
         → fuel_of c.act ≡ fuel → c.first ≡ old.process.steps
-        → IsBetweenTurns c promise stage p w (medium mid) → IsForetold stage ys
+        → IsBetweenTurns c promise stage p [] w (medium mid) → IsForetold stage ys
         → (reply : Reply) × IsReplyOf result reply
         × HasCauseOf result c.guest c.config w'.process (medium mid) (medium disk')
         × TurnEnds c promise stage reply ys w' (medium mid) (medium disk'))
@@ -262,6 +265,10 @@ module _ {D S O : Type 0} (medium : D → Medium) (gives : Giving S) (takes : Ta
         fuel_left_is ∙ ap (λ n. n - (w.process.steps - old.process.steps)) (sym fuel_is)
         ∙ ap (λ n. fuel_of c.act - (w.process.steps - n)) (sym first_is)
 
+    -- in a slice no line is held
+    none_held : (c : Course) → 0 ≤ most_held c.act
+    none_held c = omega arith
+
     pub works_spent : AdvancesProcess w.process fuel_left (Ok stops.Spent) v
         → WorksOn gives takes old fuel (Ok now.Spent) (with_process w v) (medium disk) (medium mid)
         s t o q
@@ -272,9 +279,9 @@ module _ {D S O : Type 0} (medium : D → Medium) (gives : Giving S) (takes : Ta
           Spent,
           refl,
           tt,
-          advance_spent medium c promise stage p w v mid between fuel_left
+          advance_spent medium c promise stage p [] w v mid between fuel_left
               (fuel_left_of c fuel_is first_is)
-              same same_guest advances,
+              same same_guest refl advances,
         )) nothing_called
 
     pub works_over : (how : ProcessEnd) → AdvancesProcess w.process fuel_left
@@ -287,9 +294,9 @@ module _ {D S O : Type 0} (medium : D → Medium) (gives : Giving S) (takes : Ta
           Over (ending_of how),
           refl,
           tt,
-          advance_over medium c promise stage p w v mid between fuel_left
+          advance_over medium c promise stage p [] w v mid between fuel_left
               (fuel_left_of c fuel_is first_is)
-              same same_guest how advances,
+              same same_guest how refl advances,
         )) nothing_called
 
     pub works_in_vain : (why : ProcessFault) → AdvancesProcess w.process fuel_left (Err why) v
@@ -299,7 +306,7 @@ module _ {D S O : Type 0} (medium : D → Medium) (gives : Giving S) (takes : Ta
         then_ends old w fuel disk mid mid s t t o q q so_far (with_process w v) []
         (nothing_alone gives takes t q) (Err (Work (slice_fault why)))
         (λ c promise stage p fuel_is first_is between foretold.
-        let fails = advance_fails medium c promise stage p w v mid between fuel_left
+        let fails = advance_fails medium c promise stage p [] w v mid between fuel_left
         (fuel_left_of c fuel_is first_is) same same_guest why advances in
         (Fails fails.0, (fails.0, fails.1, refl), fails.2, fails.3)) nothing_called
 
@@ -313,7 +320,7 @@ module _ {D S O : Type 0} (medium : D → Medium) (gives : Giving S) (takes : Ta
           then_goes old w fuel disk mid disk' s t t o q r so_far w' (told_lines_of flushes.0)
           (told_alone gives takes t q r flushes.0 flushes.1)
           (λ c promise stage p fuel_is first_is between foretold.
-          let owes = advance_owes medium c promise stage p w v mid between fuel_left
+          let owes = advance_owes medium c promise stage p [] w v mid between fuel_left
           (fuel_left_of c fuel_is first_is) same same_guest advances in
           flushes.2 c promise stage owes.process owes.owing foretold)
           (turn_free (length (told_lines_of flushes.0)) (most_calls (medium disk).sectors)
@@ -331,7 +338,7 @@ module _ {D S O : Type 0} (medium : D → Medium) (gives : Giving S) (takes : Ta
           then_ends old w fuel disk mid disk' s t t o q r so_far w' (told_lines_of flushes.0)
           (told_alone gives takes t q r flushes.0 flushes.1) (Err why)
           (λ c promise stage p fuel_is first_is between foretold.
-          let owes = advance_owes medium c promise stage p w v mid between fuel_left
+          let owes = advance_owes medium c promise stage p [] w v mid between fuel_left
           (fuel_left_of c fuel_is first_is) same same_guest advances in
           let fails = flushes.2 c promise stage owes.process owes.owing foretold in
           (Fails fails.0, (fails.0, fails.1, refl), fails.2, fails.3))
@@ -353,8 +360,8 @@ module _ {D S O : Type 0} (medium : D → Medium) (gives : Giving S) (takes : Ta
           then_goes old w fuel disk mid disk' s t u o q q so_far w' asks.0
           (asked_alone gives takes question asks.0 t u q asks.1)
           (λ c promise stage p fuel_is first_is between foretold.
-          let there = advance_asks medium c promise stage p w v mid between fuel_left
-          (fuel_left_of c fuel_is first_is) same same_guest question advances in
+          let there = advance_asks medium c promise stage p [] w v mid between fuel_left
+          (fuel_left_of c fuel_is first_is) same same_guest question (none_held c) advances in
           asks.2 c promise stage there.process there.asking foretold)
           (let less = owed_within (medium disk).sectors w'.store.journal.kept in
           let one = asks.3 in
@@ -370,8 +377,8 @@ module _ {D S O : Type 0} (medium : D → Medium) (gives : Giving S) (takes : Ta
           then_ends old w fuel disk mid disk' s t u o q q so_far w' asks.0
           (asked_alone gives takes question asks.0 t u q asks.1) (Ok now.Waiting)
           (λ c promise stage p fuel_is first_is between foretold.
-          let there = advance_asks medium c promise stage p w v mid between fuel_left
-          (fuel_left_of c fuel_is first_is) same same_guest question advances in
+          let there = advance_asks medium c promise stage p [] w v mid between fuel_left
+          (fuel_left_of c fuel_is first_is) same same_guest question (none_held c) advances in
           (Waits, refl, tt, asks.2 c promise stage there.process there.asking foretold)) called_last
 
       pub works_unasked : (why : WorkFault)
@@ -381,8 +388,8 @@ module _ {D S O : Type 0} (medium : D → Medium) (gives : Giving S) (takes : Ta
           then_ends old w fuel disk mid disk' s t u o q q so_far w' asks.0
           (asked_alone gives takes question asks.0 t u q asks.1) (Err why)
           (λ c promise stage p fuel_is first_is between foretold.
-          let there = advance_asks medium c promise stage p w v mid between fuel_left
-          (fuel_left_of c fuel_is first_is) same same_guest question advances in
+          let there = advance_asks medium c promise stage p [] w v mid between fuel_left
+          (fuel_left_of c fuel_is first_is) same same_guest question (none_held c) advances in
           let fails = asks.2 c promise stage there.process there.asking foretold in
           (Fails fails.0, (fails.0, fails.1, refl), fails.2, fails.3)) called_last
 
@@ -400,7 +407,7 @@ begins : (m : Module) (config : Settings) (guest : Guest) (promise : Promise) (s
       guest = guest;
       act = Slice fuel;
       first = running.process.steps;
-    }) promise stage p running disk
+    }) promise stage p [] running disk
 begins m config guest promise stage p acts running replayed fuel disk open_on next_act =
     let shows = open_on.shows in
     let between = open_on.between in
@@ -409,10 +416,14 @@ begins m config guest promise stage p acts running replayed fuel disk open_on ne
       texts = open_on.texts;
       shows = open_on.shows;
       module_is = open_on.module_is;
-      way = subst (λ n. IsUnderWay m config guest promise stage (Slice fuel) n p)
-          (sym (released_whole running.process guest p open_on.shows open_on.none_waits))
-          (slices_begin m config guest promise stage (Slice fuel) acts p between next_act tt
-          open_on.heard open_on.passed);
+      told = length p.host.lines;
+      counted = (let whole =
+          released_whole running.process guest p open_on.shows open_on.none_waits in
+          let all : length p.host.lines + 0 ≡ running.process.host.released =
+          omega (arith, whole) in all);
+      queued = none_to_tell running.process p.host.lines open_on.none_waits;
+      way = slices_begin m config guest promise stage (Slice fuel) acts p between next_act tt
+          open_on.heard open_on.passed;
       began = between.step ∙ sym shows.steps;
       on_disk = open_on.on_disk;
       synced = open_on.synced;
@@ -425,7 +436,7 @@ module _ {D : Type 0} (medium : D → Medium) (c : Course) (promise : Promise) (
     (replayed : ℕ) (disk disk' : D)
     (ends : TurnEnds c promise stage reply exchanges w (medium disk) (medium disk'))
     (few : CallsForEvents (length exchanges + 1) (medium disk) (medium disk')) where
-  call_carries : TakesSteps c.act → (phase_ended reply ≡ Open → store ≡ w.store)
+  pub call_carries : TakesSteps c.act → (phase_ended reply ≡ Open → store ≡ w.store)
       → CallCarries c.code c.config c.guest promise stage c.act reply
       (durable_of (record w { store = store }) replayed) (medium disk) (medium disk') exchanges
   call_carries stepping same =

@@ -9,8 +9,9 @@ use Rattle.state_image.specs.rules.ProcessImage.{Saved}
 use Rattle.sector_disk.specs.rules.Medium.{Medium}
 use Rattle.record_replay.specs.rules.Calls.{Giving, Taking, Exchange, Exchanges}
 use Rattle.record_replay.proofs.Following.{exchanges_join}
-use Rattle.worker_store.specs.restart_theorem.Lives.{Act, Slice, Checkpoint, Upgrade, Cause, OfDisk, Reply}
-use Rattle.worker_store.specs.restart_theorem.Lives.{Fails, Event, Ended, told_in, kept_by_end}
+use Rattle.worker_store.specs.restart_theorem.Lives.{Act, Slice, Batch, Checkpoint, Upgrade, Cause}
+use Rattle.worker_store.specs.restart_theorem.Lives.{OfDisk, Reply, Fails, Event, Ended, told_in}
+use Rattle.worker_store.specs.restart_theorem.Lives.{kept_by_end}
 use Rattle.worker_store.specs.restart_theorem.Courses.{Stage, Open, phase_ended, stage_after, without_first}
 use Rattle.worker_store.specs.restart_theorem.Promises.{Promise, after, promised, IsKept, AreKept}
 use Rattle.worker_store.specs.restart_theorem.Holds.{KeepsPromise, KeepsBounds}
@@ -24,7 +25,8 @@ use Rattle.worker.specs.rules.CallCounts.{CallsForEvents}
 use Rattle.worker.specs.rules.DurableValues.{DurableValue}
 use Rattle.worker.specs.rules.OpenWorkers.{IsOpenOn}
 use Rattle.worker.specs.rules.DurableCalls.{CallCarries}
-use Rattle.worker.specs.rules.OneLife.{CallsInOrder, no_more, sliced, slice_failed, saved}
+use Rattle.worker.specs.rules.OneLife.{CallsInOrder, no_more, sliced, slice_failed, batched}
+use Rattle.worker.specs.rules.OneLife.{batch_failed, saved}
 use Rattle.worker.specs.rules.OneLife.{saving_failed, was_upgraded, upgrade_failed, IsCauseOf}
 use Rattle.worker.specs.rules.OneLife.{opened_in}
 use Rattle.worker.specs.laws.OneLife.{IsLater, released_in}
@@ -242,6 +244,37 @@ module _ {D S O : Type 0} (medium : D → Medium) (gives : Giving S) (takes : Ta
             open_on.opened
             (subst (λ (r : Reply). CallCarries m config guest promise stage (Slice fuel) r w'
             (medium disk) (medium last) slice.0) failure.2 did.3)),
+      )
+  calls_make acts w disk last source source' outlet outlet' undone
+      (batched {fuel = fuel} {most = most} {acts = others} {w' = w'} {disk' = mid}
+      {source' = inside} {outlet' = beyond} said batch more) =
+      let rest = calls_make others w' mid last inside source' beyond outlet' undone more in (
+        batch.0 ++ rest.0,
+        exchanges_join gives takes source source' inside outlet outlet' beyond batch.0 rest.0
+            batch.1 rest.1,
+        λ m config guest promise stage p open_on acts_are foretold keeps bounded.
+            let first = parts_are_foretold m config promise promise stage stage batch.0 rest.0
+            foretold in
+            let did = batch.2 m config guest promise stage p others open_on acts_are first.1 in
+            call_then m config guest promise stage (Batch fuel most) did.0 others w'
+            batch.0 rest.0 undone (medium disk) (medium mid) (medium last) acts_are foretold
+            (call_goes m config guest promise stage (Batch fuel most) did.0 w' batch.0 (medium disk)
+            (medium mid) (slices_go said did.0 did.1) did.3) (rest.2 m config guest),
+      )
+  calls_make acts w disk last source source' outlet outlet' undone
+      (batch_failed {fuel = fuel} {most = most} {acts = others} {w' = w'} {why = why} batch) = (
+        batch.0,
+        batch.1,
+        λ m config guest promise stage p open_on acts_are foretold keeps bounded.
+            let did = batch.2 m config guest promise stage p others open_on acts_are foretold in
+            let failure = did.1 in
+            calls_end m config promise stage why batch.0 (medium disk) (medium last)
+            (call_fails m config guest promise stage (Batch fuel most) failure.0 why w' batch.0
+            (medium disk) (medium last) failure.1 (λ events are other. refl)
+            (cause_of_slice why guest config w'.process (medium disk) (medium last) did.2)
+            open_on.opened
+            (subst (λ (r : Reply). CallCarries m config guest promise stage (Batch fuel most) r w'
+            (medium disk) (medium last) batch.0) failure.2 did.3)),
       )
   calls_make acts w disk last source source' outlet outlet' undone
       (saved {acts = others} {w' = w'} {disk' = mid} checkpoint more) =

@@ -1,4 +1,4 @@
--- What the last slice of a life has answered, from the calls of that life.
+-- What the last slice or batch of a life has answered, from the calls of that life.
 use Rattle.std.proofs.Common.{◌≡◌, ◌⊎◌, inl, inr, ℕ, List, [], ◌∷◌, ◌++◌, refl, sym, ap, ◌∙◌}
 use Rattle.std.proofs.Common.{subst, Ok, append_assoc, append-nil}
 use Rattle.std.specs.Prelude.{Result, map}
@@ -12,7 +12,8 @@ use Rattle.record_replay.specs.rules.Calls.{Giving, Taking, Exchange, Tells, Exc
 use Rattle.record_replay.proofs.Following.{exchanges_join}
 use Rattle.record_replay.specs.declared.slices.now.Now.{Now}
 use Rattle.record_replay.specs.declared.slices.now.Now.TheVariants as now
-use Rattle.worker_store.specs.restart_theorem.Lives.{Act, Slice, Batch, Checkpoint, Upgrade, Reply, Spent, Event}
+use Rattle.worker_store.specs.restart_theorem.Lives.{Act, Slice, Batch, Checkpoint, Upgrade, Reply}
+use Rattle.worker_store.specs.restart_theorem.Lives.{Spent, Event}
 use Rattle.worker_store.specs.restart_theorem.Lives.{Told, Asked, Opened, Ended, told_in, Inputs, Beginning}
 use Rattle.worker_store.specs.restart_theorem.Courses.{Stage, at_beginning, phase_ended, stage_after}
 use Rattle.worker_store.specs.restart_theorem.Courses.{without_first}
@@ -27,7 +28,8 @@ use Rattle.worker.specs.declared.recover_fault.RecoverFault.{RecoverFault}
 use Rattle.worker.specs.rules.DurableValues.{DurableValue}
 use Rattle.worker.specs.rules.OpenWorkers.{IsOpenOn}
 use Rattle.worker.specs.rules.DurableCalls.{IsReplyOf, CallCarries, call_events}
-use Rattle.worker.specs.rules.OneLife.{CallsInOrder, no_more, sliced, slice_failed, saved}
+use Rattle.worker.specs.rules.OneLife.{CallsInOrder, no_more, sliced, slice_failed, batched}
+use Rattle.worker.specs.rules.OneLife.{batch_failed, saved}
 use Rattle.worker.specs.rules.OneLife.{saving_failed, was_upgraded, upgrade_failed, opened}
 use Rattle.worker.specs.rules.OneLife.{unopened}
 use Rattle.worker.specs.laws.OneLife.{released_in}
@@ -201,6 +203,41 @@ module _ {D S O : Type 0} (medium : D → Medium) (gives : Giving S) (takes : Ta
             (medium mid) slice.0 did.3 rest.0 foretold)),
       )
   calls_say acts w disk last source source' outlet outlet' undone (slice_failed slice) is =
+      absurd (cc)
+  calls_say acts w disk last source source' outlet outlet' undone
+      (batched {fuel = fuel} {most = most} {acts = others} {w' = w'} {disk' = mid}
+      {source' = inside} {outlet' = beyond} said batch more) is =
+      let rest = calls_say others w' mid last inside source' beyond outlet' undone more is in (
+        batch.0 ++ rest.0,
+        exchanges_join gives takes source source' inside outlet outlet' beyond batch.0 rest.0
+            batch.1 rest.1,
+        λ m config guest promise stage p open_on acts_are foretold.
+            let first = parts_are_foretold m config promise promise stage stage batch.0 rest.0
+            foretold in
+            let did = batch.2 m config guest promise stage p others open_on acts_are first.1 in
+            let again = did.3.goes_on (slices_go said did.0 did.1) in
+            says_on m config promise stage batch.0 rest.0
+            (λ before. outcome_after said more) (λ before. outcome_after before more)
+            (all_events m config guest promise stage (Batch fuel most) did.0 w' (medium disk)
+            (medium mid) batch.0 did.3) did.3.kept
+            (told_all m config guest promise stage (Batch fuel most) did.0 w' (medium disk)
+            (medium mid) batch.0 did.3)
+            (λ before. (
+              said,
+              call_says (reply_of before) (Batch fuel most) did.0 did.3.held w' batch.0 did.3.events
+                  did.3.are ∙ reply_is said did.0 did.1,
+              refl,
+            ))
+            (rest.2 m config guest (promised promise (all_events m config guest promise stage
+            (Batch fuel most) did.0 w' (medium disk) (medium mid) batch.0 did.3))
+            (stage_after stage (all_events m config guest promise stage (Batch fuel most) did.0 w'
+            (medium disk) (medium mid) batch.0 did.3)) again.0 again.1
+            (acts_left m config guest promise stage (Batch fuel most) did.0 w' (medium disk)
+            (medium mid) batch.0 did.3 others acts_are)
+            (still_foretold m config guest promise stage (Batch fuel most) did.0 w' (medium disk)
+            (medium mid) batch.0 did.3 rest.0 foretold)),
+      )
+  calls_say acts w disk last source source' outlet outlet' undone (batch_failed batch) is =
       absurd (cc)
   calls_say acts w disk last source source' outlet outlet' undone
       (saved {acts = others} {w' = w'} {disk' = mid} checkpoint more) is =

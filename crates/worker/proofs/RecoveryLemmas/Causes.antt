@@ -44,7 +44,8 @@ module _ (old mid new : Medium) (just_synced : IsJustSynced old mid) (found : Fo
       → ReopeningFails found.geometry g v mid new fault
       → HasRecoveryCause old new (recover.Worker (fault_of_store fault))
   reopening_cause g v store.TooBig fails = tt
-  reopening_cause g v (store.Disk fault) (inl few) =
+  reopening_cause g v (store.Disk fault) (inl small) = absurd (omega (arith, small, room))
+  reopening_cause g v (store.Disk fault) (inr (inl few)) =
       let passes = just_synced.leaves.passes in
       let sectors = passes.sectors in
       let same = passes.room in
@@ -54,12 +55,12 @@ module _ (old mid new : Medium) (just_synced : IsJustSynced old mid) (found : Fo
         omega (arith, room, sectors),
         inl (omega (arith, few, same, synced)),
       )
-  reopening_cause g v (store.Disk fault) (inr (inl no_room)) =
+  reopening_cause g v (store.Disk fault) (inr (inr (inl no_room))) =
       let passes = just_synced.leaves.passes in
       let sectors = passes.sectors in
       let same = passes.room in
       inr (found.geometry, omega (arith, room, sectors), inr (omega (arith, no_room, same)))
-  reopening_cause g v (store.Disk fault) (inr (inr failed)) =
+  reopening_cause g v (store.Disk fault) (inr (inr (inr failed))) =
       let passes = just_synced.leaves.passes in
       let faults = passes.faults in
       inl (omega (arith, failed, faults))

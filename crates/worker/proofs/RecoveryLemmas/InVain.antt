@@ -15,7 +15,7 @@ use Rattle.sector_disk.specs.rules.Medium.{CallsUpTo}
 use Rattle.sector_disk.proofs.Moments.{leaves_weaker}
 use Rattle.disk_layout.specs.declared.fault.LayoutFault.TheVariants as layout
 use Rattle.disk_layout.specs.declared.geometry.Geometry.{Geometry}
-use Rattle.disk_layout.specs.rules.Places.{geometry_of}
+use Rattle.disk_layout.specs.rules.Places.{geometry_of, total_sectors}
 use Rattle.record_replay.specs.declared.fault.ReplayFault.{ReplayFault}
 use Rattle.record_replay.specs.declared.fault.ReplayFault.TheVariants as replay
 use Rattle.record_replay.specs.rules.Calls.{Taking, Begun, Tells, Releases, all_taken}
@@ -48,6 +48,7 @@ use Rattle.worker.specs.rules.WorkFaults.{fault_of_store}
 use Rattle.worker.specs.rules.Recoveries.{IsNoWorker, IsJustSynced, MayNotReopen}
 use Rattle.worker.specs.rules.Recoveries.{ReopensInVain, EndsInVain}
 use Rattle.worker.specs.Revivals.{IsReplayed, StopsInVain, OpensNone}
+use Rattle.worker.proofs.EnoughLemmas.{with_enough}
 use Rattle.worker.proofs.RecoveryLemmas.Undiverged.{undiverged, lines_within}
 use Rattle.worker.proofs.RecoveryLemmas.There.{IsThere}
 use Rattle.worker.proofs.RecoveryLemmas.Lives.{IsBack, come_lives, is_back}
@@ -298,12 +299,17 @@ module _ {D O : Type 0} (medium : D → Medium) (takes : Taking O) (m : Module)
       fails_for (store.Disk fault) cause =
           let at = there.found_at in
           let all = just_synced.all_synced in
-          let passes = just_synced.leaves.passes in (
+          let passes = just_synced.leaves.passes in
+          let enough : total_sectors found.geometry ≤ (medium mid).sectors =
+          subst (λ n. total_sectors found.geometry ≤ n) (sym passes.sectors)
+          (subst (λ (g : Geometry). total_sectors g ≤ (medium old).sectors) (sym at.geometry)
+          there.room) in (
             (
               refl,
               too_few config (medium old) (medium mid) (medium new) found.geometry.area_sectors
                   (ap (λ (g : Geometry). g.area_sectors) at.geometry) all.unsynced passes.room
-                  passes.faults cause,
+                  passes.faults
+                  (with_enough (medium mid).sectors (total_sectors found.geometry) enough cause),
             ),
             λ denies. denies,
           )

@@ -64,7 +64,7 @@ pub record LastSliceEnds (m : Module) (config : Settings) (so_far : Promise) (be
 
 -- The exchanges of a life that begins so, in which the power isn't cut, and its events, which keep
 -- what was promised. Either its outcome is that the worker goes on, of which no more is said. Or
--- its last slice has answered this outcome.
+-- its last slice or batch has answered this outcome.
 pub record EndsAsSaid {S O : Type 0} (gives : Giving S) (takes : Taking O) (m : Module)
     (config : Settings) (so_far : Promise) (begins : Beginning) (acts : List Act) (outcome : Now)
     (source source' : S) (outlet outlet' : O) : Type 0 where

@@ -3,6 +3,7 @@
 use Rattle.worker_store.specs.restart_theorem.Lives.Beginning.{Recovers}
 pub use Rattle.worker_store.specs.restart_theorem.Lives.{Act, Slice, Batch, Checkpoint, Upgrade, Beginning}
 pub use Rattle.worker_store.specs.restart_theorem.Lives.{Release}
+pub use Rattle.worker_store.specs.restart_theorem.Promises.{fuel_of}
 
 -- a life that begins by a recovery
 abbrev pub by_recovery : Beginning

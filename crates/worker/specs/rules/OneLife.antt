@@ -7,7 +7,8 @@ use Rattle.sector_disk.specs.rules.DiskImage.{DiskImage}
 use Rattle.sector_disk.specs.rules.Medium.{Medium}
 use Rattle.record_replay.specs.declared.fault.ReplayFault.TheVariants as replay
 use Rattle.record_replay.specs.rules.Calls.{Giving, Taking}
-use Rattle.worker_store.specs.restart_theorem.Lives.{Act, Slice, Checkpoint, Upgrade, Cause, OfMemory, OfOutlet}
+use Rattle.worker_store.specs.restart_theorem.Lives.{Act, Slice, Batch, Checkpoint, Upgrade, Cause}
+use Rattle.worker_store.specs.restart_theorem.Lives.{OfMemory, OfOutlet}
 use Rattle.worker_store.specs.restart_theorem.Lives.{Event, Told, Asked, Opened, Ended, Beginning, Creates}
 use Rattle.worker_store.specs.restart_theorem.Lives.Beginning.{Recovers as recovers}
 use Rattle.record_replay.specs.declared.slices.now.Now.{Now}
@@ -17,6 +18,7 @@ use Rattle.worker.specs.declared.recover_fault.RecoverFault.TheVariants as recov
 use Rattle.worker.specs.rules.DurableValues.{DurableValue}
 use Rattle.worker.specs.rules.DurableCalls.{ComesOf, SliceCarries, CheckpointCarries}
 use Rattle.worker.specs.rules.DurableCalls.{UpgradeCarries}
+use Rattle.worker.specs.rules.Batches.{BatchCarries}
 use Rattle.worker.specs.rules.Checkpoints.{CheckpointFails}
 use Rattle.worker.specs.rules.Upgrades.{UpgradeFails}
 use Rattle.worker.specs.rules.DurableCreations.{CreationKeeps, IsNotCreatedOn}
@@ -25,8 +27,9 @@ use Rattle.worker.specs.rules.Recoveries.{SaysNoWorker, Recovers, RecoveryCarrie
 
 -- ---- the calls of a life
 
--- Slices, checkpoints and upgrades of a worker that is open, one after another, each as its clause
--- says. After an error there is no other one. What is then still to be done, or that error.
+-- Slices, batches, checkpoints and upgrades of a worker that is open, one after another, each as
+-- its clause says. After an error there is no other one. What is then still to be done, or that
+-- error.
 pub data CallsInOrder {D S O : Type 0} (medium : D → Medium) (gives : Giving S) (takes : Taking O)
     : List Act → DurableValue → D → S → O → Result (List Act) RecoverFault → D → S → O → Type 0
   where
@@ -47,6 +50,22 @@ pub data CallsInOrder {D S O : Type 0} (medium : D → Medium) (gives : Giving S
         → SliceCarries gives takes w fuel (Err why) w' (medium disk) (medium last) source source'
         outlet outlet'
         → CallsInOrder medium gives takes (Slice fuel ∷ acts) w disk source outlet
+        (Err (recover.Worker why)) last source' outlet'
+    batched : {fuel most : ℕ} {acts : List Act} {w w' : DurableValue} {disk disk' last : D}
+        {source source' source_last : S} {outlet outlet' outlet_last : O}
+        {undone : Result (List Act) RecoverFault} (said : Now)
+        → BatchCarries gives takes w fuel most (Ok said) w' (medium disk) (medium disk') source
+        source' outlet outlet'
+        → CallsInOrder medium gives takes acts w' disk' source' outlet' undone last source_last
+        outlet_last
+        → CallsInOrder medium gives takes (Batch fuel most ∷ acts) w disk source outlet undone last
+        source_last
+        outlet_last
+    batch_failed : {fuel most : ℕ} {acts : List Act} {w w' : DurableValue} {why : WorkFault}
+        {disk last : D} {source source' : S} {outlet outlet' : O}
+        → BatchCarries gives takes w fuel most (Err why) w' (medium disk) (medium last) source
+        source' outlet outlet'
+        → CallsInOrder medium gives takes (Batch fuel most ∷ acts) w disk source outlet
         (Err (recover.Worker why)) last source' outlet'
     saved : {acts : List Act} {w w' : DurableValue} {disk disk' last : D} {source source_last : S}
         {outlet outlet_last : O} {undone : Result (List Act) RecoverFault}

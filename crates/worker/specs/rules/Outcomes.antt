@@ -1,4 +1,4 @@
--- What the last slice of a life has answered (this project's own).
+-- What the last slice or batch of a life has answered (this project's own).
 use Rattle.std.specs.Prelude.{ℕ, List, Option, Result}
 use Rattle.wasi_abi.specs.rules.Configs.{Settings}
 use Rattle.sector_disk.specs.rules.Medium.{Medium}
@@ -8,12 +8,13 @@ use Rattle.record_replay.specs.declared.slices.now.Now.TheVariants.{Spent}
 use Rattle.worker.specs.declared.recover_fault.RecoverFault.{RecoverFault}
 use Rattle.worker.specs.rules.DurableValues.{DurableValue}
 use Rattle.worker.specs.rules.LifeWords.{Act, Beginning}
-use Rattle.worker.specs.rules.OneLife.{CallsInOrder, no_more, sliced, slice_failed, saved}
+use Rattle.worker.specs.rules.OneLife.{CallsInOrder, no_more, sliced, slice_failed, batched}
+use Rattle.worker.specs.rules.OneLife.{batch_failed, saved}
 use Rattle.worker.specs.rules.OneLife.{saving_failed, was_upgraded, upgrade_failed, IsOneLife}
 use Rattle.worker.specs.rules.OneLife.{opened, unopened}
 
--- What the last slice of these calls has answered, of those without an error; where there is none,
--- what was answered before them.
+-- What the last slice or batch of these calls has answered, of those without an error; where there
+-- is none, what was answered before them.
 abbrev pub outcome_after : {D S O : Type 0} {medium : D → Medium} {gives : Giving S}
     {takes : Taking O} {acts : List Act} {w : DurableValue} {disk last : D} {source source' : S}
     {outlet outlet' : O} {undone : Result (List Act) RecoverFault} → Now
@@ -21,6 +22,8 @@ abbrev pub outcome_after : {D S O : Type 0} {medium : D → Medium} {gives : Giv
 outcome_after before no_more = before
 outcome_after before (sliced said carries others) = outcome_after said others
 outcome_after before (slice_failed carries) = before
+outcome_after before (batched said carries others) = outcome_after said others
+outcome_after before (batch_failed carries) = before
 outcome_after before (saved carries others) = outcome_after before others
 outcome_after before (saving_failed carries cause) = before
 outcome_after before (was_upgraded carries others) = outcome_after before others

@@ -4,7 +4,7 @@ use Rattle.std.specs.Prelude.{None, Ok}
 use Rattle.wasi_abi.specs.declared.answer.Answer.{Answer}
 use Rattle.sector_disk.specs.declared.place.Place.{Place}
 use Rattle.worker_store.specs.restart_theorem.Lives.{Act, Checkpoint, Upgrade, SourceSaid, Inputs}
-use Rattle.worker_store.specs.restart_theorem.Lives.Act.{Slice as slice}
+use Rattle.worker_store.specs.restart_theorem.Lives.Act.{Slice as slice, Batch as batch}
 use Rattle.worker.specs.declared.story.life.PlannedAct.{PlannedAct}
 use Rattle.worker.specs.declared.story.life.PlannedAct.TheVariants as planned
 use Rattle.worker.specs.declared.story.life.PlannedLife.{PlannedLife}
@@ -12,6 +12,7 @@ use Rattle.worker.specs.declared.story.life.PlannedLife.{PlannedLife}
 -- an act, in the words of the restart theorem
 abbrev pub act_of : PlannedAct → Act
 act_of (planned.Slice fuel) = slice fuel
+act_of (planned.Batch fuel most) = batch fuel most
 act_of planned.Checkpoint = Checkpoint
 act_of planned.Upgrade = Upgrade
 

@@ -139,7 +139,9 @@ pub record IsRunOn (bytes : List ℕ) (config : Settings) (planned : PlannedLife
 
 -- ---- all lives
 
--- Lives that were run one after another, each on the disk that the one before it left.
+-- Lives that were run one after another, each on the disk that the one before it left, or on a
+-- copy of that. A copy has the same sectors, the same writes since the last good sync, and room for
+-- as many.
 pub data AreRunOn (bytes : List ℕ) (config : Settings) : List PlannedLife → List LifeReport
     → MemDisk → MemDisk → Type 0 where
   none : {disk : MemDisk} → AreRunOn bytes config [] [] disk disk
@@ -148,6 +150,10 @@ pub data AreRunOn (bytes : List ℕ) (config : Settings) : List PlannedLife → 
       → AreRunOn bytes config planned reports first found
       → IsRunOn bytes config one report found next
       → AreRunOn bytes config (planned ++ one ∷ []) (reports ++ report ∷ []) first next
+  copied : {planned : List PlannedLife} {reports : List LifeReport} {first last copy : MemDisk}
+      → AreRunOn bytes config planned reports first last
+      → memory_state_of copy ≡ memory_state_of last
+      → AreRunOn bytes config planned reports first copy
 
 -- Where the bytes spell an accepted module, the report tells lives that go on as one that was never
 -- stopped. They are of this module, and with what was put into each. They were run one after

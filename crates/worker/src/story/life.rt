@@ -9,6 +9,9 @@ use wasm_syntax::ItemList;
 pub enum PlannedAct {
     /// To take at most so many steps.
     Slice { fuel: u64 },
+    /// To take at most so many steps. Where the process asks, fewer than `most` lines may wait to
+    /// be told by one sync.
+    Batch { fuel: u64, most: u64 },
     Checkpoint,
     Upgrade,
 }

@@ -14,7 +14,7 @@ use crate::story::life::PlannedAct;
 use crate::story::opening::{OpenedWorker, open_worker};
 use crate::story::report::Opening;
 use crate::{RecoverFault, WorkFault, Worker};
-use record_replay::{Outlet, Source};
+use record_replay::{Outlet, Readiness, Source};
 use sector_disk::Disk;
 use state_image::write_process_image;
 use std::alloc::{AllocError, Global};
@@ -37,7 +37,7 @@ pub(crate) struct LivedOnce {
 
 /// One life on this disk: a recovery, or a creation, and then these acts up to the first error.
 /// Only out of memory for what is told makes it fail.
-pub(crate) fn live_once<D: Disk, S: Source, O: Outlet>(
+pub(crate) fn live_once<D: Disk, S: Source + Readiness, O: Outlet>(
     alloc: Global,
     spelled: SpelledWorker,
     disk: &mut D,
@@ -59,7 +59,7 @@ pub(crate) fn live_once<D: Disk, S: Source, O: Outlet>(
 }
 
 /// What comes after the opening.
-fn go_on<D: Disk, S: Source, O: Outlet>(
+fn go_on<D: Disk, S: Source + Readiness, O: Outlet>(
     alloc: Global,
     opened: OpenedWorker,
     disk: &mut D,
@@ -115,7 +115,7 @@ fn tell_opening(alloc: Global, worker: &Worker, is_created: bool) -> Result<Open
 }
 
 /// These acts, one after another, up to the first error.
-fn do_all<D: Disk, S: Source, O: Outlet>(
+fn do_all<D: Disk, S: Source + Readiness, O: Outlet>(
     worker: &mut Worker,
     disk: &mut D,
     acts: &[PlannedAct],
@@ -135,7 +135,7 @@ fn do_all<D: Disk, S: Source, O: Outlet>(
     Ok(())
 }
 
-fn do_one<D: Disk, S: Source, O: Outlet>(
+fn do_one<D: Disk, S: Source + Readiness, O: Outlet>(
     worker: &mut Worker,
     disk: &mut D,
     act: PlannedAct,
@@ -150,6 +150,10 @@ fn do_one<D: Disk, S: Source, O: Outlet>(
 {
     match act {
         PlannedAct::Slice { fuel } => match worker.slice(disk, fuel, source, outlet) {
+            Ok(_now) => Ok(()),
+            Err(fault) => Err(fault),
+        },
+        PlannedAct::Batch { fuel, most } => match worker.batch(disk, fuel, most, source, outlet) {
             Ok(_now) => Ok(()),
             Err(fault) => Err(fault),
         },

@@ -23,6 +23,8 @@
 //!   that a cut keeps are those that are told, in order, of all writes but the front of a stop
 //!   (`IsNextDisk`).
 //! - All lives are run on one disk, which is empty at first, by the calls of a worker (`AreRunOn`).
+//!   `story_with_start` also keeps what those before a place have left. On a copy of that
+//!   `story_from` runs other lives behind them.
 //!   It takes as many writes between two syncs as ever wait for one (`most_unsynced`), and not one
 //!   more. A life whose worker left more of them unsynced would end in a fault of the disk.
 //! - A recovered life is of the generation after that of the worker that it found on the disk
@@ -41,21 +43,24 @@
 //!
 //! # Who may touch what
 //!
-//! It makes its disk, its sources and its outlets itself, and hands out none. It makes the four
-//! calls of a `Worker`, over the disks of `sector_disk`. It takes memory for the disk, for copies
-//! of the answers, and for the lines and images that it tells. A cut takes none.
+//! It makes its disk, its sources and its outlets itself, and hands out none. It makes the calls of
+//! a `Worker`, over the disks of `sector_disk`. It takes memory for the disk, for what a start
+//! keeps of it, for copies of the answers, and for the lines and images that it tells. A cut takes
+//! none.
 //!
 //! A story is handed the module's bytes, which a creation writes to the disk, and not a module. One
 //! that isn't accepted opens no life, and each life says why.
 
-ghost use Rattle.std.specs.Prelude.{◌≡◌, ◌<◌, ◌^◌, IfOk, length};
+ghost use Rattle.std.specs.Prelude.{◌≡◌, ◌++◌, ◌<◌, ◌≤◌, ◌^◌, IfOk, IfSome, List, length, take};
 ghost use Rattle.record_replay.specs.rules.Lists.{inner_outlet};
 ghost use Rattle.worker.specs.rules.Planned.{number_refused};
-ghost use Rattle.worker.specs.rules.StoryDisks.{IsEmptyDisk, IsEmptyDiskFor, IsRunOn};
+ghost use Rattle.worker.specs.rules.StoryDisks.{IsEmptyDiskFor, IsRunOn};
 ghost use Rattle.worker.specs.rules.StoryDisks.{TellsLives};
 ghost use Rattle.disk_layout.specs.rules.Unsynced.{most_unsynced};
 ghost use Rattle.worker.specs.Endings.{EndsLife};
-ghost use Rattle.worker.specs.Going.{LivesOn};
+ghost use Rattle.worker.specs.Going.{GoOnBehind, HasSize, HaveStarted, LivesOn, AddsReports};
+ghost use Rattle.worker.specs.declared.story.life.PlannedLife.{PlannedLife};
+ghost use Rattle.worker.specs.declared.story.report.LifeReport.{LifeReport};
 
 mod copying;
 mod ending;
@@ -65,6 +70,7 @@ mod life;
 mod living;
 mod opening;
 mod report;
+mod starting;
 
 use crate::laws::calls_make_lives;
 use crate::story::copying::copy_answers;
@@ -77,6 +83,7 @@ pub use life::{PlannedAct, PlannedLife};
 use record_replay::{AnswerList, RefusingOutlet};
 pub use report::{LifeEnd, LifeReport, Opening, Report};
 use sector_disk::{Disk, DiskFault, FaultDisk, MemDisk};
+pub use starting::StoryStart;
 use std::alloc::Global;
 use wasi_abi::Config;
 use wasm_syntax::ItemList;
@@ -108,20 +115,18 @@ impl StoryRoom {
         StoryRoom { disk: None }
     }
 
-    /// A disk of zeros of so many sectors, which takes so many writes between two syncs. It is the
-    /// one that is here, if that has this size.
+    /// A disk of so many sectors, which takes so many writes between two syncs. It is the one that
+    /// is here, if that has this size.
     fn take_disk(
         &mut self,
         alloc: Global,
         sectors: u64,
         writes: usize,
     ) -> Result<MemDisk, DiskFault>
-        ensures { IfOk result (IsEmptyDisk sectors writes) }
+        ensures { IfOk result (HasSize sectors writes) }
     {
         match self.disk.take() {
-            Some(disk) if disk.sectors() == sectors && disk.write_limit() == writes => {
-                Ok(disk.wiped())
-            }
+            Some(disk) if disk.sectors() == sectors && disk.write_limit() == writes => Ok(disk),
             _ => MemDisk::new(alloc, sectors, writes),
         }
     }
@@ -137,23 +142,106 @@ pub fn story_in(
 ) -> Result<Report, StoryFault>
     ensures { IfOk result (λ report. TellsLives wasm.now config.now lives.now report.lives) }
 {
-    let mut disk = empty_disk(alloc, room, wasm, config)?;
+    let disk = empty_disk(alloc, room, wasm, config)?;
     let mut told = ItemList::new(alloc);
+    let last = live_all(
+        alloc,
+        SpelledWorker { wasm, config },
+        disk,
+        lives,
+        &mut told,
+    )?;
+    room.disk = Some(last);
+    Ok(Report { lives: told })
+}
+
+/// What is told of lives, and what those before a place among them have left.
+#[derive(Drop)]
+pub struct HaltedStory {
+    pub report: Report,
+    /// There is none if a write of theirs waits for a sync, as it may after an error.
+    pub start: Option<StoryStart>,
+}
+
+/// The same lives, and what those before this place leave. From there `story_from` goes on.
+pub fn story_with_start(
+    alloc: Global,
+    room: &mut StoryRoom,
+    wasm: &[u8],
+    config: &Config,
+    lives: &[PlannedLife],
+    place: usize,
+) -> Result<HaltedStory, StoryFault>
+    requires { place ≤ length lives.now }
+    ensures told { IfOk result (λ halted. TellsLives wasm.now config.now lives.now
+        halted.report.lives) }
+    ensures start { IfOk result (λ halted. IfSome halted.start (HaveStarted wasm.now config.now
+        (take place lives.now) (take place halted.report.lives))) }
+{
+    let spelled = SpelledWorker { wasm, config };
+    let disk = empty_disk(alloc, room, wasm, config)?;
+    let mut told = ItemList::new(alloc);
+    let mut left = live_all(alloc, spelled, disk, &lives[..place], &mut told)?;
+    let start = StoryStart::of(alloc, &mut left)?;
+    let last = live_all(alloc, spelled, left, &lives[place..], &mut told)?;
+    room.disk = Some(last);
+    Ok(HaltedStory {
+        report: Report { lives: told },
+        start,
+    })
+}
+
+/// Lives that go on from a start, which stays as it is. Only they are told.
+pub fn story_from(
+    alloc: Global,
+    room: &mut StoryRoom,
+    start: &StoryStart,
+    wasm: &[u8],
+    config: &Config,
+    lives: &[PlannedLife],
+) -> Result<Report, StoryFault>
+    ensures { IfOk result (λ report. (earlier : List PlannedLife) (before : List LifeReport)
+        → HaveStarted wasm.now config.now earlier before start.now
+        → TellsLives wasm.now config.now (earlier ++ lives.now) (before ++ report.lives)) }
+{
+    let used = room.take_disk(alloc, start.sectors.len() as u64, start.writes)?;
+    let mut disk = used.into_cut(&[]);
+    start.put_on(&mut disk)?;
+    let mut told = ItemList::new(alloc);
+    let last = live_all(
+        alloc,
+        SpelledWorker { wasm, config },
+        disk,
+        lives,
+        &mut told,
+    )?;
+    room.disk = Some(last);
+    Ok(Report { lives: told })
+}
+
+/// Lives one after another, the first on this disk. What is told of them is put behind a list.
+/// Answers the disk that the last one leaves.
+fn live_all(
+    alloc: Global,
+    spelled: SpelledWorker,
+    found: MemDisk,
+    lives: &[PlannedLife],
+    told: &mut ItemList<LifeReport>,
+) -> Result<MemDisk, StoryFault>
+    ensures gone { IfOk result (λ last. GoOnBehind spelled.entry.wasm.now spelled.entry.config.now
+        lives.now found told.old last told.new) }
+    ensures more { IfOk result (λ _. AddsReports lives.now told.old told.new) }
+{
+    let mut disk = found;
     for life in lives {
-        let LivedOn { report, disk: last } = live(
-            alloc,
-            SpelledWorker { wasm, config },
-            disk,
-            life,
-        )?;
+        let LivedOn { report, disk: last } = live(alloc, spelled, disk, life)?;
         disk = last;
         match told.push(report) {
             Ok(()) => {}
             Err(_) => return Err(StoryFault::Memory),
         }
     }
-    room.disk = Some(disk);
-    Ok(Report { lives: told })
+    Ok(disk)
 }
 
 /// A disk of zeros with all sectors of this worker, which takes as many writes between two syncs as
@@ -169,7 +257,7 @@ fn empty_disk(
 {
     let places = Geometry::of(config, module_len(wasm));
     match room.take_disk(alloc, places.total_sectors(), writes_at_once(&places)) {
-        Ok(disk) => Ok(disk),
+        Ok(disk) => Ok(disk.wiped()),
         Err(_) => Err(StoryFault::Memory),
     }
 }

@@ -1,9 +1,5 @@
 //! Two lives of a worker: the first is cut, and the second goes on.
 
-ghost use Rattle.std.specs.Prelude.{◌≤◌};
-ghost use Rattle.disk_layout.specs.rules.Places.{total_sectors};
-ghost use Rattle.sector_disk.specs.rules.Memory.{memory_medium};
-
 use crate::guests::{ECHO, HELLO, SECTORS, SYNC_FOLDER, SYNC_OUTPUT, THREE, blank};
 use crate::halt::Halt;
 use crate::rows::assert_row;
@@ -346,9 +342,7 @@ fn disk_after_life(
     mut worker: Worker,
     disk: MemDisk,
     story: &Story,
-) -> (MemDisk, Result<bool, Halt>)
-    requires { total_sectors worker.store.geometry ≤ (memory_medium disk).sectors }
-{
+) -> (MemDisk, Result<bool, Halt>) {
     let mut told = LineList::new(alloc);
     let mut stopping = FaultDisk::new(disk, story.stop, None);
     let worked = work_on(alloc, &mut worker, &mut stopping, &story.work, &mut told);

@@ -1,9 +1,5 @@
 //! What saving a worker costs its disk, and when a journal that is full makes it do so.
 
-ghost use Rattle.std.specs.Prelude.{◌≤◌, OnOk};
-ghost use Rattle.disk_layout.specs.rules.Places.{total_sectors};
-ghost use Rattle.sector_disk.specs.rules.Memory.{memory_medium};
-
 use crate::guests::{ECHO, SECTORS, THREE, blank};
 use crate::halt::Halt;
 use crate::rows::assert_row;
@@ -163,11 +159,7 @@ pub(crate) fn work_on_each(
     worker: &mut Worker,
     disk: &mut MemDisk,
     parts: &[Work],
-) -> Result<(), Halt>
-    requires { total_sectors worker.old.store.geometry ≤ (memory_medium disk.old).sectors }
-    ensures { OnOk result
-        (total_sectors worker.new.store.geometry ≤ (memory_medium disk.new).sectors) }
-{
+) -> Result<(), Halt> {
     let mut told = LineList::new(alloc);
     for work in parts {
         work_on(alloc, worker, disk, work, &mut told)?;
@@ -203,9 +195,7 @@ fn count_calls(
     worker: &mut Worker,
     disk: MemDisk,
     last: &Work,
-) -> Result<(MemDisk, (u64, u64, u64)), Halt>
-    requires { total_sectors worker.old.store.geometry ≤ (memory_medium disk).sectors }
-{
+) -> Result<(MemDisk, (u64, u64, u64)), Halt> {
     let mut told = LineList::new(alloc);
     let mut counting = FaultDisk::new(disk, None, None);
     let worked = work_on(alloc, worker, &mut counting, last, &mut told);
@@ -225,9 +215,7 @@ fn is_last_so(
     before: &mut MemDisk,
     disk: MemDisk,
     cost: &Cost,
-) -> Result<bool, Halt>
-    requires { total_sectors worker.old.store.geometry ≤ (memory_medium disk).sectors }
-{
+) -> Result<bool, Halt> {
     let (mut after, calls) = count_calls(alloc, worker, disk, &cost.last)?;
     let differ = differ_at(before, &mut after, cost.changes, cost.front);
     drop(after);
@@ -240,9 +228,7 @@ fn costs_so(
     worker: &mut Worker,
     mut disk: MemDisk,
     cost: &Cost,
-) -> Result<bool, Halt>
-    requires { total_sectors worker.old.store.geometry ≤ (memory_medium disk).sectors }
-{
+) -> Result<bool, Halt> {
     work_on_each(alloc, worker, &mut disk, cost.before)?;
     match disk.cut(alloc, &[]) {
         Ok(mut before) => {

@@ -1,8 +1,6 @@
 //! Sources that fail, and answers to what nobody has asked.
 
-ghost use Rattle.std.specs.Prelude.{◌≤◌, ⊤};
-ghost use Rattle.disk_layout.specs.rules.Places.{total_sectors};
-ghost use Rattle.sector_disk.specs.rules.Memory.{memory_medium};
+ghost use Rattle.std.specs.Prelude.{⊤};
 
 use crate::guests::{ECHO, SECTORS, THREE, blank, request, requests};
 use crate::halt::Halt;
@@ -142,9 +140,7 @@ fn say_four<D: Disk>(
     disk: &mut D,
     source: &mut FailingSource,
     told: &mut LineList,
-) -> [Option<WorkFault>; 4]
-    requires { total_sectors worker.old.store.geometry ≤ (D.medium disk.old).sectors }
-{
+) -> [Option<WorkFault>; 4] {
     [
         worker.slice(disk, 100, source, told).err(),
         worker.slice(disk, 100, source, told).err(),
@@ -154,9 +150,12 @@ fn say_four<D: Disk>(
 }
 
 /// Whether a slice fails by its source, each call after it fails too, and the disk isn't called.
-fn fails_so(alloc: Global, worker: &mut Worker, disk: MemDisk, asked: &Asked) -> Result<bool, Halt>
-    requires { total_sectors worker.old.store.geometry ≤ (memory_medium disk).sectors }
-{
+fn fails_so(
+    alloc: Global,
+    worker: &mut Worker,
+    disk: MemDisk,
+    asked: &Asked,
+) -> Result<bool, Halt> {
     let mut source = source_of(alloc, asked)?;
     let mut told = LineList::new(alloc);
     let mut counting = FaultDisk::new(disk, None, None);

@@ -1,9 +1,5 @@
 //! Disks that stop or fail at a call, allocations that are refused, and what comes then.
 
-ghost use Rattle.std.specs.Prelude.{◌≤◌, IfOk};
-ghost use Rattle.disk_layout.specs.rules.Places.{total_sectors};
-ghost use Rattle.sector_disk.specs.rules.Memory.{memory_medium};
-
 use crate::guests::{ECHO, HELLO, SECTORS, blank};
 use crate::halt::{Halt, NO_WORKER};
 use crate::rows::assert_row;
@@ -43,9 +39,7 @@ fn count_of(disk: &FaultDisk<MemDisk>) -> u64 {
 }
 
 /// What two checkpoints and a slice say, one after another.
-fn say_three<D: Disk>(alloc: Global, worker: &mut Worker, disk: &mut D) -> [Option<WorkFault>; 3]
-    requires { total_sectors worker.old.store.geometry ≤ (D.medium disk.old).sectors }
-{
+fn say_three<D: Disk>(alloc: Global, worker: &mut Worker, disk: &mut D) -> [Option<WorkFault>; 3] {
     let mut source = AnswerList::new(Vec::new(alloc));
     let mut told = LineList::new(alloc);
     [
@@ -56,9 +50,7 @@ fn say_three<D: Disk>(alloc: Global, worker: &mut Worker, disk: &mut D) -> [Opti
 }
 
 /// The disk after a checkpoint whose last call fails, if that and what follows say so.
-fn failed_disk(alloc: Global, worker: &mut Worker, disk: MemDisk) -> Option<MemDisk>
-    requires { total_sectors worker.old.store.geometry ≤ (memory_medium disk).sectors }
-{
+fn failed_disk(alloc: Global, worker: &mut Worker, disk: MemDisk) -> Option<MemDisk> {
     let fail = Place {
         call: HEAD_SYNC,
         front: 0,
@@ -233,9 +225,7 @@ fn open_or_create<D: Disk>(
     disk: &mut D,
     guest: &[u8],
     told: &mut LineList,
-) -> Result<Worker, Halt>
-    ensures { IfOk result (λ w. total_sectors w.store.geometry ≤ (D.medium disk.new).sectors) }
-{
+) -> Result<Worker, Halt> {
     match Worker::recover(alloc, disk, told) {
         Ok(worker) => Ok(worker),
         Err(fault) => create_where(alloc, disk, guest, Halt::from(fault)),
@@ -248,9 +238,7 @@ fn create_where<D: Disk>(
     disk: &mut D,
     guest: &[u8],
     halt: Halt,
-) -> Result<Worker, Halt>
-    ensures { IfOk result (λ w. total_sectors w.store.geometry ≤ (D.medium disk.new).sectors) }
-{
+) -> Result<Worker, Halt> {
     if halt == NO_WORKER {
         create(alloc, disk, guest)
     } else {
@@ -265,9 +253,7 @@ fn finish<D: Disk>(
     disk: &mut D,
     task: &Task,
     told: &mut LineList,
-) -> Result<(), Halt>
-    requires { total_sectors worker.old.store.geometry ≤ (D.medium disk.old).sectors }
-{
+) -> Result<(), Halt> {
     let answers = worker.process().answers() as usize;
     let Some(requests) = task.requests.get(answers..) else {
         return Err(Halt::Answers);

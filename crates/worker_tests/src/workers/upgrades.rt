@@ -1,10 +1,6 @@
 //! Workers that are put into version 2: what is refused, and what a stop or a failure at each call
 //! of the disk leaves.
 
-ghost use Rattle.std.specs.Prelude.{◌≤◌};
-ghost use Rattle.disk_layout.specs.rules.Places.{total_sectors};
-ghost use Rattle.sector_disk.specs.rules.Memory.{memory_medium};
-
 use crate::guests::{ECHO, RANDOM, blank};
 use crate::halt::Halt;
 use crate::rows::assert_row;
@@ -151,9 +147,7 @@ fn say_twice(
     worker: &mut Worker,
     disk: &mut MemDisk,
     work: &Work,
-) -> Result<[Option<WorkFault>; 2], Halt>
-    requires { total_sectors worker.old.store.geometry ≤ (memory_medium disk.old).sectors }
-{
+) -> Result<[Option<WorkFault>; 2], Halt> {
     let mut told = LineList::new(alloc);
     work_on(alloc, worker, disk, work, &mut told)?;
     Ok([
@@ -168,9 +162,7 @@ fn says_so(
     worker: &mut Worker,
     disk: &mut MemDisk,
     case: &Case,
-) -> Result<bool, Halt>
-    requires { total_sectors worker.old.store.geometry ≤ (memory_medium disk.old).sectors }
-{
+) -> Result<bool, Halt> {
     let said = say_twice(alloc, worker, disk, &case.next)?;
     Ok(said == case.says && worker.process().version() == case.version)
 }
@@ -207,9 +199,7 @@ fn cut_after(
     worker: &mut Worker,
     disk: &mut MemDisk,
     work: &Work,
-) -> Result<MemDisk, Halt>
-    requires { total_sectors worker.old.store.geometry ≤ (memory_medium disk.old).sectors }
-{
+) -> Result<MemDisk, Halt> {
     let mut told = LineList::new(alloc);
     let worked = work_on(alloc, worker, disk, work, &mut told);
     drop(told);
@@ -264,9 +254,7 @@ fn tells(
     disk: &mut MemDisk,
     is_upgraded: bool,
     text: &'static [u8],
-) -> Result<bool, Halt>
-    requires { total_sectors worker.old.store.geometry ≤ (memory_medium disk.old).sectors }
-{
+) -> Result<bool, Halt> {
     let mut told = LineList::new(alloc);
     if is_upgraded {
         worker.upgrade(disk, &mut told)?;
@@ -350,9 +338,7 @@ fn meets(
     disk: MemDisk,
     mishap: Mishap,
     place: Place,
-) -> (MemDisk, bool)
-    requires { total_sectors worker.old.store.geometry ≤ (memory_medium disk).sectors }
-{
+) -> (MemDisk, bool) {
     let mut told = LineList::new(alloc);
     let mut faulty = match mishap {
         Mishap::Stop => FaultDisk::new(disk, Some(place), None),
@@ -383,9 +369,7 @@ fn found(
     mut disk: MemDisk,
     mishap: Mishap,
     place: Place,
-) -> Result<Option<MemDisk>, Halt>
-    requires { total_sectors worker.old.store.geometry ≤ (memory_medium disk).sectors }
-{
+) -> Result<Option<MemDisk>, Halt> {
     let mut told = LineList::new(alloc);
     let worked = work_on(alloc, worker, &mut disk, &ANSWERED, &mut told);
     drop(told);

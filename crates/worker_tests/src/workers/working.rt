@@ -1,8 +1,5 @@
 //! What lives do: a worker is created or recovered, runs on requests, and is saved.
 
-ghost use Rattle.std.specs.Prelude.{◌≤◌, IfOk, OnOk};
-ghost use Rattle.disk_layout.specs.rules.Places.{total_sectors};
-
 use crate::guests::{config_of, requests};
 use crate::halt::Halt;
 use record_replay::{AnswerList, LineList, NumberedLine};
@@ -49,9 +46,7 @@ pub(crate) const IDLE: Work = Work {
 };
 
 /// A worker of this guest with one page and 64 sectors of records, on this disk.
-pub(crate) fn create<D: Disk>(alloc: Global, disk: &mut D, guest: &[u8]) -> Result<Worker, Halt>
-    ensures { IfOk result (λ w. total_sectors w.store.geometry ≤ (D.medium disk.new).sectors) }
-{
+pub(crate) fn create<D: Disk>(alloc: Global, disk: &mut D, guest: &[u8]) -> Result<Worker, Halt> {
     create_with(alloc, disk, guest, 1, 64)
 }
 
@@ -62,9 +57,7 @@ pub(crate) fn create_with<D: Disk>(
     guest: &[u8],
     pages: u64,
     journal: u64,
-) -> Result<Worker, Halt>
-    ensures { IfOk result (λ w. total_sectors w.store.geometry ≤ (D.medium disk.new).sectors) }
-{
+) -> Result<Worker, Halt> {
     let settings = config_of(alloc, pages, journal)?;
     match Worker::create(alloc, disk, guest, &settings) {
         Ok(worker) => Ok(worker),
@@ -78,10 +71,7 @@ fn save<D: Disk>(
     disk: &mut D,
     told: &mut LineList,
     is_saved: bool,
-) -> Result<(), Halt>
-    requires { total_sectors worker.old.store.geometry ≤ (D.medium disk.old).sectors }
-    ensures { total_sectors worker.new.store.geometry ≤ (D.medium disk.new).sectors }
-{
+) -> Result<(), Halt> {
     if !is_saved {
         return Ok(());
     }
@@ -98,10 +88,7 @@ fn run<D: Disk>(
     work: &Work,
     source: &mut AnswerList,
     told: &mut LineList,
-) -> Result<(), Halt>
-    requires { total_sectors worker.old.store.geometry ≤ (D.medium disk.old).sectors }
-    ensures { OnOk result (total_sectors worker.new.store.geometry ≤ (D.medium disk.new).sectors) }
-{
+) -> Result<(), Halt> {
     match worker.slice(disk, work.fuel, source, told) {
         Ok(_now) => save(worker, disk, told, work.is_saved),
         Err(fault) => Err(Halt::from(fault)),
@@ -115,10 +102,7 @@ pub(crate) fn work_on<D: Disk>(
     disk: &mut D,
     work: &Work,
     told: &mut LineList,
-) -> Result<(), Halt>
-    requires { total_sectors worker.old.store.geometry ≤ (D.medium disk.old).sectors }
-    ensures { OnOk result (total_sectors worker.new.store.geometry ≤ (D.medium disk.new).sectors) }
-{
+) -> Result<(), Halt> {
     let mut source = AnswerList::new(requests(alloc, work.requests)?);
     let worked = run(worker, disk, work, &mut source, told);
     drop(source);

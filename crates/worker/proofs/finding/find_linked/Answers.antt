@@ -1,15 +1,17 @@
-use Rattle.std.proofs.Common.{◌≡◌, ◌+◌, ap, ◌∙◌, arith}
+use Rattle.std.proofs.Common.{◌≡◌, ◌+◌, ◌≤◌, ap, ◌∙◌, arith}
 use Rattle.std.specs.Prelude.{Ok, Err, Vec}
 use Rattle.std.specs.declared.alloc.Global.{Global}
 use Rattle.std.proofs.lemmas.Result.{err_from_is_err_and}
 use Rattle.sector_disk.proofs.Moments.{stays_shows}
 use Rattle.disk_layout.specs.declared.reading.contents.Contents.{Contents}
 use Rattle.disk_layout.specs.rules.Journal.{Record}
+use Rattle.disk_layout.specs.rules.Places.{total_sectors}
 use Rattle.state_image.specs.rules.ProcessImage.{process_image as process_image_of}
 use Rattle.worker_store.specs.declared.newest.NewestProcessImage.{NewestProcessImage}
 use Rattle.worker.specs.declared.found.Found.{Found}
 use Rattle.worker.specs.declared.recover_fault.RecoverFault.TheVariants as recover
 use Rattle.worker.specs.rules.RecoverFaults.{fault_of_read}
+use Rattle.worker.proofs.EnoughLemmas.{with_enough}
 use Rattle.worker.proofs.RestoringLemmas.{begun_machine, unaccepted, unmade, its_version, found_at}
 use Rattle.worker.proofs.FindingLemmas.{says_denied, unread_says, searches_on, searched}
 use Rattle.worker.proofs.FindingLemmas.{searches_in_vain, searches_no_more}
@@ -62,10 +64,12 @@ pub returns-in-Err-clause-searches : goal.returns-in-Err-clause-searches
 returns-in-Err-clause-searches g c =
     let failed = c.in-Err.ensures in
     let old = g.D.Disk.medium c.args.disk.now in
+    let geometry = c.args.contents.geometry in
     let room = c.requires in
-    rw c.from.ensures (searches_in_vain (c.args.contents.geometry.area_sectors + 2) old.sectors old
+    rw c.from.ensures (searches_in_vain (geometry.area_sectors + 2) old.sectors old
     (g.D.Disk.medium c.read_newest.new.disk) c.in-Err.fault (omega (arith, room))
-    failed.reads failed.asks failed.cause)
+    failed.reads failed.asks
+    (with_enough old.sectors (total_sectors geometry) room failed.cause))
 
 pub returns-in-Err-clause-few : goal.returns-in-Err-clause-few
 returns-in-Err-clause-few g c = tt
@@ -152,10 +156,15 @@ returns-in-Err-read_records-clause-searches g c =
     let new = g.D.Disk.medium c.read_records.new.disk in
     let geometry = c.args.contents.geometry in
     let room = c.requires in
+    let leaves = read.reads.leaves in
+    let same = leaves.passes.sectors in
+    let enough : total_sectors geometry ≤ mid.sectors = omega (arith, room, same) in
+    let fault = c.in-Err-read_records.fault in
     rw c.from-in-Err-read_records.ensures (searches_on (geometry.area_sectors + 2)
-    geometry.journal_sectors old.sectors old mid new (Err (fault_of_read c.in-Err-read_records.fault)) (omega (arith, room)) read.reads
-    read.asks (searches_in_vain geometry.journal_sectors geometry.journal_sectors mid new
-    c.in-Err-read_records.fault (omega arith) failed.reads failed.asks failed.cause))
+    geometry.journal_sectors old.sectors old mid new (Err (fault_of_read fault))
+    (omega (arith, room)) read.reads read.asks (searches_in_vain geometry.journal_sectors
+    geometry.journal_sectors mid new fault (omega arith) failed.reads failed.asks
+    (with_enough mid.sectors (total_sectors geometry) enough failed.cause)))
 
 pub returns-in-Err-read_records-clause-few : goal.returns-in-Err-read_records-clause-few
 returns-in-Err-read_records-clause-few g c = tt

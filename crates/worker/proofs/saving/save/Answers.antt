@@ -11,13 +11,6 @@ use Rattle.worker.proofs.StoreTurnLemmas.{saves_join, barrier_save_cause}
 use Rattle.worker.proofs.StoreTurnLemmas.{commit_save_cause}
 use Rattle.worker.proofs.saving.save.Goals as goal
 
-pub commit-requires : goal.commit-requires
-commit-requires g c =
-    still_room c.args.store.now c.barrier.new.self (g.D.Disk.medium c.args.disk.now)
-    (g.D.Disk.medium c.barrier.new.disk) c.in_default.ensures.stores.stays
-    c.in_default.ensures.stores.passes
-    c.requires
-
 pub returns-in-Err-clause-any_moment : goal.returns-in-Err-clause-any_moment
 returns-in-Err-clause-any_moment g c =
     barrier_saves g.D.Disk.medium c.args.store.now c.args.process.now c.args.disk.now
@@ -83,12 +76,13 @@ pub returns-in-Err-clause-runs : goal.returns-in-Err-clause-runs
 returns-in-Err-clause-runs g c =
     let failed = c.in-Err.ensures in
     barrier_failed g.D.Disk.medium c.args.store.now c.barrier.new.self c.args.disk.now
-    c.barrier.new.disk c.in-Err.fault failed.stores failed.full
+    c.barrier.new.disk c.in-Err.fault failed.stores failed.full c.requires
 
 pub returns-in-Err-clause-on_any_disk : goal.returns-in-Err-clause-on_any_disk
 returns-in-Err-clause-on_any_disk g c =
     barrier_save_cause c.args.store.now c.args.process.now (g.D.Disk.medium c.args.disk.now)
-    (g.D.Disk.medium c.barrier.new.disk) c.in-Err.fault c.in-Err.ensures.stores.cause
+    (g.D.Disk.medium c.barrier.new.disk) c.in-Err.fault c.requires
+    c.in-Err.ensures.stores.cause
 
 pub returns-clause-unnumbered : goal.returns-clause-unnumbered
 returns-clause-unnumbered g c =
@@ -100,21 +94,26 @@ returns-clause-unnumbered g c =
 pub returns-clause-runs : goal.returns-clause-runs
 returns-clause-runs g c =
     let old = c.args.store.now in
+    let mid = g.D.Disk.medium c.barrier.new.disk in
     let done = c.in_default.ensures in
+    let enough = still_room old c.barrier.new.self (g.D.Disk.medium c.args.disk.now) mid
+    done.stores.stays done.stores.passes c.requires in
     saves_join old c.barrier.new.self c.commit.new.self (g.D.Disk.medium c.args.disk.now)
-    (g.D.Disk.medium c.barrier.new.disk) (g.D.Disk.medium c.commit.new.disk) c.commit.result
+    mid (g.D.Disk.medium c.commit.new.disk) c.commit.result
     (barrier_went g.D.Disk.medium old c.barrier.new.self c.args.disk.now c.barrier.new.disk
     tt done.stores done.full done.quiet)
-    (commit_runs c.barrier.new.self c.commit.new.self c.args.process.now
-    (g.D.Disk.medium c.barrier.new.disk) (g.D.Disk.medium c.commit.new.disk) c.commit.result
-    c.commit.ensures.commits)
+    (commit_runs c.barrier.new.self c.commit.new.self c.args.process.now mid
+    (g.D.Disk.medium c.commit.new.disk) c.commit.result enough c.commit.ensures.commits)
 
 pub returns-clause-on_any_disk : goal.returns-clause-on_any_disk
 returns-clause-on_any_disk g c =
     let old = c.args.store.now in
+    let mid = g.D.Disk.medium c.barrier.new.disk in
     let done = c.in_default.ensures in
+    let enough = still_room old c.barrier.new.self (g.D.Disk.medium c.args.disk.now) mid
+    done.stores.stays done.stores.passes c.requires in
     commit_save_cause old c.barrier.new.self c.args.process.now (g.D.Disk.medium c.args.disk.now)
-    (g.D.Disk.medium c.barrier.new.disk) (g.D.Disk.medium c.commit.new.disk)
+    mid (g.D.Disk.medium c.commit.new.disk)
     (barrier_went g.D.Disk.medium old c.barrier.new.self c.args.disk.now c.barrier.new.disk
     tt done.stores done.full done.quiet)
-    done.stores.stays c.commit.result c.commit.ensures.commits.cause
+    done.stores.stays enough c.commit.result c.commit.ensures.commits.cause

@@ -49,13 +49,13 @@ pub returns-in-Err-clause-runs : goal.returns-in-Err-clause-runs
 returns-in-Err-clause-runs g c =
     let failed = c.in-Err.ensures in
     barrier_failed g.D.Disk.medium c.args.store.now c.barrier.new.self c.args.disk.now
-    c.barrier.new.disk c.in-Err.fault failed.stores failed.full
+    c.barrier.new.disk c.in-Err.fault failed.stores failed.full c.requires
 
 pub returns-in-Err-clause-on_any_disk : goal.returns-in-Err-clause-on_any_disk
 returns-in-Err-clause-on_any_disk g c =
     barrier_save_cause c.args.store.now (upgraded c.args.process.now)
     (g.D.Disk.medium c.args.disk.now) (g.D.Disk.medium c.barrier.new.disk) c.in-Err.fault
-    c.in-Err.ensures.stores.cause
+    c.requires c.in-Err.ensures.stores.cause
 
 -- ---- the next generation has no number
 
@@ -109,13 +109,6 @@ returns-in-Err-widen-clause-on_any_disk g c =
     c.in-Err-widen.ensures.fails
 
 -- ---- the commit
-
-pub commit-requires : goal.commit-requires
-commit-requires g c =
-    still_room c.args.store.now c.barrier.new.self (g.D.Disk.medium c.args.disk.now)
-    (g.D.Disk.medium c.barrier.new.disk) c.in_default.ensures.stores.stays
-    c.in_default.ensures.stores.passes
-    c.requires
 
 pub returns-clause-done : goal.returns-clause-done
 returns-clause-done g c =
@@ -190,28 +183,32 @@ returns-clause-cause g c =
 pub returns-clause-runs : goal.returns-clause-runs
 returns-clause-runs g c =
     let old = c.args.store.now in
+    let mid = g.D.Disk.medium c.barrier.new.disk in
     let done = c.in_default.ensures in
+    let enough = still_room old c.barrier.new.self (g.D.Disk.medium c.args.disk.now) mid
+    done.stores.stays done.stores.passes c.requires in
     saves_join old c.barrier.new.self c.commit.new.self (g.D.Disk.medium c.args.disk.now)
-    (g.D.Disk.medium c.barrier.new.disk) (g.D.Disk.medium c.commit.new.disk) c.commit.result
+    mid (g.D.Disk.medium c.commit.new.disk) c.commit.result
     (barrier_went g.D.Disk.medium old c.barrier.new.self c.args.disk.now c.barrier.new.disk
     tt done.stores done.full done.quiet)
-    (commit_runs c.barrier.new.self c.commit.new.self c.widen.new.process
-    (g.D.Disk.medium c.barrier.new.disk) (g.D.Disk.medium c.commit.new.disk) c.commit.result
-    c.commit.ensures.commits)
+    (commit_runs c.barrier.new.self c.commit.new.self c.widen.new.process mid
+    (g.D.Disk.medium c.commit.new.disk) c.commit.result enough c.commit.ensures.commits)
 
 pub returns-clause-on_any_disk : goal.returns-clause-on_any_disk
 returns-clause-on_any_disk g c =
     let old = c.args.store.now in
+    let mid = g.D.Disk.medium c.barrier.new.disk in
     let done = c.in_default.ensures in
+    let enough = still_room old c.barrier.new.self (g.D.Disk.medium c.args.disk.now) mid
+    done.stores.stays done.stores.passes c.requires in
     subst (λ (v : ProcessValue). IfErr c.commit.result (λ e. HasSaveCause old v
     (g.D.Disk.medium c.args.disk.now) (g.D.Disk.medium c.commit.new.disk) e))
     c.in_default-widen.ensures.done
     (commit_save_cause old c.barrier.new.self c.widen.new.process
-    (g.D.Disk.medium c.args.disk.now)
-    (g.D.Disk.medium c.barrier.new.disk) (g.D.Disk.medium c.commit.new.disk)
+    (g.D.Disk.medium c.args.disk.now) mid (g.D.Disk.medium c.commit.new.disk)
     (barrier_went g.D.Disk.medium old c.barrier.new.self c.args.disk.now c.barrier.new.disk
     tt done.stores done.full done.quiet)
-    done.stores.stays c.commit.result c.commit.ensures.commits.cause)
+    done.stores.stays enough c.commit.result c.commit.ensures.commits.cause)
 
 pub returns-clause-stays : goal.returns-clause-stays
 returns-clause-stays g c =

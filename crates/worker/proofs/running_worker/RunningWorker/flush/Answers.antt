@@ -71,7 +71,8 @@ returns-in_err-barrier-clause-runs g c =
     let p = err_from_is_err_and c.from_residual.result c.from_residual.ensures.1 in
     let failed = c.in_err-barrier.ensures in
     rw (p.1, p.2) (barrier_failed g.D.Disk.medium c.args.self.now.store c.barrier.new.self
-    c.args.disk.now c.barrier.new.disk c.in_err-barrier.field-0.0 failed.stores failed.full)
+    c.args.disk.now c.barrier.new.disk c.in_err-barrier.field-0.0 failed.stores failed.full
+    c.requires)
 
 pub returns-in_err-release_waiting-clause-runs : goal.returns-in_err-release_waiting-clause-runs
 returns-in_err-release_waiting-clause-runs g c =

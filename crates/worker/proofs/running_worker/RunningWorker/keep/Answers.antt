@@ -32,7 +32,7 @@ returns-in_err-give-clause-not_taken c =
     (c.text_limit.ensures ∙ ap text_limit (c.version.ensures
     ∙ ap (λ (h : HeldWasiState). h.host.version) c.host.ensures)) c.fits-does_fit.result
     c.fits-does_fit.ensures c.if-not-does_fit.false c.give.new.self c.append.new.self
-    c.in_err-give.field-0.0 c.in_err-give.ensures.gives)
+    c.in_err-give.field-0.0 c.in_ok-append.ensures.appended c.in_err-give.ensures.gives)
 
 pub returns-clause-taken : goal.returns-clause-taken
 returns-clause-taken c =

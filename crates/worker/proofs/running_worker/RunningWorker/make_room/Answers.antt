@@ -10,13 +10,19 @@ returns-in_err-save-clause-fails g c =
     let p = err_from_is_err_and c.from_residual.result c.from_residual.ensures.1 in
     rw (p.1, p.2) (makes_no_room g.D.Disk.medium c.args.self.now c.save.new.store c.args.disk.now
     c.save.new.disk c.process_images_fit_areas.ensures c.requires.shown
-    c.in_err-save.ensures.any_moment c.in_err-save.field-0.0 c.in_err-save.ensures.cause)
+    c.in_err-save.ensures.any_moment c.in_err-save.field-0.0 c.in_err-save.ensures.cause
+    (λ room. absurd (let test = c.if-room-longest_record.false in let is = c.room.ensures in
+    let long = c.longest_record.ensures
+    ∙ ap (λ v. longest_record v) c.version-version.ensures in omega (arith, test, is, long, room))))
 
 pub returns-clause-made : goal.returns-clause-made
 returns-clause-made g c =
     makes_room g.D.Disk.medium c.args.self.now c.save.new.store c.args.disk.now c.save.new.disk
     c.process_images_fit_areas.ensures c.requires.shown c.in_ok-save.ensures.any_moment
     c.in_ok-save.ensures.durable c.in_ok-save.ensures.fresh
+    (λ room. absurd (let test = c.if-room-longest_record.false in let is = c.room.ensures in
+    let long = c.longest_record.ensures
+    ∙ ap (λ v. longest_record v) c.version-version.ensures in omega (arith, test, is, long, room)))
 
 pub returns-then-room-longest_record-clause-made :
     goal.returns-then-room-longest_record-clause-made
@@ -40,3 +46,10 @@ pub returns-in_err-save-clause-runs : goal.returns-in_err-save-clause-runs
 returns-in_err-save-clause-runs g c =
     let p = err_from_is_err_and c.from_residual.result c.from_residual.ensures.1 in
     rw (p.1, p.2) c.in_err-save.ensures.runs
+
+pub returns-in_err-save-clause-lacking : goal.returns-in_err-save-clause-lacking
+returns-in_err-save-clause-lacking g c =
+    let p = err_from_is_err_and c.from_residual.result c.from_residual.ensures.1 in
+    rw p.1 (λ room. absurd (let test = c.if-room-longest_record.false in
+    let is = c.room.ensures in let long = c.longest_record.ensures
+    ∙ ap (λ v. longest_record v) c.version-version.ensures in omega (arith, test, is, long, room)))
