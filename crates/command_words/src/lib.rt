@@ -72,8 +72,9 @@ pub use configuring::Sizes;
 pub use digests::digest_digits;
 pub use lines::{
     BufferedLines, LineFault, LineFlaw, LineOutlet, LineReader, NumberedRequests, Outside,
-    RealTime, Request, RequestSource, count_later, flaw_in, nanoseconds_of, read_decimal,
-    read_request, spell_line, split_at_space, trap_name, words_of_cut, words_of_limit,
+    ReadAhead, RealTime, Request, RequestSource, count_later, flaw_in, nanoseconds_of,
+    read_decimal, read_request, spell_line, split_at_space, trap_name, words_of_cut,
+    words_of_limit,
 };
 pub use module_bytes::read_module;
 pub use pieces::{cut_line, split_once};

@@ -36,7 +36,8 @@ use Rattle.command_words.proofs.WordLemmas.Stops.{NoHelp, walk_on}
 use Rattle.command_words.proofs.WordLemmas.Rows.{IsGood, Passes, added_good, options_are_taken}
 use Rattle.command_words.proofs.WordLemmas.Rows.{path_is_there}
 use Rattle.command_words.proofs.WordLemmas.Uses.{keeps_env, keeps_flag, keeps_help, keeps_last}
-use Rattle.command_words.proofs.WordLemmas.Uses.{keeps_number, keeps_path, keeps_text}
+use Rattle.command_words.proofs.WordLemmas.Uses.{keeps_number, keeps_path, keeps_range}
+use Rattle.command_words.proofs.WordLemmas.Uses.{keeps_text}
 
 -- ---- one level
 
@@ -198,16 +199,19 @@ module _ (name : Text) (words : List Text) (no_help : bytes_eq name (codes "help
               keeps_number 2 (codes "every") 1
                   (λ v is. is),
               (
-                keeps_text 2 (codes "seed") (λ v. tt),
+                keeps_range 2 (codes "batch") 1 65536 (λ v is. is),
                 (
-                  keeps_number 2 (codes "clock") 0 (λ v is. is),
+                  keeps_text 2 (codes "seed") (λ v. tt),
                   (
-                    keeps_flag 2 (codes "rewrite") (inl refl),
+                    keeps_number 2 (codes "clock") 0 (λ v is. is),
                     (
-                      keeps_text 2 (codes "status") (λ v. tt),
+                      keeps_flag 2 (codes "rewrite") (inl refl),
                       (
-                        keeps_flag 2 (codes "verbose") (inl refl),
-                        (keeps_text 2 (codes "seed-file") (λ v. tt), (keeps_help, tt)),
+                        keeps_text 2 (codes "status") (λ v. tt),
+                        (
+                          keeps_flag 2 (codes "verbose") (inl refl),
+                          (keeps_text 2 (codes "seed-file") (λ v. tt), (keeps_help, tt)),
+                        ),
                       ),
                     ),
                   ),
@@ -226,12 +230,15 @@ module _ (name : Text) (words : List Text) (no_help : bytes_eq name (codes "help
                 (
                   unused,
                   (
-                    no_flag (codes "rewrite") (inr refl),
+                    unused,
                     (
-                      unused,
+                      no_flag (codes "rewrite") (inr refl),
                       (
-                        no_flag (codes "verbose") (inr refl),
-                        (unused, (unused, tt)),
+                        unused,
+                        (
+                          no_flag (codes "verbose") (inr refl),
+                          (unused, (unused, tt)),
+                        ),
                       ),
                     ),
                   ),
@@ -403,7 +410,13 @@ run_has_numbers : (rows : List Row) (path : Text) → TakesOptions rows
 run_has_numbers rows path taken =
     let fuel = number_fits 1 100000 (codes "fuel") rows taken.fuel (omega arith) (omega arith) in
     let every = number_fits 1 100 (codes "every") rows taken.every (omega arith) (omega arith) in
-    (fuel.0, fuel.1, every.0, every.1)
+    let batch = number_fits 1 1 (codes "batch") rows taken.batch (omega arith) (omega arith) in
+    (fuel.0, fuel.1, every.0, every.1, batch.0, few_fit (one_of (codes "batch") rows) taken.few)
+  where
+    few_fit : (text : Option Text) → IfSome text (λ t. spelled_number t ≤ 65536)
+        → option_map_or spelled_number text 1 ≤ 65536
+    few_fit None fits = omega arith
+    few_fit (Some text) fits = fits
 
 check_has_numbers : (rows : List Row) (path : Text) → TakesOptions rows
     → NumbersFit (check path (number_or (codes "pages") 256 rows) (flag_in (codes "all") rows))
@@ -468,7 +481,8 @@ taken_means : (arguments : List Text) (name : Text) (rows : List Row) → IsTake
 taken_means arguments name rows taken = elim taken.0 [
   | inl p ↦ subst (λ (t : Text). IsSomeAnd (meaning_below arguments (t, rows)) NumbersFit)
       (sym p.0) (path_means (λ path. check path (number_or (codes "pages") 256 rows)
-      (flag_in (codes "all") rows)) (module_in rows) p.1 (λ path. check_has_numbers rows path taken.1))
+      (flag_in (codes "all") rows)) (module_in rows) p.1
+      (λ path. check_has_numbers rows path taken.1))
   | inr others ↦ elim others [
     | inl p ↦ subst (λ (t : Text). IsSomeAnd (meaning_below arguments (t, rows)) NumbersFit)
         (sym p.0) (paths_mean (λ d path. create (create_in rows arguments d path)) (disk_in rows)

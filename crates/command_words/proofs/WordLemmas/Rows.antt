@@ -1,5 +1,6 @@
 -- Rows each of which has a value that its option takes.
-use Rattle.std.proofs.Common.{◌≡◌, ℕ, Bool, cond, true, false, refl, ap, sym, ◌∙◌, subst, List, []}
+use Rattle.std.proofs.Common.{◌≡◌, ◌<◌, ◌≤◌, ◌^◌, ℕ, Bool, cond, true, false, refl, ap, sym, ◌∙◌}
+use Rattle.std.proofs.Common.{subst, arith, List, []}
 use Rattle.std.proofs.Common.{◌∷◌, ◌++◌, ◌||◌, Option, Some, None, codes, true≢false}
 use Rattle.std.specs.List.{AllByRecursion as Each, find}
 use Rattle.std.specs.Option.{is_some, option_map, option_map_or}
@@ -7,7 +8,7 @@ use Rattle.std.specs.Str.{bytes_eq}
 use Rattle.std.specs.Cmp.Lexicographic.{bytes_decides}
 use Rattle.std.specs.Prelude.{⊤, IfSome, slice_get, option_and_then}
 use Rattle.clap.specs.Walk.{one_of, Row, Text, at_row, more_values, row_text, with_values, without}
-use Rattle.clap.specs.Words.{first_of}
+use Rattle.clap.specs.Words.{IsUnsignedIn, first_of}
 use Rattle.clap.specs.Values.{read_as}
 use Rattle.clap.specs.Takes.{is_given}
 use Rattle.clap.specs.Facts.{explicit_source}
@@ -15,6 +16,7 @@ use Rattle.clap.specs.declared.builder.value_parser.Reading.TheVariants.{AsWritt
 use Rattle.clap.specs.declared.parser.matches.ValueSource.{ValueSource}
 use Rattle.clap.specs.declared.parser.matches.ValueSource.TheVariants.{CommandLine}
 use Rattle.command_words.specs.rules.Commands.{IsFlagText, IsNumberFrom, TakesOptions}
+use Rattle.command_words.specs.rules.Commands.{spelled_number}
 use Rattle.command_words.proofs.WordLemmas.Walks.{each_append, found_each}
 
 -- the options whose least number is 1, and those whose least is 0
@@ -26,6 +28,10 @@ abbrev pub counts_from_zero : Text → Bool
 counts_from_zero id = bytes_eq id (codes "pages") || (bytes_eq id (codes "files")
     || (bytes_eq id (codes "journal") || bytes_eq id (codes "clock")))
 
+-- the one that has a most
+abbrev pub has_most : Text → Bool
+has_most id = bytes_eq id (codes "batch")
+
 -- and the flags
 abbrev pub is_flag : Text → Bool
 is_flag id = bytes_eq id (codes "rewrite") || (bytes_eq id (codes "device")
@@ -36,15 +42,17 @@ is_flag id = bytes_eq id (codes "rewrite") || (bytes_eq id (codes "device")
 pub data Asked : Type 0 where
   anything : Asked
   number : ℕ → Asked
+  range : ℕ → ℕ → Asked
   flag : Asked
 
 abbrev pub asked_of : Text → Asked
 asked_of id = cond (counts_from_one id) (number 1) (cond (counts_from_zero id) (number 0)
-    (cond (is_flag id) flag anything))
+    (cond (is_flag id) flag (cond (has_most id) (range 1 65536) anything)))
 
 abbrev pub PassesAs : Asked → Text → Type 0
 PassesAs anything text = ⊤
 PassesAs (number least) text = IsNumberFrom least text
+PassesAs (range least most) text = IsUnsignedIn least most text
 PassesAs flag text = IsFlagText text
 
 -- what the value of an argument has to be
@@ -126,6 +134,18 @@ first_passes id rows good =
     go (Some r) h = subst (λ (name : Text). IfSome (row_text r) (Passes name))
         ((bytes_decides r.id id).0 h.1) h.0.passes
 
+-- a number up to 65,536 is one of 64 bits
+batch_from_one : (text : Option Text) → IfSome text (IsUnsignedIn 1 65536)
+    → IfSome text (IsNumberFrom 1)
+batch_from_one None fits = tt
+batch_from_one (Some text) fits =
+    let few : spelled_number text < 2 ^ 64 = fits.1 in (fits.0, fits.1, fits.2, omega (arith, few))
+
+batch_few : (text : Option Text) → IfSome text (IsUnsignedIn 1 65536)
+    → IfSome text (λ t. spelled_number t ≤ 65536)
+batch_few None fits = tt
+batch_few (Some text) fits = fits.3
+
 pub options_are_taken : (rows : List Row) → Each IsGood rows → TakesOptions rows
 options_are_taken rows good = record {
   pages = first_passes (codes "pages") rows good;
@@ -133,6 +153,8 @@ options_are_taken rows good = record {
   journal = first_passes (codes "journal") rows good;
   fuel = first_passes (codes "fuel") rows good;
   every = first_passes (codes "every") rows good;
+  batch = batch_from_one (one_of (codes "batch") rows) (first_passes (codes "batch") rows good);
+  few = batch_few (one_of (codes "batch") rows) (first_passes (codes "batch") rows good);
   clock = first_passes (codes "clock") rows good;
   life = first_passes (codes "life") rows good;
   rewrite = first_passes (codes "rewrite") rows good;

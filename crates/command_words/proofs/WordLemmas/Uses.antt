@@ -5,6 +5,7 @@ use Rattle.std.specs.Prelude.{◌==◌}
 use Rattle.clap.specs.Walk.{Text}
 use Rattle.clap.specs.Simple.{filled, help_rule, with_index}
 use Rattle.clap.specs.ValueTests.{accepts}
+use Rattle.clap.specs.Words.{IsUnsignedIn}
 use Rattle.clap.specs.Kinds.{or_else, range_kinds, value_kinds}
 use Rattle.clap.specs.Faults.{repeat_fault}
 use Rattle.clap.specs.declared.builder.value_parser.ValueParser.{ValueParser}
@@ -13,7 +14,7 @@ use Rattle.clap.specs.declared.error.kind.ErrorKind.TheVariants as kind
 use Rattle.clap.specs.declared.parser.matches.ValueSource.TheVariants.{CommandLine}
 use Rattle.clap.proofs.ValueTestLemmas.{accepts-Accepts}
 use Rattle.command_words.specs.rules.CommandLine.{env_rule, flag_rule, last_rule, number_rule}
-use Rattle.command_words.specs.rules.CommandLine.{path_rule, text_rule}
+use Rattle.command_words.specs.rules.CommandLine.{path_rule, range_rule, text_rule}
 use Rattle.command_words.specs.rules.Commands.{IsNumberFrom}
 use Rattle.command_words.proofs.WordLemmas.Walks.{Keeps, no_first, no_second, some_kind}
 use Rattle.command_words.proofs.WordLemmas.Rows.{IsGood, Passes, added_good, with_good}
@@ -68,19 +69,24 @@ keeps_last n name free (v ∷ []) rows e good = with_good name v rows (free v) g
 keeps_last n name free (v ∷ w ∷ vs) rows e good =
     absurd (too_many v w vs (no_first (range_kinds 1 1 (length (v ∷ w ∷ vs))) _ e))
 
+pub keeps_range : (n : ℕ) (name : Text) (least most : ℕ)
+    → ((v : Text) → IsUnsignedIn least most v → Passes name v)
+    → Keeps IsGood false (with_index n (filled (range_rule name least most)))
+keeps_range n name least most passes [] rows e good = absurd (some_kind _ _ e)
+keeps_range n name least most passes (v ∷ []) rows e good =
+    let parser : ValueParser = Unsigned least most in
+    let read : or_else (value_kinds false parser v) [] ≡ [] =
+    no_second (repeat_fault false name rows) _ e in
+    let fits : IsUnsignedIn least most v = accepts-Accepts false parser v
+    (accepted parser v (no_first (value_kinds false parser v) [] read)) in
+    with_good name v rows (passes v fits) good
+keeps_range n name least most passes (v ∷ w ∷ vs) rows e good =
+    absurd (too_many v w vs (no_first (range_kinds 1 1 (length (v ∷ w ∷ vs))) _ e))
+
 pub keeps_number : (n : ℕ) (name : Text) (least : ℕ)
     → ((v : Text) → IsNumberFrom least v → Passes name v)
     → Keeps IsGood false (with_index n (filled (number_rule name least)))
-keeps_number n name least passes [] rows e good = absurd (some_kind _ _ e)
-keeps_number n name least passes (v ∷ []) rows e good =
-    let parser : ValueParser = Unsigned least (2 ^ 64 - 1) in
-    let read : or_else (value_kinds false parser v) [] ≡ [] =
-    no_second (repeat_fault false name rows) _ e in
-    let fits : IsNumberFrom least v = accepts-Accepts false parser v
-    (accepted parser v (no_first (value_kinds false parser v) [] read)) in
-    with_good name v rows (passes v fits) good
-keeps_number n name least passes (v ∷ w ∷ vs) rows e good =
-    absurd (too_many v w vs (no_first (range_kinds 1 1 (length (v ∷ w ∷ vs))) _ e))
+keeps_number n name least passes = keeps_range n name least (2 ^ 64 - 1) passes
 
 pub keeps_text : (n : ℕ) (name : Text) → ((v : Text) → Passes name v)
     → Keeps IsGood false (with_index n (filled (text_rule name)))

@@ -39,6 +39,7 @@ plain_run = record {
   disk = codes "a.disk";
   fuel = 100000;
   every = 100;
+  batch = 1;
   seed = None;
   clock = None;
   rewrites = false;
@@ -139,6 +140,10 @@ pub record RunOrderExamples : Type 0 where
       (run (fuelled_run 7))
   pub every : Means (run_line (codes "--every" ∷ codes "1" ∷ []))
       (run (record plain_run { every = 1 }))
+  pub batch : Means (run_line (codes "--batch" ∷ codes "64" ∷ []))
+      (run (record plain_run { batch = 64 }))
+  pub the_largest_batch : Means (run_line (codes "--batch=65536" ∷ []))
+      (run (record plain_run { batch = 65536 }))
   pub seed : Means (run_line (codes "--seed" ∷ codes "0A" ∷ []))
       (run (record plain_run { seed = Some (codes "0A") }))
   pub clock : Means (run_line (codes "--clock=0" ∷ []))
@@ -227,6 +232,10 @@ pub record OptionMistakes : Type 0 where
   pub every_of_zero : WordsFail (run_line (codes "--every" ∷ codes "0" ∷ []))
       (kind.ValueValidation ∷ [])
   pub every_of_no_number : WordsFail (run_line (codes "--every" ∷ codes "a" ∷ []))
+      (kind.ValueValidation ∷ [])
+  pub batch_of_zero : WordsFail (run_line (codes "--batch" ∷ codes "0" ∷ []))
+      (kind.ValueValidation ∷ [])
+  pub too_large_a_batch : WordsFail (run_line (codes "--batch" ∷ codes "65537" ∷ []))
       (kind.ValueValidation ∷ [])
   pub clock_below_zero : WordsFail (run_line (codes "--clock=-1" ∷ []))
       (kind.ValueValidation ∷ [])

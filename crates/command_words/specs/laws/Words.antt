@@ -7,12 +7,14 @@ use Rattle.command_words.specs.rules.Commands.{sweep, inspect, files, upgrade}
 use Rattle.command_words.specs.rules.Commands.{faults_in_words, meaning_in}
 
 -- The steps of a slice, and the slices between two checkpoints, are numbers from 1 to 2^64 - 1. The
--- pages of a check, and the sizes of a creation, of a story and of a sweep are below 2^64.
+-- lines that one sync may serve are 1 to 65,536. The pages of a check, and the sizes of a creation,
+-- of a story and of a sweep are below 2^64.
 abbrev pub NumbersFit : Meaning → Type 0
 NumbersFit (check path pages lists_all) = pages < 2 ^ 64
 NumbersFit (create said) = (said.pages < 2 ^ 64) × (said.files < 2 ^ 64) × (said.journal < 2 ^ 64)
 NumbersFit (run said) = (1 ≤ said.fuel) × (said.fuel < 2 ^ 64)
     × (1 ≤ said.every) × (said.every < 2 ^ 64)
+    × (1 ≤ said.batch) × (said.batch ≤ 65536)
 NumbersFit (show path) = ⊤
 NumbersFit (inspect path as_json) = ⊤
 NumbersFit (files disk path) = ⊤

@@ -16,13 +16,17 @@ path_rule name = record (new_rule name) { required = true; action = Some Set }
 abbrev pub last_rule : Text → Rule
 last_rule name = record (new_rule name) { action = Some Set }
 
--- an option with a number from the least one to 2^64 - 1
-abbrev pub number_rule : Text → ℕ → Rule
-number_rule name least = record (new_rule name) {
+-- an option with a number from the least one to the most
+abbrev pub range_rule : Text → ℕ → ℕ → Rule
+range_rule name least most = record (new_rule name) {
   long = Some name;
   value_names = 1;
-  parser = Some (Unsigned least (2 ^ 64 - 1));
+  parser = Some (Unsigned least most);
 }
+
+-- an option with a number from the least one to 2^64 - 1
+abbrev pub number_rule : Text → ℕ → Rule
+number_rule name least = range_rule name least (2 ^ 64 - 1)
 
 -- an option with any text
 abbrev pub text_rule : Text → Rule
@@ -64,10 +68,11 @@ sized_create_app = with_rule (with_rule (with_rule bare_create_app (number_rule 
 abbrev pub create_app : App
 create_app = with_rule (with_rule sized_create_app env_rule) (flag_rule (codes "device"))
 
--- `run DISK`, with `--fuel` and `--every` where they are wanted
+-- `run DISK`, with `--fuel`, `--every` and `--batch` where they are wanted
 abbrev pub paced_run_app : App
-paced_run_app = with_rule (with_rule (disk_app (codes "run")) (number_rule (codes "fuel") 1))
-    (number_rule (codes "every") 1)
+paced_run_app = with_rule (with_rule (with_rule (disk_app (codes "run"))
+    (number_rule (codes "fuel") 1)) (number_rule (codes "every") 1))
+    (range_rule (codes "batch") 1 65536)
 
 -- the same, with `--seed` and `--clock` where they are wanted
 abbrev pub seeded_run_app : App

@@ -1,5 +1,5 @@
 -- The order that the words of a command line give.
-use Rattle.std.specs.Prelude.{◌≡◌, ◌⊎◌, ⊤, ℕ, Bool, List, [], ◌∷◌, true, false, Option}
+use Rattle.std.specs.Prelude.{◌≡◌, ◌⊎◌, ◌≤◌, ⊤, ℕ, Bool, List, [], ◌∷◌, true, false, Option}
 use Rattle.std.specs.Prelude.{Some, None, Result, option_map, option_and_then, unwrap_or, slice_get}
 use Rattle.std.specs.Prelude.{if◌then◌else◌, codes, ◌≢◌, ◌-◌, ◌^◌, IfSome, MatchResult}
 use Rattle.std.specs.Option.{option_map_or}
@@ -74,6 +74,7 @@ pub record RunMeaning : Type 0 where
   pub disk : Text
   pub fuel : ℕ
   pub every : ℕ
+  pub batch : ℕ
   pub seed : Option Text
   pub clock : Option ℕ
   pub rewrites : Bool
@@ -131,6 +132,7 @@ run_said order = record {
   disk = order.disk.now;
   fuel = non_zero_u64_get order.fuel;
   every = non_zero_u64_get order.every;
+  batch = non_zero_u64_get order.batch;
   seed = option_map (λ text. text.now) order.seed;
   clock = order.clock;
   rewrites = order.rewrites;
@@ -222,12 +224,13 @@ create_in rows arguments disk wasm = record {
 }
 
 -- What a run means with this path and the rows of what is after it. Where no number is given, there
--- are 100,000 steps a slice, and a checkpoint after each 100 slices.
+-- are 100,000 steps a slice, a checkpoint after each 100 slices, and a sync for each line.
 abbrev pub run_in : List Row → Text → RunMeaning
 run_in rows disk = record {
   disk = disk;
   fuel = number_or (codes "fuel") 100000 rows;
   every = number_or (codes "every") 100 rows;
+  batch = number_or (codes "batch") 1 rows;
   seed = first_of (codes "seed") rows;
   clock = number_given (codes "clock") rows;
   rewrites = flag_in (codes "rewrite") rows;
@@ -330,6 +333,10 @@ IsNumberFrom least = IsUnsignedIn least (2 ^ 64 - 1)
 abbrev pub TakesNumber : ℕ → Text → List Row → Type 0
 TakesNumber least name rows = IfSome (one_of name rows) (IsNumberFrom least)
 
+-- the number of an option, where it is there, is at most this one
+abbrev pub TakesNumberUpTo : ℕ → Text → List Row → Type 0
+TakesNumberUpTo most name rows = IfSome (one_of name rows) (λ text. spelled_number text ≤ most)
+
 -- a flag says yes or no
 abbrev pub IsFlagText : Text → Type 0
 IsFlagText text = (text ≡ codes "true") ⊎ (text ≡ codes "false")
@@ -345,6 +352,8 @@ pub record TakesOptions (rows : List Row) : Type 0 where
   pub journal : TakesNumber 0 (codes "journal") rows
   pub fuel : TakesNumber 1 (codes "fuel") rows
   pub every : TakesNumber 1 (codes "every") rows
+  pub batch : TakesNumber 1 (codes "batch") rows
+  pub few : TakesNumberUpTo 65536 (codes "batch") rows
   pub clock : TakesNumber 0 (codes "clock") rows
   pub life : TakesNumber 1 (codes "life") rows
   pub rewrite : TakesFlag (codes "rewrite") rows

@@ -13,7 +13,7 @@ ghost use Rattle.command_words.specs.Lines.Reads.{MovesPiece, IsFaultOfRead, IsP
 
 use crate::lines::fault::LineFault;
 use crate::lines::line::cut_newline;
-use crate::lines::reader::LineReader;
+use crate::lines::reader::{LineReader, ReadAhead};
 use std::io::{BufRead, BufReader, Error, ErrorKind, Read};
 
 /// Why no piece comes.
@@ -143,6 +143,12 @@ impl<R: Read + Drop> BufferedLines<BufReader<R>> {
         ensures { result.now ≡ reader_buffer self.now.reader }
     {
         self.reader.buffer()
+    }
+}
+
+impl<R: BufRead + ReadAhead + Drop> ReadAhead for BufferedLines<R> {
+    fn ahead(&self) -> &[u8] {
+        self.reader.ahead()
     }
 }
 

@@ -1,4 +1,10 @@
-//! Requests that were read ahead, and that nobody took.
+//! Requests that were read ahead, and that aren't taken yet.
+//!
+//! # Choices
+//!
+//! - **A request is at hand only with its newline**, and where its number is beyond those taken.
+//!   Else lines of a batch would wait while the source reads on: for the rest of a line, or for one
+//!   that isn't passed over. No clause says so: `scripts/runs/program-rows` has rows of it.
 
 ghost use Rattle.std.specs.Prelude.{◌≡◌, true, false};
 ghost use Rattle.command_words.specs.rules.Pieces.{lines_of};
@@ -33,4 +39,25 @@ pub fn count_later(limit: usize, text: &[u8], taken: u64) -> usize
         }
     }
     count
+}
+
+/// The bytes through the last newline.
+fn whole_lines(bytes: &[u8]) -> &[u8] {
+    match bytes.iter().rposition(|&byte| byte == b'\n') {
+        Some(last) => &bytes[..=last],
+        None => b"",
+    }
+}
+
+/// Whether one of the whole lines of a text is such.
+pub(crate) fn has_later(limit: usize, text: &[u8], taken: u64) -> bool {
+    let mut rest = whole_lines(text);
+    while !rest.is_empty() {
+        let (line, behind) = cut_line(rest);
+        rest = behind;
+        if is_later(limit, line, taken) {
+            return true;
+        }
+    }
+    false
 }

@@ -24,7 +24,7 @@ pub use numbered::NumberedRequests;
 pub use outlet::LineOutlet;
 pub use outside::Outside;
 pub use printing::spell_line;
-pub use reader::LineReader;
+pub use reader::{LineReader, ReadAhead};
 pub use real_time::{RealTime, nanoseconds_of};
 pub use request::{Request, read_decimal, read_request, split_at_space};
 pub use source::RequestSource;

@@ -13,8 +13,9 @@ ghost use Rattle.command_words.specs.rules.Requests.{answer_in};
 ghost use Rattle.command_words.specs.rules.Texts.{IsShortRequest, request_line};
 
 use crate::lines::fault::LineFault;
+use crate::lines::later::has_later;
 use crate::lines::line::read_line;
-use crate::lines::reader::LineReader;
+use crate::lines::reader::{LineReader, ReadAhead};
 use crate::lines::request::{Request, read_request};
 use std::alloc::Global;
 use wasi_abi::{Answer, Version};
@@ -178,5 +179,12 @@ impl<R: LineReader + Drop> NumberedRequests<R> {
     {
         let limit = self.text_limit();
         self.find_next(limit)
+    }
+}
+
+impl<R: LineReader + ReadAhead + Drop> NumberedRequests<R> {
+    /// Whether the line of a further request was read ahead, as far as is known.
+    pub(crate) fn has_next(&self) -> bool {
+        has_later(self.text_limit(), self.reader.ahead(), self.taken)
     }
 }

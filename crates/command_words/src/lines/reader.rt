@@ -3,6 +3,7 @@
 //! # Promises
 //!
 //! - `LineReader` is what request lines are read from. `BufferedLines` is one over any `BufRead`.
+//!   `ReadAhead` is a reader that may have read further. What it has read no clause says.
 //!
 //! # Choices
 //!
@@ -17,6 +18,7 @@
 //!   after 2^64 - 1 pieces, and says so.
 
 use crate::lines::fault::LineFault;
+use std::io::{BufReader, Read};
 
 /// A reader whose bytes come in pieces. What contracts say of it they say by the bytes that are
 /// still to come, and by whether a read of it has failed. Only a call can make it fail.
@@ -46,4 +48,22 @@ pub trait LineReader {
             (IfSome (unread self.old) (GrowsTooLong limit line.old.items))
             (IfSome (unread self.old) AreSome)
             (has_failed self.old) (has_failed self.new)) };
+}
+
+/// A reader that may have read bytes ahead.
+pub trait ReadAhead {
+    /// The bytes that were read and aren't taken yet.
+    fn ahead(&self) -> &[u8];
+}
+
+impl<R: Read + Drop> ReadAhead for BufReader<R> {
+    fn ahead(&self) -> &[u8] {
+        self.buffer()
+    }
+}
+
+impl ReadAhead for &[u8] {
+    fn ahead(&self) -> &[u8] {
+        self
+    }
 }

@@ -5,7 +5,8 @@
 //! - `RequestSource` answers requests as the lines of its reader say, in their order (`HandsNext`).
 //!   It answers clocks with the fixed time, or with that of its `RealTime` clock, to the nanosecond
 //!   (`IsRealTime`). It answers questions for random bytes with the next words of its stream. It
-//!   says why it refuses. A failed read it tells only of a reader that has failed.
+//!   says why it refuses. A failed read it tells only of a reader that has failed. Whether it would
+//!   wait for a request is a hint (`Readiness`).
 //!
 //! # Choices
 //!
@@ -35,9 +36,9 @@ ghost use Rattle.command_words.specs.rules.Seeds.{seeded_bytes, words_for};
 use crate::lines::fault::LineFault;
 use crate::lines::numbered::NumberedRequests;
 use crate::lines::outside::{Outside, STREAM, random_answer, time_of};
-use crate::lines::reader::LineReader;
+use crate::lines::reader::{LineReader, ReadAhead};
 use crate::lines::real_time::RealTime;
-use record_replay::{Source, SourceFault};
+use record_replay::{Readiness, Source, SourceFault};
 use std::alloc::Global;
 use wasi_abi::{Answer, Question, Version};
 
@@ -198,6 +199,16 @@ impl<R: LineReader + Drop, C: RealTime + Drop> Source for RequestSource<R, C> {
                 self.fault = Some(fault);
                 Err(SourceFault)
             }
+        }
+    }
+}
+
+/// Clocks and random bytes never wait. A request is at hand where its line was read ahead.
+impl<R: LineReader + ReadAhead + Drop, C: RealTime + Drop> Readiness for RequestSource<R, C> {
+    fn is_ready(&self, question: Question) -> bool {
+        match question {
+            Question::Request => self.requests.has_next(),
+            Question::Realtime | Question::Monotonic | Question::Random { .. } => true,
         }
     }
 }

@@ -7,7 +7,8 @@ ghost use Rattle.command_words.specs.rules.CommandLine.{check_app, create_app, d
 ghost use Rattle.command_words.specs.rules.CommandLine.{env_rule, files_app, flag_rule, half_app};
 ghost use Rattle.command_words.specs.rules.CommandLine.{inspect_app, last_rule, looks_app};
 ghost use Rattle.command_words.specs.rules.CommandLine.{number_rule, paced_run_app, path_rule};
-ghost use Rattle.command_words.specs.rules.CommandLine.{run_app, script_app, seeded_run_app};
+ghost use Rattle.command_words.specs.rules.CommandLine.{range_rule, run_app, script_app};
+ghost use Rattle.command_words.specs.rules.CommandLine.{seeded_run_app};
 ghost use Rattle.command_words.specs.rules.CommandLine.{show_app, sized_create_app, story_app};
 ghost use Rattle.command_words.specs.rules.CommandLine.{sweep_app, text_rule, upgrade_app};
 ghost use Rattle.command_words.specs.rules.CommandLine.{wasmhost};
@@ -66,6 +67,17 @@ fn positive_option<'a>(alloc: Global, name: &'a str, help: &'a str) -> Arg<'a>
         .help(help)
         .value_name("N")
         .value_parser(value_parser!(u64).range(1..))
+}
+
+/// The option `--batch`, with a number from 1 to 65,536.
+fn batch_option<'a>(alloc: Global) -> Arg<'a>
+    ensures { IsArgument (range_rule (codes "batch") 1 65536) result }
+{
+    Arg::new(alloc, "batch")
+        .long("batch")
+        .help("Lines that one sync may serve, default 1")
+        .value_name("N")
+        .value_parser(value_parser!(u64).range(1..=65_536))
 }
 
 /// An option with any text.
@@ -158,7 +170,7 @@ fn create_command<'a>(alloc: Global) -> Result<Command<'a>, AllocError>
         .arg(flag(alloc, "device", device))
 }
 
-/// The command `run`, with its path and the options `--fuel` and `--every`.
+/// The command `run`, with its path and the options `--fuel`, `--every` and `--batch`.
 fn paced_run_command<'a>(alloc: Global) -> Result<Command<'a>, AllocError>
     ensures { IfOk result (IsCommand paced_run_app) }
 {
@@ -168,7 +180,8 @@ fn paced_run_command<'a>(alloc: Global) -> Result<Command<'a>, AllocError>
     disk_command(alloc, "run", about, WORKER_DISK)?
         .after_help(REQUESTS)
         .arg(positive_option(alloc, "fuel", fuel))?
-        .arg(positive_option(alloc, "every", every))
+        .arg(positive_option(alloc, "every", every))?
+        .arg(batch_option(alloc))
 }
 
 /// The same with the options `--seed` and `--clock`.

@@ -25,6 +25,9 @@ const FUEL: u64 = 100_000;
 /// The slices between two checkpoints, where no number is given.
 const EVERY: u64 = 100;
 
+/// The lines that one sync may serve, where no number is given.
+const BATCH: u64 = 1;
+
 /// Pages of 65,536 bytes with which a module is checked, where no number is given.
 const CHECK_PAGES: u64 = 256;
 
@@ -146,6 +149,7 @@ fn run_of<'a>(matches: &ArgMatches<'a>, disk: &'a str) -> RunOrder<'a>
         disk,
         fuel: positive_or_else(matches, "fuel", FUEL),
         every: positive_or_else(matches, "every", EVERY),
+        batch: positive_or_else(matches, "batch", BATCH),
         seed: text_of(matches, "seed"),
         clock: number_of(matches, "clock"),
         rewrites: flag_of(matches, "rewrite"),

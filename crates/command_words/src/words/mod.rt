@@ -73,6 +73,8 @@ pub struct RunOrder<'a> {
     pub fuel: NonZeroU64,
     /// Slices between two checkpoints.
     pub every: NonZeroU64,
+    /// How many lines one sync may serve, at most 65,536.
+    pub batch: NonZeroU64,
     /// What `--seed` says, digits or not.
     pub seed: Option<&'a str>,
     /// The nanoseconds that both clocks show.
