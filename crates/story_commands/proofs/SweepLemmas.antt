@@ -4,3 +4,4 @@ pub mod CutLists
 pub mod Digits
 pub mod Statuses
 pub mod Runs
+pub mod Starts

@@ -1,7 +1,9 @@
 -- What is known of lives that were run, by why a sweep ends early.
-use Rattle.std.proofs.Common.{◌≡◌, ℕ, ◌+◌, ◌≤◌, List, ◌++◌, Ok, Err, Result, arith, drop, inl, inr}
-use Rattle.std.proofs.Common.{Bool, ap, length, refl, subst, sym, take, ◌∙◌}
+use Rattle.std.proofs.Common.{◌≡◌, ℕ, ◌+◌, ◌≤◌, List, [], ◌++◌, Ok, Err, Result, arith, drop, inl}
+use Rattle.std.proofs.Common.{Bool, ap, append_assoc, inr, length, refl, subst, sym, take, ◌∙◌}
+use Rattle.std.proofs.lemmas.List.Elements.{All-append, All-take}
 use Rattle.std.specs.Prelude.{◌<◌, IfErr, IfOk, Some}
+use Rattle.std.specs.List.{All}
 use Rattle.std.specs.Result.{IsErrAnd}
 use Rattle.wasi_abi.specs.rules.Configs.{Settings}
 use Rattle.sector_disk.specs.declared.place.Place.{Place}
@@ -10,15 +12,17 @@ use Rattle.worker.specs.declared.story.life.PlannedLife.{PlannedLife}
 use Rattle.worker.specs.declared.story.report.LifeReport.{LifeReport}
 use Rattle.worker.specs.declared.story.report.LifeEnd.TheVariants.{Failed}
 use Rattle.worker.specs.declared.recover_fault.RecoverFault.{RecoverFault}
+use Rattle.worker.specs.Going.{HaveStarted}
 use Rattle.worker.specs.rules.StoryDisks.{TellsLives}
 use Rattle.story_commands.specs.declared.sweeping.cutting.Sweep.{Sweep}
 use Rattle.story_commands.specs.declared.sweeping.fault.SweepFault.{SweepFault}
 use Rattle.story_commands.specs.declared.sweeping.fault.SweepFault.TheVariants as fault
 use Rattle.story_commands.specs.declared.sweeping.running.RunLives.{RunLives}
 use Rattle.story_commands.specs.rules.Sweeps.{AreCutsTo, IsCutRun, IsSwept, and_idle, cut_at}
-use Rattle.story_commands.specs.rules.Sweeps.{HasFailedPlan, end_at, given_at, lives_after}
+use Rattle.story_commands.specs.rules.Sweeps.{HadMemory, HasFailedPlan, end_at, first_stopped}
+use Rattle.story_commands.specs.rules.Sweeps.{given_at, lives_after}
 use Rattle.story_commands.specs.laws.CutRuns.{AreRun, CallsBegun, HasRunCut, HaveAgreed}
-use Rattle.story_commands.specs.laws.CutRuns.{IsCutFault}
+use Rattle.story_commands.specs.laws.CutRuns.{IsCutFault, IsStarted, cut_of}
 use Rattle.story_commands.specs.laws.CutRuns.{IsFoundFirst, IsPlainRun, IsPlanFault}
 use Rattle.story_commands.specs.laws.CutRuns.{IsSweepFault, IsSweepOf, IsSweptAt, IsTestFault}
 use Rattle.story_commands.specs.laws.CutRuns.{IsPlainUpTo, IsToldPlain}
@@ -46,14 +50,27 @@ same_told w wasm c config l lives reports h i j tells =
 
 -- the lives of a cut
 pub cut_run : (sweep : Sweep) (place : Place) (given : ℕ) (lives : List PlannedLife)
-    (result : Result RunLives SweepFault)
-    → lives ≡ cut_at sweep.part.earlier.now sweep.part.swept.now sweep.part.told.now place
-    sweep.part.before given
-    → IfOk result (λ run. (run.lives ≡ lives) × AreRun sweep.wasm.now sweep.config.now run)
-    → IfOk result (HasRunCut sweep place given)
-cut_run sweep place given lives (Ok run) planned h =
-    record { lives = h.0 ∙ planned; run = h.1 }
-cut_run sweep place given lives (Err why) planned h = tt
+    (result : Result (List LifeReport) SweepFault) → IsStarted sweep
+    → lives ≡ cut_at [] sweep.part.swept.now sweep.part.told.now place sweep.part.before given
+    → IfOk result (λ reports. (earlier : List PlannedLife) (before : List LifeReport)
+    → HaveStarted sweep.wasm.now sweep.config.now earlier before sweep.start.now
+    → TellsLives sweep.wasm.now sweep.config.now (earlier ++ lives) (before ++ reports))
+    → IfOk result (All HadMemory) → IfOk result (HasRunCut sweep place given)
+cut_run sweep place given lives (Ok reports) is planned told fed =
+    let earlier = sweep.part.earlier.now in
+    let before = sweep.part.told_before.now in
+    let swept = sweep.part.swept.now in
+    let whole : earlier ++ lives ≡ cut_of sweep place given =
+    ap (λ (ls : List PlannedLife). earlier ++ ls) planned
+    ∙ sym (append_assoc earlier (first_stopped place swept)
+    (lives_after swept sweep.part.told.now sweep.part.before given)) in
+    record {
+      tells =
+          subst (λ (ls : List PlannedLife). TellsLives sweep.wasm.now sweep.config.now ls
+          (before ++ reports)) whole (told earlier before is.started);
+      fed = fed;
+    }
+cut_run sweep place given lives (Err why) is planned told fed = tt
 
 -- a cut is run after the plan and the upgrade were
 pub cut_is_late : {P : Type 0} (sweep : Sweep) (calls : ℕ) (why : SweepFault)
@@ -82,8 +99,8 @@ pub later_cut : (sweep : Sweep) (call calls : ℕ) (why : SweepFault) → call �
 later_cut sweep call calls fault.Memory within h = tt
 later_cut sweep call calls (fault.Plan number why) within h = absurd h
 later_cut sweep call calls (fault.Upgrade run) within h = absurd h
-later_cut sweep call calls (fault.Differs run) within (place, given, early, has) =
-    (place, given, omega (arith, early, within), has)
+later_cut sweep call calls (fault.Differs run) within (place, given, early, lives, has) =
+    (place, given, omega (arith, early, within), lives, has)
 
 -- the run without a cut
 pub plan_ends : (wasm : List ℕ) (config : Settings) (lives : List PlannedLife) (place : ℕ)
@@ -184,13 +201,17 @@ cut_ends wasm config lives place plain sweep calls fault.Memory is of begun h = 
 cut_ends wasm config lives place plain sweep calls (fault.Plan number why) is of begun h = absurd h
 cut_ends wasm config lives place plain sweep calls (fault.Upgrade run) is of begun h = absurd h
 cut_ends wasm config lives place plain sweep calls (fault.Differs run) is of begun
-    (at, given, within, has) = record {
+    (at, given, within, lives_are, has) = record {
       run = run.lives;
-      reports = run.reports;
+      reports = sweep.part.told_before.now ++ run.reports;
       tells =
-          same_told sweep.wasm.now wasm sweep.config.now config run.lives run.lives run.reports
-          of.wasm_is of.config_is refl has.run.tells;
-      fed = has.run.fed;
+          same_told sweep.wasm.now wasm sweep.config.now config (cut_of sweep at given) run.lives
+          (sweep.part.told_before.now ++ run.reports) of.wasm_is of.config_is (sym lives_are)
+          has.tells;
+      fed =
+          All-append HadMemory sweep.part.told_before.now run.reports
+          (subst (All HadMemory) (sym of.told_before)
+          (All-take HadMemory place plain.reports is.run.fed)) has.fed;
       which = inr (record {
         plain = plain.reports;
         tells = plain_tells wasm config lives plain is;
@@ -201,7 +222,7 @@ cut_ends wasm config lives place plain sweep calls (fault.Differs run) is of beg
         within = omega (arith, within, begun.2);
         before = sweep.part.before;
         given = given;
-        run_is = has.lives
+        run_is = lives_are
             ∙ same_of_three (λ (earlier swept : List PlannedLife) (told : List LifeReport).
             cut_at earlier swept told at sweep.part.before given) sweep.part.earlier.now
             (take place lives) sweep.part.swept.now (drop place lives) sweep.part.told.now

@@ -8,6 +8,7 @@ use Rattle.record_replay.specs.declared.line_list.NumberedLine.{NumberedLine}
 use Rattle.worker.specs.declared.story.life.PlannedLife.{PlannedLife}
 use Rattle.worker.specs.declared.story.report.LifeReport.{LifeReport}
 use Rattle.worker.specs.declared.story.report.LifeEnd.TheVariants.{Stopped}
+use Rattle.worker.specs.Going.{HaveStarted}
 use Rattle.worker.specs.rules.StoryDisks.{TellsLives}
 use Rattle.command_words.specs.rules.Printers.{PrinterState}
 use Rattle.story_commands.specs.declared.sweeping.cutting.Sweep.{Sweep}
@@ -21,23 +22,18 @@ use Rattle.story_commands.specs.rules.Sweeps.{and_idle, cut_at, end_at, given_at
 use Rattle.story_commands.specs.rules.Sweeps.{lines_told, lives_after}
 
 -- The life at this place was opened, its worker was given so many answers by then, and all from it
--- on finished. The first texts of all lines are these.
-pub record AgreesWith (texts : List NumberedLine) (place given : ℕ) (reports : List LifeReport)
-    : Type 0 where
+-- on finished. The first texts of all lines are these, with those of other lives before.
+pub record AgreesWith (texts : List NumberedLine) (before : List LifeReport) (place given : ℕ)
+    (reports : List LifeReport) : Type 0 where
   pub opened : given_to place reports ≡ Some given
   pub finished : All HasDoneAll (drop place reports)
   pub more : List NumberedLine
-  pub agrees : AreTextsOf (texts ++ more) (flat_map lines_told reports)
+  pub agrees : AreTextsOf (texts ++ more) (flat_map lines_told (before ++ reports))
 
--- the power was cut in the life at this place, and in none before it
-pub record IsStoppedAt (place : ℕ) (reports : List LifeReport) : Type 0 where
-  pub done : All HasDoneAll (take place reports)
-  pub stopped : end_at place reports ≡ Some Stopped
-
--- it was cut there, and all behind it agrees
-pub record AgreesBehind (sweep : Sweep) (given : ℕ) (run : RunLives) : Type 0 where
-  pub cut : IsStoppedAt (length sweep.part.earlier.now) run.reports
-  pub agrees : AgreesWith sweep.texts.now (length sweep.part.earlier.now + 1) given run.reports
+-- the power was cut in the first of these lives, and all behind it agrees
+pub record AgreesBehind (sweep : Sweep) (given : ℕ) (reports : List LifeReport) : Type 0 where
+  pub stopped : end_at 0 reports ≡ Some Stopped
+  pub agrees : AgreesWith sweep.texts.now sweep.part.told_before.now 1 given reports
 
 -- lives were run, and none of them wanted memory
 pub record AreRun (wasm : List ℕ) (config : Settings) (run : RunLives) : Type 0 where
@@ -58,11 +54,25 @@ pub record IsPlainUpTo (wasm : List ℕ) (config : Settings) (lives : List Plann
   pub run : AreRun wasm config plain
   pub done : All HasDoneAll (take place plain.reports)
 
--- the lives of a cut of what is swept were run
-pub record HasRunCut (sweep : Sweep) (place : Place) (given : ℕ) (cut : RunLives) : Type 0 where
-  pub lives : cut.lives ≡ cut_at sweep.part.earlier.now sweep.part.swept.now sweep.part.told.now
-      place sweep.part.before given
-  pub run : AreRun sweep.wasm.now sweep.config.now cut
+-- The lives before the swept one have led to the start, were told so, and did all that they were
+-- told.
+pub record IsStarted (sweep : Sweep) : Type 0 where
+  pub started : HaveStarted sweep.wasm.now sweep.config.now sweep.part.earlier.now
+      sweep.part.told_before.now sweep.start.now
+  pub each : length sweep.part.told_before.now ≡ length sweep.part.earlier.now
+  pub done : All HasDoneAll sweep.part.told_before.now
+
+-- the lives of a cut of what is swept, after which the worker was given so many answers
+abbrev pub cut_of : Sweep → Place → ℕ → List PlannedLife
+cut_of sweep place given = cut_at sweep.part.earlier.now sweep.part.swept.now
+    sweep.part.told.now place sweep.part.before given
+
+-- They were run, and this is told of them from the swept one on. None of these wanted memory.
+pub record HasRunCut (sweep : Sweep) (place : Place) (given : ℕ) (reports : List LifeReport)
+    : Type 0 where
+  pub tells : TellsLives sweep.wasm.now sweep.config.now (cut_of sweep place given)
+      (sweep.part.told_before.now ++ reports)
+  pub fed : All HadMemory reports
 
 -- they were run, with the power cut inside of a write or elsewhere, and agree
 abbrev pub IsSweptAt : Sweep → Place → Bool → Type 0
@@ -90,6 +100,7 @@ pub record IsSweepOf (wasm : List ℕ) (config : Settings) (lives : List Planned
   pub wasm_is : sweep.wasm.now ≡ wasm
   pub config_is : sweep.config.now ≡ config
   pub earlier : sweep.part.earlier.now ≡ take place lives
+  pub told_before : sweep.part.told_before.now ≡ take place told
   pub swept : sweep.part.swept.now ≡ drop place lives
   pub told_is : sweep.part.told.now ≡ drop place told
 
@@ -106,7 +117,8 @@ pub record IsToldPlain (wasm : List ℕ) (config : Settings) (lives : List Plann
 abbrev pub IsCutFault : Sweep → ℕ → SweepFault → Type 0
 IsCutFault sweep calls fault.Memory = Unit {0}
 IsCutFault sweep calls (fault.Differs run) = (place : Place) × (given : ℕ)
-    × (place.call ≤ calls) × HasRunCut sweep place given run
+    × (place.call ≤ calls) × (run.lives ≡ cut_of sweep place given)
+    × HasRunCut sweep place given run.reports
 IsCutFault sweep calls other = ⊥
 
 -- the lives after a cut were run without one

@@ -65,6 +65,17 @@ place_behind (digits, Some behind) =
 abbrev pub place_spelled : List ℕ → Option Place
 place_spelled text = place_behind (split_once 32 text)
 
+-- the digits of the steps of a batch, and those of its `most`: fewer lines may wait where it asks
+abbrev pub batch_behind : List ℕ × Option (List ℕ) → Option PlannedAct
+batch_behind (digits, None) = None
+batch_behind (digits, Some behind) =
+    option_and_then (λ fuel. option_map (planned.Batch fuel) (count_spelled behind))
+    (number_spelled digits)
+
+-- the digits of the steps, a space and those of `most`, which is from 1 on
+abbrev pub batch_spelled : List ℕ → Option PlannedAct
+batch_spelled text = batch_behind (split_once 32 text)
+
 -- the fronts that these pieces spell, each of them
 abbrev pub each_front : List (List ℕ) → Option (List ℕ)
 each_front [] = Some []
@@ -104,6 +115,15 @@ said_with_number word n =
     else if bytes_eq word (codes "slice") then Some (said.Act (planned.Slice n))
     else None
 
+-- what a word, a space, and a place, a count, the numbers of a batch or a number say
+abbrev pub said_counted : List ℕ → List ℕ → Option ScriptLine
+said_counted word rest =
+    if bytes_eq word (codes "stop") then option_map said.Stop (place_spelled rest)
+    else if bytes_eq word (codes "fail") then option_map said.Fail (place_spelled rest)
+    else if bytes_eq word (codes "refuse") then option_map said.Refuse (count_spelled rest)
+    else if bytes_eq word (codes "batch") then option_map said.Act (batch_spelled rest)
+    else option_and_then (said_with_number word) (number_spelled rest)
+
 -- what a word, a space and the rest say
 abbrev pub said_with : List ℕ → List ℕ → Option ScriptLine
 said_with word rest =
@@ -111,10 +131,7 @@ said_with word rest =
     else if bytes_eq word (codes "random")
     then option_map (λ bytes. said.Answer (answer.Random bytes)) (hex_bytes rest)
     else if bytes_eq word (codes "tears") then option_map said.Tears (fronts_in rest)
-    else if bytes_eq word (codes "stop") then option_map said.Stop (place_spelled rest)
-    else if bytes_eq word (codes "fail") then option_map said.Fail (place_spelled rest)
-    else if bytes_eq word (codes "refuse") then option_map said.Refuse (count_spelled rest)
-    else option_and_then (said_with_number word) (number_spelled rest)
+    else said_counted word rest
 
 -- what a line says, cut at its first space
 abbrev pub said_cut : List ℕ × Option (List ℕ) → Option ScriptLine

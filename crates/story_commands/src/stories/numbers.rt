@@ -5,10 +5,11 @@ ghost use Rattle.std.specs.List.{list_all};
 ghost use Rattle.std.specs.Char.{is_ascii_digit};
 ghost use Rattle.story_commands.specs.rules.Scripts.{number_spelled, count_spelled};
 ghost use Rattle.story_commands.specs.rules.Scripts.{front_spelled};
-ghost use Rattle.story_commands.specs.rules.Scripts.{place_spelled};
+ghost use Rattle.story_commands.specs.rules.Scripts.{batch_spelled, place_spelled};
 
 use command_words::split_once;
 use sector_disk::Place;
+use worker::story::PlannedAct;
 
 /// The number of bytes of a sector.
 const SECTOR_BYTES: u64 = 512;
@@ -65,4 +66,14 @@ pub(super) fn read_place(text: &[u8]) -> Option<Place>
         return None;
     }
     Some(Place { call, front })
+}
+
+/// The steps of a batch, a space and its `most`, from 1 on: fewer lines may wait where it asks.
+pub(super) fn read_batch(text: &[u8]) -> Option<PlannedAct>
+    ensures { result ≡ batch_spelled text.now }
+{
+    let (digits, behind) = split_once(text, b' ');
+    let fuel = read_number(digits)?;
+    let most = read_count(behind?)?;
+    Some(PlannedAct::Batch { fuel, most })
 }

@@ -1,13 +1,13 @@
 //! Lines of a script, by their first words.
 
 ghost use Rattle.std.specs.Prelude.{◌≡◌, IfOk, option_and_then};
-ghost use Rattle.story_commands.specs.rules.Scripts.{said_by, said_alone, said_with};
+ghost use Rattle.story_commands.specs.rules.Scripts.{said_by, said_alone, said_counted, said_with};
 ghost use Rattle.story_commands.specs.rules.Scripts.{said_with_number, hex_bytes};
 ghost use Rattle.story_commands.specs.rules.Scripts.{fronts_between};
 ghost use Rattle.story_commands.specs.rules.Scripts.{number_spelled};
 
 use crate::stories::line::ScriptLine;
-use crate::stories::numbers::{read_count, read_front, read_number, read_place};
+use crate::stories::numbers::{read_batch, read_count, read_front, read_number, read_place};
 use command_words::split_once;
 use hex::FromHexError;
 use std::alloc::{AllocError, Global};
@@ -104,6 +104,37 @@ fn say_number(word: &[u8], number: u64) -> Option<ScriptLine>
     None
 }
 
+/// What a word and the number after its space say.
+fn read_numbered(word: &[u8], rest: &[u8]) -> Option<ScriptLine>
+    ensures { result ≡ option_and_then (said_with_number word.now) (number_spelled rest.now) }
+{
+    let number = read_number(rest)?;
+    say_number(word, number)
+}
+
+/// What a word and the place, the count, the numbers of a batch or the number after its space say.
+fn read_counted(word: &[u8], rest: &[u8]) -> Option<ScriptLine>
+    ensures { result ≡ said_counted word.now rest.now }
+{
+    if word == b"stop".as_slice() {
+        let place = read_place(rest)?;
+        return Some(ScriptLine::Stop { place });
+    }
+    if word == b"fail".as_slice() {
+        let place = read_place(rest)?;
+        return Some(ScriptLine::Fail { place });
+    }
+    if word == b"refuse".as_slice() {
+        let number = read_count(rest)?;
+        return Some(ScriptLine::Refuse { number });
+    }
+    if word == b"batch".as_slice() {
+        let act = read_batch(rest)?;
+        return Some(ScriptLine::Act { act });
+    }
+    read_numbered(word, rest)
+}
+
 /// What a word and what is after its space say.
 fn read_with(alloc: Global, word: &[u8], rest: &[u8]) -> Result<Option<ScriptLine>, AllocError>
     ensures { IfOk result (λ said. said ≡ said_with word.now rest.now) }
@@ -115,32 +146,20 @@ fn read_with(alloc: Global, word: &[u8], rest: &[u8]) -> Result<Option<ScriptLin
         }));
     }
     if word == b"random".as_slice() {
-        let read = read_bytes(alloc, rest)?;
-        return Ok(read.map(|bytes| ScriptLine::Answer {
+        let Some(bytes) = read_bytes(alloc, rest)? else {
+            return Ok(None);
+        };
+        return Ok(Some(ScriptLine::Answer {
             answer: Answer::Random { bytes },
         }));
     }
     if word == b"tears".as_slice() {
-        let read = read_fronts(alloc, rest, b' ')?;
-        return Ok(read.map(|fronts| ScriptLine::Tears { fronts }));
+        let Some(fronts) = read_fronts(alloc, rest, b' ')? else {
+            return Ok(None);
+        };
+        return Ok(Some(ScriptLine::Tears { fronts }));
     }
-    if word == b"stop".as_slice() {
-        return Ok(read_place(rest).map(|place| ScriptLine::Stop { place }));
-    }
-    if word == b"fail".as_slice() {
-        return Ok(read_place(rest).map(|place| ScriptLine::Fail { place }));
-    }
-    if word == b"refuse".as_slice() {
-        return Ok(read_count(rest).map(|number| ScriptLine::Refuse { number }));
-    }
-    Ok(read_numbered(word, rest))
-}
-
-fn read_numbered(word: &[u8], rest: &[u8]) -> Option<ScriptLine>
-    ensures { result ≡ option_and_then (said_with_number word.now) (number_spelled rest.now) }
-{
-    let number = read_number(rest)?;
-    say_number(word, number)
+    Ok(read_counted(word, rest))
 }
 
 /// What a line without its newline says.

@@ -4,7 +4,7 @@ ghost use Rattle.std.specs.Prelude.{◌≡◌, ◌+◌, IfErr, IfOk, IfSome, OnE
 ghost use Rattle.std.specs.List.{All};
 ghost use Rattle.story_commands.specs.rules.Sweeps.{SomeCut, cut_place};
 ghost use Rattle.story_commands.specs.laws.CutRuns.{HasAgreed, HaveAgreed, HeedsProgress};
-ghost use Rattle.story_commands.specs.laws.CutRuns.{IsCutFault, IsSweptAt};
+ghost use Rattle.story_commands.specs.laws.CutRuns.{IsCutFault, IsStarted, IsSweptAt};
 
 use crate::sweeping::cutting::{MadeCut, Sweep, try_cut};
 use crate::sweeping::fault::SweepFault;
@@ -29,6 +29,7 @@ fn step(
     place: Place,
     so_far: Progress,
 ) -> Result<Progress, SweepFault>
+    requires { IsStarted sweep.now }
     ensures agrees { IfOk result (λ now. IsSweptAt sweep.now place now.newest.in_write
         × (now.cuts ≡ so_far.cuts + 1)) }
     ensures failed { IfErr result (IsCutFault sweep.now place.call) }
@@ -48,6 +49,7 @@ fn sweep_fronts(
     call: u64,
     so_far: Progress,
 ) -> Result<Progress, SweepFault>
+    requires { IsStarted sweep.now }
     ensures agree { IfOk result (λ now. All (SomeCut (IsSweptAt sweep.now))
         (map (cut_place call) fronts.now) × (now.cuts ≡ so_far.cuts + length fronts.now)) }
     ensures failed { IfErr result (IsCutFault sweep.now call) }
@@ -72,6 +74,7 @@ fn sweep_call(
     call: u64,
     so_far: Progress,
 ) -> Result<Progress, SweepFault>
+    requires { IsStarted sweep.now }
     ensures agree { IfOk result (λ now. HasAgreed sweep.now call fronts.now so_far.cuts now.cuts) }
     ensures failed { IfErr result (IsCutFault sweep.now call) }
 {
@@ -113,6 +116,7 @@ pub(super) fn sweep_calls<E: Write + Drop>(
     calls: u64,
     err: &mut Printer<E>,
 ) -> Result<Option<u64>, SweepFault>
+    requires { IsStarted sweep.now }
     ensures swept { IfOk result (λ o. IfSome o (HaveAgreed sweep.now calls fronts.now)) }
     ensures failed { IfErr result (IsCutFault sweep.now calls) }
     ensures heeded { HeedsProgress result err.old err.new }

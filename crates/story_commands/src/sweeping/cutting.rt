@@ -3,17 +3,19 @@
 ghost use Rattle.std.specs.Prelude.{◌≡◌, IfErr, IfOk, true};
 ghost use Rattle.story_commands.specs.declared.sweeping.fault.SweepFault.TheVariants.{Memory};
 ghost use Rattle.story_commands.specs.laws.CutRuns.{AgreesBehind, HasRunCut, IsCutFault};
-ghost use Rattle.story_commands.specs.laws.CutRuns.{IsSweptAt};
+ghost use Rattle.story_commands.specs.laws.CutRuns.{IsStarted, IsSweptAt};
 
 use crate::sweeping::fault::SweepFault;
 use crate::sweeping::giving::given_to;
-use crate::sweeping::judging::{agrees, front_left, is_cut};
-use crate::sweeping::planning::{SweptPart, plan_cut};
+use crate::sweeping::judging::{agrees, front_left, is_stopped};
+use crate::sweeping::planning::{SweptPart, plan_cut, plan_rest};
 use crate::sweeping::running::{RunLives, Runner};
 use record_replay::NumberedLine;
 use sector_disk::Place;
 use std::alloc::Global;
 use wasi_abi::Config;
+use wasm_syntax::ItemList;
+use worker::story::{LifeReport, StoryStart};
 
 /// What is swept: lives of a worker, and what was told of them without a cut.
 #[derive(Clone, Copy)]
@@ -21,35 +23,49 @@ pub(super) struct Sweep<'a> {
     pub(super) wasm: &'a [u8],
     pub(super) config: &'a Config,
     pub(super) part: SweptPart<'a>,
+    /// What the lives before the swept one leave.
+    pub(super) start: &'a StoryStart,
     /// The texts of all lines that were told.
     pub(super) texts: &'a [NumberedLine],
 }
 
-/// Runs the lives of a cut, after which the worker was given so many answers.
+/// Runs the lives of a cut, after which the worker was given so many answers. They go on from what
+/// the lives before the swept one leave. So only those from the swept one on are told.
 fn run_cut(
     runner: &mut Runner,
     sweep: &Sweep<'_>,
     place: Place,
     given: u64,
-) -> Result<RunLives, SweepFault>
+) -> Result<ItemList<LifeReport>, SweepFault>
+    requires { IsStarted sweep.now }
     ensures run { IfOk result (HasRunCut sweep.now place given) }
     ensures failed { IfErr result (λ fault. fault ≡ Memory) }
 {
-    let lives = plan_cut(runner.alloc, &sweep.part, place, given)?;
-    runner.run(sweep.wasm, sweep.config, lives)
+    let lives = plan_rest(runner.alloc, &sweep.part, place, given)?;
+    runner.run_from(sweep.start, sweep.wasm, sweep.config, lives.as_slice())
 }
 
-/// Whether the power was cut in these lives, and all else was as without it.
-fn is_same(alloc: Global, sweep: &Sweep<'_>, given: u64, run: &RunLives) -> Result<bool, SweepFault>
-    ensures same { IfOk result (λ is. is ≡ true → AgreesBehind sweep.now given run.now) }
+/// Whether the power was cut in the first of these lives, and all else was as without it.
+fn is_same(
+    alloc: Global,
+    sweep: &Sweep<'_>,
+    given: u64,
+    reports: &[LifeReport],
+) -> Result<bool, SweepFault>
+    ensures same { IfOk result (λ is. is ≡ true → AgreesBehind sweep.now given reports.now) }
     ensures failed { IfErr result (λ fault. fault ≡ Memory) }
 {
-    let at = sweep.part.earlier.len();
-    let reports = run.reports.as_slice();
-    if !is_cut(reports, at) {
+    if !is_stopped(reports, 0) {
         return Ok(false);
     }
-    agrees(alloc, sweep.texts, at + 1, given, reports)
+    agrees(
+        alloc,
+        sweep.texts,
+        sweep.part.told_before,
+        1,
+        given,
+        reports,
+    )
 }
 
 /// A cut that was made, and agrees.
@@ -61,23 +77,43 @@ pub(super) struct MadeCut {
     pub(super) in_write: bool,
 }
 
+/// All lives of a cut that differs, those before the swept one too.
+fn differing(
+    alloc: Global,
+    sweep: &Sweep<'_>,
+    place: Place,
+    given: u64,
+    reports: ItemList<LifeReport>,
+) -> SweepFault
+    requires { HasRunCut sweep.now place given reports }
+    ensures { IsCutFault sweep.now place.call result }
+{
+    match plan_cut(alloc, &sweep.part, place, given) {
+        Ok(lives) => SweepFault::Differs {
+            run: RunLives { lives, reports },
+        },
+        Err(_) => SweepFault::Memory,
+    }
+}
+
 /// Compares what was told of a cut.
 fn judge(
     alloc: Global,
     sweep: &Sweep<'_>,
     place: Place,
     given: u64,
-    run: RunLives,
+    reports: ItemList<LifeReport>,
 ) -> Result<MadeCut, SweepFault>
-    requires { HasRunCut sweep.now place given run }
+    requires started { IsStarted sweep.now }
+    requires run { HasRunCut sweep.now place given reports }
     ensures agrees { IfOk result (λ made. IsSweptAt sweep.now place made.in_write) }
     ensures failed { IfErr result (IsCutFault sweep.now place.call) }
 {
-    let front = front_left(run.reports.as_slice(), sweep.part.earlier.len());
-    let is_same = is_same(alloc, sweep, given, &run)?;
+    let front = front_left(reports.as_slice(), 0);
+    let is_same = is_same(alloc, sweep, given, reports.as_slice())?;
     match front {
         Some(in_write) if is_same => Ok(MadeCut { given, in_write }),
-        _ => Err(SweepFault::Differs { run }),
+        _ => Err(differing(alloc, sweep, place, given, reports)),
     }
 }
 
@@ -89,15 +125,16 @@ pub(super) fn try_cut(
     place: Place,
     guess: u64,
 ) -> Result<MadeCut, SweepFault>
+    requires { IsStarted sweep.now }
     ensures agrees { IfOk result (λ made. IsSweptAt sweep.now place made.in_write) }
     ensures failed { IfErr result (IsCutFault sweep.now place.call) }
 {
-    let run = run_cut(runner, sweep, place, guess)?;
-    match given_to(run.reports.as_slice(), sweep.part.earlier.len() + 1) {
+    let reports = run_cut(runner, sweep, place, guess)?;
+    match given_to(reports.as_slice(), 1) {
         Some(given) if given != guess => {
             let again = run_cut(runner, sweep, place, given)?;
             judge(runner.alloc, sweep, place, given, again)
         }
-        _ => judge(runner.alloc, sweep, place, guess, run),
+        _ => judge(runner.alloc, sweep, place, guess, reports),
     }
 }

@@ -6,7 +6,7 @@ ghost use Rattle.worker.specs.declared.story.report.LifeEnd.TheVariants.{Stopped
 ghost use Rattle.story_commands.specs.declared.sweeping.fault.SweepFault.TheVariants.{Memory};
 ghost use Rattle.story_commands.specs.rules.Sweeps.{HasDoneAll, end_at, front_left};
 ghost use Rattle.story_commands.specs.rules.Sweeps.{was_opened};
-ghost use Rattle.story_commands.specs.laws.CutRuns.{AgreesWith, IsStoppedAt};
+ghost use Rattle.story_commands.specs.laws.CutRuns.{AgreesWith};
 
 use crate::sweeping::fault::SweepFault;
 use crate::sweeping::giving::given_to;
@@ -51,7 +51,7 @@ pub(super) fn unfinished(reports: &[LifeReport]) -> Option<usize>
 }
 
 /// Whether the power was cut in the life at this place.
-fn is_stopped(reports: &[LifeReport], place: usize) -> bool
+pub(super) fn is_stopped(reports: &[LifeReport], place: usize) -> bool
     ensures { result ≡ true → end_at place reports.now ≡ Some Stopped }
 {
     match reports.get(place) {
@@ -74,21 +74,10 @@ pub(super) fn front_left(reports: &[LifeReport], place: usize) -> Option<bool>
 }
 
 /// What was told of the lives before this place.
-fn lives_before(reports: &[LifeReport], place: usize) -> &[LifeReport]
+pub(super) fn lives_before(reports: &[LifeReport], place: usize) -> &[LifeReport]
     ensures { result.now ≡ take place reports.now }
 {
     &reports[..place.min(reports.len())]
-}
-
-/// Whether the power was cut in the life at this place, and those before it did all that they were
-/// told.
-pub(super) fn is_cut(reports: &[LifeReport], place: usize) -> bool
-    ensures { result ≡ true → IsStoppedAt place reports.now }
-{
-    if unfinished(lives_before(reports, place)).is_some() {
-        return false;
-    }
-    is_stopped(reports, place)
 }
 
 /// What was told of the lives from this place on.
@@ -99,16 +88,18 @@ pub(super) fn lives_from(reports: &[LifeReport], place: usize) -> &[LifeReport]
 }
 
 /// Whether the lives from this place on did all that they were told, the first one by a worker that
-/// was given so many answers, and all lines begin with these.
+/// was given so many answers, and all lines begin with these. The lines are also those of the lives
+/// before all of these.
 pub(super) fn agrees(
     alloc: Global,
     texts: &[NumberedLine],
+    before: &[LifeReport],
     place: usize,
     given: u64,
     reports: &[LifeReport],
 ) -> Result<bool, SweepFault>
     ensures agrees { IfOk result (λ is. is ≡ true
-        → AgreesWith texts.now place given reports.now) }
+        → AgreesWith texts.now before.now place given reports.now) }
     ensures failed { IfErr result (λ fault. fault ≡ Memory) }
 {
     match given_to(reports, place) {
@@ -118,7 +109,7 @@ pub(super) fn agrees(
     if unfinished(lives_from(reports, place)).is_some() {
         return Ok(false);
     }
-    match texts_of(alloc, reports)? {
+    match texts_of(alloc, before, reports)? {
         Some(found) => Ok(begin_with(found.lines(), texts)),
         None => Ok(false),
     }

@@ -23,6 +23,8 @@ pub(super) const TO_QUESTION: u64 = 10_000_000;
 pub(super) struct SweptPart<'a> {
     /// The lives before the swept one.
     pub(super) earlier: &'a [PlannedLife],
+    /// What was told of them without a cut.
+    pub(super) told_before: &'a [LifeReport],
     /// The swept one, and those after it.
     pub(super) swept: &'a [PlannedLife],
     /// What was told of these without a cut.
@@ -68,7 +70,7 @@ fn is_upgrade(act: PlannedAct) -> bool
 {
     match act {
         PlannedAct::Upgrade => true,
-        PlannedAct::Slice { .. } | PlannedAct::Checkpoint => false,
+        PlannedAct::Slice { .. } | PlannedAct::Batch { .. } | PlannedAct::Checkpoint => false,
     }
 }
 
@@ -215,6 +217,22 @@ fn push_stopped(
     Ok(())
 }
 
+/// Puts the lives of a cut behind a list, from the swept one on. After it the worker was given so
+/// many answers in all.
+fn push_cut(
+    alloc: Global,
+    list: &mut ItemList<PlannedLife>,
+    part: &SweptPart<'_>,
+    place: Place,
+    given: u64,
+) -> Result<(), AllocError>
+    ensures { OnOk result (list.new ≡ cut_at list.old part.now.swept.now part.now.told.now place
+        part.now.before given) }
+{
+    push_stopped(alloc, list, part.swept, place)?;
+    push_after(alloc, list, part, given)
+}
+
 /// The lives of a cut, after which the worker was given so many answers in all.
 pub(super) fn plan_cut(
     alloc: Global,
@@ -226,8 +244,22 @@ pub(super) fn plan_cut(
         part.now.told.now place part.now.before given) }
 {
     let mut lives = copy_lives(alloc, part.earlier)?;
-    push_stopped(alloc, &mut lives, part.swept, place)?;
-    push_after(alloc, &mut lives, part, given)?;
+    push_cut(alloc, &mut lives, part, place, given)?;
+    Ok(lives)
+}
+
+/// The same lives from the swept one on.
+pub(super) fn plan_rest(
+    alloc: Global,
+    part: &SweptPart<'_>,
+    place: Place,
+    given: u64,
+) -> Result<ItemList<PlannedLife>, AllocError>
+    ensures { IfOk result (λ lives. lives ≡ cut_at [] part.now.swept.now part.now.told.now place
+        part.now.before given) }
+{
+    let mut lives = ItemList::new(alloc);
+    push_cut(alloc, &mut lives, part, place, given)?;
     Ok(lives)
 }
 

@@ -89,6 +89,7 @@ fn spell_answer<W: Write>(out: &mut W, answer: &Answer) -> io::Result<()> {
 fn spell_act<W: Write>(out: &mut W, act: PlannedAct) -> io::Result<()> {
     match act {
         PlannedAct::Slice { fuel } => writeln!(out, "slice {fuel}"),
+        PlannedAct::Batch { fuel, most } => writeln!(out, "batch {fuel} {most}"),
         PlannedAct::Checkpoint => out.write_all(b"checkpoint\n"),
         PlannedAct::Upgrade => out.write_all(b"upgrade\n"),
     }

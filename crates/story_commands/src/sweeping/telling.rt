@@ -1,7 +1,9 @@
 //! The command, from a script to an exit status.
 
-ghost use Rattle.std.specs.Prelude.{◌≡◌, ◌≤◌, IfOk};
+ghost use Rattle.std.specs.Prelude.{◌≡◌, ◌<◌, ◌≤◌, ℕ, IfOk, List, length};
+ghost use Rattle.command_words.specs.rules.Pieces.{lines_of};
 ghost use Rattle.story_commands.specs.Said.{SaysDifference, SaysPlan, SaysSwept};
+ghost use Rattle.story_commands.specs.rules.Sweeps.{AreSweptLives};
 ghost use Rattle.story_commands.specs.rules.SweepTexts.{TellsSweep, plan_line, swept_line};
 ghost use Rattle.story_commands.specs.laws.SweepEnds.{SaysEnd};
 
@@ -137,6 +139,39 @@ fn say_end<W: Write + Drop, E: Write + Drop>(
     }
 }
 
+/// Sweeps lives, of a worker of the module that the bytes spell. Answers the exit status.
+fn sweep_read<W: Write + Drop, E: Write + Drop>(
+    alloc: Global,
+    swept: &SweptLives,
+    wasm: &[u8],
+    choice: SweepChoice<'_>,
+    out: &mut Printer<W>,
+    err: &mut Printer<E>,
+) -> u8
+    requires { swept.now.place < length swept.now.lives }
+    ensures tells { (script : List ℕ)
+        → AreSweptLives (lines_of script) choice.entry.life swept.now.lives swept.now.place
+        → TellsSweep script wasm.now choice.entry.sizes choice.entry.fronts.now choice.entry.life
+        out.old out.new err.old err.new result }
+    ensures known { result ≤ 7 }
+{
+    match prepare(alloc, wasm, choice.sizes, &[], &[]) {
+        Ok(prepared) => {
+            let job = SweepJob {
+                wasm,
+                config: &prepared.config,
+                lives: swept.lives.as_slice(),
+                place: swept.place,
+                fronts: choice.fronts,
+            };
+            let ended = sweep_lives(alloc, &job, err);
+            drop(prepared);
+            say_end(alloc, ended, out, err)
+        }
+        Err(fault) => report_unprepared(alloc, wasm, fault, err),
+    }
+}
+
 /// Sweeps the lives that a script spells, of a worker of the module that the bytes spell. It is of
 /// these sizes, and its name is its one argument. They are run without a cut, and then with the
 /// power cut at each call of the disk in one of them, for each of these fronts. Answers the exit
@@ -144,7 +179,7 @@ fn say_end<W: Write + Drop, E: Write + Drop>(
 /// that can't be swept, 3 for a refused configuration or module, 5 for out of memory, 7 where a
 /// write of a printer has failed. A script can't be swept if a life of it ends by an error, or if
 /// its upgrade can't be done again after a cut.
-#[tactic(auto, using(crate::proofs::SweepLemmas::Statuses::unread_now, crate::proofs::SweepLemmas::Statuses::refused_now))]
+#[tactic(auto, using(crate::proofs::SweepLemmas::Statuses::unread_now))]
 pub fn tell_sweep<W: Write + Drop, E: Write + Drop>(
     alloc: Global,
     script: &[u8],
@@ -157,21 +192,12 @@ pub fn tell_sweep<W: Write + Drop, E: Write + Drop>(
         choice.entry.life out.old out.new err.old err.new result }
     ensures known { result ≤ 7 }
 {
-    let SweptLives { lives, place } = match read_sweep(alloc, script, choice.life) {
-        Ok(swept) => swept,
-        Err(fault) => return report_sweep_script(err, fault),
-    };
-    let prepared = match prepare(alloc, wasm, choice.sizes, &[], &[]) {
-        Ok(prepared) => prepared,
-        Err(fault) => return report_unprepared(alloc, wasm, fault, err),
-    };
-    let job = SweepJob {
-        wasm,
-        config: &prepared.config,
-        lives: lives.as_slice(),
-        place,
-        fronts: choice.fronts,
-    };
-    let ended = sweep_lives(alloc, &job, err);
-    say_end(alloc, ended, out, err)
+    match read_sweep(alloc, script, choice.life) {
+        Ok(swept) => {
+            let status = sweep_read(alloc, &swept, wasm, choice, out, err);
+            drop(swept);
+            status
+        }
+        Err(fault) => report_sweep_script(err, fault),
+    }
 }

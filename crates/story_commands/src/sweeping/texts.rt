@@ -56,19 +56,36 @@ fn put_lines(texts: &mut LineList, more: &[NumberedLine]) -> Result<bool, Outlet
     Ok(true)
 }
 
-/// The texts of all lines that were told, if each number has one text and none is missing.
+/// Puts the lines that lives have told to the texts of lines, up to the first that doesn't fit.
+fn put_told(texts: &mut LineList, reports: &[LifeReport]) -> Result<bool, OutletFault>
+    ensures { IfOk result (λ fits. fits ≡ true → (lines : List NumberedLine)
+        → AreTextsOf texts.old lines
+        → AreTextsOf texts.new (lines ++ flat_map lines_told reports.now)) }
+{
+    for report in reports {
+        if !put_lines(texts, report.releases.lines())? {
+            return Ok(false);
+        }
+    }
+    Ok(true)
+}
+
+/// The texts of all lines that lives have told, and others before them, if each number has one text
+/// and none is missing.
 pub(super) fn texts_of(
     alloc: Global,
+    before: &[LifeReport],
     reports: &[LifeReport],
 ) -> Result<Option<LineList>, OutletFault>
     ensures { IfOk result (λ found. IfSome found (λ texts.
-        AreTextsOf texts (flat_map lines_told reports.now))) }
+        AreTextsOf texts (flat_map lines_told (before.now ++ reports.now)))) }
 {
     let mut texts = LineList::new(alloc);
-    for report in reports {
-        if !put_lines(&mut texts, report.releases.lines())? {
-            return Ok(None);
-        }
+    if !put_told(&mut texts, before)? {
+        return Ok(None);
+    }
+    if !put_told(&mut texts, reports)? {
+        return Ok(None);
     }
     Ok(Some(texts))
 }

@@ -63,7 +63,7 @@ fn test_upgrade(runner: &mut Runner, sweep: &Sweep<'_>) -> Result<(), SweepFault
     let at = sweep.part.earlier.len() + 1;
     let given = given_at(sweep.part.told, 0);
     let reports = run.reports.as_slice();
-    if has_come(reports, at) && agrees(runner.alloc, sweep.texts, at, given, reports)? {
+    if has_come(reports, at) && agrees(runner.alloc, sweep.texts, &[], at, given, reports)? {
         return Ok(());
     }
     Err(SweepFault::Upgrade { run })

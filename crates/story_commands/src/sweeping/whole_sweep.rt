@@ -1,6 +1,7 @@
 //! A whole sweep.
 
-ghost use Rattle.std.specs.Prelude.{◌≡◌, ◌<◌, IfErr, IfOk, IfSome, Some, length};
+ghost use Rattle.std.specs.Prelude.{◌≡◌, ◌<◌, [], IfErr, IfOk, IfSome, Some, length, take};
+ghost use Rattle.worker.specs.Going.{HaveStarted};
 ghost use Rattle.worker.specs.declared.story.report.LifeEnd.TheVariants.{Failed};
 ghost use Rattle.story_commands.specs.rules.Sweeps.{IsSwept, end_at};
 ghost use Rattle.story_commands.specs.laws.CutRuns.{HeedsProgress, IsFoundFirst, IsPlainRun};
@@ -10,9 +11,9 @@ ghost use Rattle.story_commands.specs.laws.CutRuns.{CallsBegun, IsSweepOf, IsTol
 use crate::sweeping::calling::sweep_calls;
 use crate::sweeping::cutting::Sweep;
 use crate::sweeping::fault::SweepFault;
-use crate::sweeping::judging::{lives_from, unfinished, was_opened};
+use crate::sweeping::judging::{lives_before, lives_from, unfinished, was_opened};
 use crate::sweeping::planning::{SweptPart, and_idle};
-use crate::sweeping::running::{RunLives, Runner};
+use crate::sweeping::running::{HaltedRun, RunLives, Runner};
 use crate::sweeping::texts::texts_of;
 use crate::sweeping::upgrading::find_before;
 use command_words::Printer;
@@ -21,7 +22,7 @@ use std::alloc::Global;
 use std::io::Write;
 use wasi_abi::Config;
 use worker::RecoverFault;
-use worker::story::{LifeEnd, LifeReport, PlannedLife};
+use worker::story::{LifeEnd, LifeReport, PlannedLife, StoryStart};
 
 /// What is to be swept.
 #[derive(Clone, Copy)]
@@ -84,18 +85,32 @@ fn plan_fault(job: &SweepJob<'_>, run: RunLives, place: usize) -> SweepFault
     }
 }
 
+/// The lives that were run without a cut, and what those before the swept one have left.
+#[derive(Drop)]
+struct PlainRun {
+    run: RunLives,
+    start: StoryStart,
+}
+
 /// Runs the lives without a cut.
-fn run_plain(runner: &mut Runner, job: &SweepJob<'_>) -> Result<RunLives, SweepFault>
-    ensures run { IfOk result (IsPlainRun job.now.wasm.now job.now.config.now
-        job.now.lives.now) }
+fn run_plain(runner: &mut Runner, job: &SweepJob<'_>) -> Result<PlainRun, SweepFault>
+    requires { job.now.place < length job.now.lives.now }
+    ensures run { IfOk result (λ plain. IsPlainRun job.now.wasm.now job.now.config.now
+        job.now.lives.now plain.run) }
+    ensures start { IfOk result (λ plain. HaveStarted job.now.wasm.now job.now.config.now
+        (take job.now.place job.now.lives.now) (take job.now.place plain.run.reports)
+        plain.start) }
     ensures failed { IfErr result (IsPlanFault job.now.wasm.now job.now.config.now
         job.now.lives.now) }
 {
     let lives = and_idle(runner.alloc, job.lives)?;
-    let run = runner.run(job.wasm, job.config, lives)?;
-    match unfinished(run.reports.as_slice()) {
-        None => Ok(run),
-        Some(place) => Err(plan_fault(job, run, place)),
+    let HaltedRun { run, start } = runner.run_with_start(job.wasm, job.config, lives, job.place)?;
+    if let Some(place) = unfinished(run.reports.as_slice()) {
+        return Err(plan_fault(job, run, place));
+    }
+    match start {
+        Some(start) => Ok(PlainRun { run, start }),
+        None => Err(SweepFault::Differs { run }),
     }
 }
 
@@ -112,24 +127,28 @@ fn calls_at(reports: &[LifeReport], place: usize) -> Option<u64>
 /// What is swept, with so many answers before an upgrade that is done again.
 fn sweep_of<'a>(
     job: &SweepJob<'a>,
-    plain: &'a RunLives,
+    plain: &'a PlainRun,
     texts: &'a [NumberedLine],
     before: u64,
 ) -> Sweep<'a>
     requires { job.now.place < length job.now.lives.now }
     ensures of { IsSweepOf job.now.wasm.now job.now.config.now job.now.lives.now job.now.place
-        plain.entry.now.reports result }
+        plain.entry.now.run.reports result }
+    ensures start { result.start.now ≡ plain.entry.now.start }
     ensures texts { result.texts.now ≡ texts.entry.now }
 {
+    let reports = plain.run.reports.as_slice();
     Sweep {
         wasm: job.wasm,
         config: job.config,
         part: SweptPart {
             earlier: &job.lives[..job.place],
+            told_before: lives_before(reports, job.place),
             swept: &job.lives[job.place..],
-            told: lives_from(plain.reports.as_slice(), job.place),
+            told: lives_from(reports, job.place),
             before,
         },
+        start: &plain.start,
         texts,
     }
 }
@@ -138,14 +157,17 @@ fn sweep_of<'a>(
 fn sweep_plain<E: Write + Drop>(
     runner: &mut Runner,
     job: &SweepJob<'_>,
-    plain: &RunLives,
+    plain: &PlainRun,
     texts: &[NumberedLine],
     calls: u64,
     err: &mut Printer<E>,
 ) -> Result<Option<Swept>, SweepFault>
     requires place { job.now.place < length job.now.lives.now }
     requires told { IsToldPlain job.now.wasm.now job.now.config.now job.now.lives.now
-        job.now.place plain.now texts.now calls }
+        job.now.place plain.now.run texts.now calls }
+    requires start { HaveStarted job.now.wasm.now job.now.config.now
+        (take job.now.place job.now.lives.now) (take job.now.place plain.now.run.reports)
+        plain.now.start }
     ensures swept { IfOk result (λ o. IfSome o (λ swept. IsSwept job.now.wasm.now
         job.now.config.now job.now.lives.now job.now.place job.now.fronts.now swept.cuts
         swept.lines)) }
@@ -183,11 +205,11 @@ pub(crate) fn sweep_lives<E: Write + Drop>(
 {
     let mut runner = Runner::new(alloc);
     let plain = run_plain(&mut runner, job)?;
-    let Some(texts) = texts_of(alloc, plain.reports.as_slice())? else {
-        return Err(SweepFault::Differs { run: plain });
+    let Some(texts) = texts_of(alloc, &[], plain.run.reports.as_slice())? else {
+        return Err(SweepFault::Differs { run: plain.run });
     };
-    let Some(calls) = calls_at(plain.reports.as_slice(), job.place) else {
-        return Err(SweepFault::Differs { run: plain });
+    let Some(calls) = calls_at(plain.run.reports.as_slice(), job.place) else {
+        return Err(SweepFault::Differs { run: plain.run });
     };
     sweep_plain(&mut runner, job, &plain, texts.lines(), calls, err)
 }

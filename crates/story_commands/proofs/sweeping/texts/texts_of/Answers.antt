@@ -1,18 +1,17 @@
-use Rattle.std.proofs.Common.{List, ◌++◌, subst, take}
+use Rattle.std.proofs.Common.{List, [], ◌++◌, subst, sym}
 use Rattle.std.specs.List.{flat_map}
+use Rattle.std.proofs.lemmas.Grind.{flat_map-append}
 use Rattle.record_replay.specs.declared.line_list.NumberedLine.{NumberedLine}
 use Rattle.story_commands.specs.rules.Sweeps.{AreTextsOf, lines_told}
-use Rattle.story_commands.proofs.SweepLemmas.Lists.{flat_more}
+use Rattle.story_commands.proofs.SweepLemmas.Texts.{no_texts}
 use Rattle.story_commands.proofs.sweeping.texts.texts_of.Goals as goal
 
-pub loop-report-preserved : goal.loop-report-preserved
-loop-report-preserved c =
+pub returns : goal.returns
+returns c =
+    let before = c.args.before.now in
     let reports = c.args.reports.now in
-    let i = c.loop-report.report-index in
-    let before = flat_map lines_told (take i reports) in
-    let texts = c.put_lines.new.texts in
-    let told = subst (λ (l : List NumberedLine). AreTextsOf texts (before ++ l)) c.lines.ensures
-    (c.in_ok-put_lines.ensures c.if-not-branch.false before c.loop-report.invariant) in
-    subst (AreTextsOf texts)
-    (flat_more lines_told reports i c.report-item.result c.loop-report-test.true
-    c.report-item.is) told
+    let none = subst (λ (texts : List NumberedLine). AreTextsOf texts []) (sym c.new-texts.ensures)
+    no_texts in
+    subst (AreTextsOf c.put_told-2.new.texts) (sym (flat_map-append lines_told before reports))
+    (c.in_ok-put_told-2.ensures c.if-not-branch-2.false (flat_map lines_told before)
+    (c.in_ok-put_told.ensures c.if-not-branch.false [] none))

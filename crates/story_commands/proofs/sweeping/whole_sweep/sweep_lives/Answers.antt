@@ -13,11 +13,11 @@ returns-in_err-plain-clause-failed g c =
 pub returns-in_default-clause-failed : goal.returns-in_default-clause-failed
 returns-in_default-clause-failed g c =
     let job = c.args.job.now in
-    plain_ends job.wasm.now job.config.now job.lives.now job.place c.in_ok-plain.plain
-    c.in_ok-plain.ensures.run
+    plain_ends job.wasm.now job.config.now job.lives.now job.place
+    c.in_ok-plain.plain.run c.in_ok-plain.ensures.run
 
 pub returns-in_default-calls_at-clause-failed : goal.returns-in_default-calls_at-clause-failed
 returns-in_default-calls_at-clause-failed g c =
     let job = c.args.job.now in
-    plain_ends job.wasm.now job.config.now job.lives.now job.place c.in_ok-plain.plain
-    c.in_ok-plain.ensures.run
+    plain_ends job.wasm.now job.config.now job.lives.now job.place
+    c.in_ok-plain.plain.run c.in_ok-plain.ensures.run

@@ -1,20 +1,15 @@
-use Rattle.std.proofs.Common.{List, refl, subst}
-use Rattle.std.specs.List.{All}
-use Rattle.worker.specs.declared.story.life.PlannedLife.{PlannedLife}
-use Rattle.worker.specs.rules.StoryDisks.{TellsLives}
-use Rattle.story_commands.specs.rules.Sweeps.{HadMemory}
+use Rattle.std.proofs.Common.{refl, sym}
+use Rattle.story_commands.proofs.SweepLemmas.Starts.{told_so}
 use Rattle.story_commands.proofs.sweeping.running.Runner.run.Goals as goal
 
 pub returns-clause-run : goal.returns-clause-run
-returns-clause-run c =
-    let reports = c.in_ok-report.report.lives in (
-      refl,
-      record {
-        tells =
-            subst (λ (lives : List PlannedLife). TellsLives c.args.wasm.now c.args.config.now lives
-            reports) c.as_slice.ensures c.in_ok-report.ensures;
-        fed =
-            subst (All HadMemory) c.as_slice-2.ensures
-            (c.are_starved.ensures c.if-are_starved.false);
-      },
-    )
+returns-clause-run c = (
+  refl,
+  record {
+    tells =
+        told_so c.args.wasm.now c.args.config.now c.as_slice.result.now c.args.lives
+        c.in_ok-report.report.lives c.in_ok-reports.reports c.as_slice.ensures
+        (sym c.in_ok-reports.ensures.told) c.in_ok-report.ensures;
+    fed = c.in_ok-reports.ensures.fed;
+  },
+)
