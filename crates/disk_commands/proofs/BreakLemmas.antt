@@ -1,4 +1,4 @@
--- Where slices lead, and where one or the checkpoint after it has failed.
+-- Where slices and batches lead, and where one or the checkpoint after it has failed.
 use Rattle.std.proofs.Common.{◌≡◌, inl, inr, ℕ, ◌+◌, Bool, true, false, List, [], ◌∷◌, ◌++◌}
 use Rattle.std.proofs.Common.{None, Err, refl, sym, ap, subst, arith, append_assoc}
 use Rattle.std.proofs.Common.{append-nil}
@@ -8,8 +8,10 @@ use Rattle.wasi_abi.specs.declared.answer.Question.TheVariants as questions
 use Rattle.process_rules.specs.Processes.{ProcessState, Guest}
 use Rattle.process_rules.specs.Runs.{none}
 use Rattle.process.specs.rules.Values.{ProcessValue, ShowsProcess}
-use Rattle.record_replay.specs.rules.Calls.{Giving, Taking, Exchanges}
-use Rattle.record_replay.proofs.Following.{exchanges_join}
+use Rattle.record_replay.specs.rules.Calls.{Giving, Taking, Asked, Released, AnswersInOrder}
+use Rattle.record_replay.specs.rules.Calls.{Releases, asks_of, releases_of}
+use Rattle.record_replay.proofs.Following.{exchanges_join, leads_join as calls_join}
+use Rattle.record_replay.proofs.Following.{asks_of-append, releases_of-append}
 use Rattle.record_replay.specs.declared.slices.fault.SliceFault.TheVariants as slice
 use Rattle.record_replay.specs.declared.slices.now.Now.{Now}
 use Rattle.record_replay.specs.declared.slices.now.Now.TheVariants as now
@@ -20,46 +22,41 @@ use Rattle.record_replay.proofs.Joining.{wanted_join}
 use Rattle.worker.specs.declared.fault.WorkFault.{WorkFault}
 use Rattle.worker.specs.declared.fault.WorkFault.TheVariants as work
 use Rattle.worker.specs.rules.DurableValues.{DurableValue, without_disk}
+use Rattle.worker.specs.rules.Batches.{BatchFails, HasUntakenAnswer, ToldUpTo}
 use Rattle.worker.specs.rules.DurableFailures.{SlicesOnDiskInVain, IsDiskCause}
-use Rattle.worker.specs.rules.LifeWords.{Act, Slice, Batch, Checkpoint, Upgrade}
-use Rattle.disk_commands.specs.rules.BrokenLives.{steps_among, in_slice, in_checkpoint}
+use Rattle.worker.specs.rules.LifeWords.{Act, Slice, Batch, Checkpoint, fuel_of}
+use Rattle.disk_commands.specs.rules.BrokenLives.{steps_among, in_act, in_checkpoint}
 use Rattle.disk_commands.specs.rules.BrokenLives.{SlicesLead, BreaksOff, BreaksOffFrom}
 use Rattle.disk_commands.specs.rules.BrokenLives.{BreaksInSlice, BreaksInSliceFrom}
 use Rattle.disk_commands.specs.rules.Paces.{round_of}
+use Rattle.disk_commands.proofs.ToldLemmas.{told_as_taken}
 
 -- ---- the steps of acts
 
 pub steps_both : (xs ys : List Act) → steps_among (xs ++ ys) ≡ steps_among xs + steps_among ys
 steps_both [] ys = omega arith
-steps_both (Slice fuel ∷ acts) ys =
+steps_both (act ∷ acts) ys =
     let e : steps_among (acts ++ ys) ≡ steps_among acts + steps_among ys = steps_both acts ys in
-    let all : fuel + steps_among (acts ++ ys) ≡ (fuel + steps_among acts) + steps_among ys =
-    omega (arith, e) in all
-steps_both (Batch fuel most ∷ acts) ys =
-    let e : steps_among (acts ++ ys) ≡ steps_among acts + steps_among ys = steps_both acts ys in
-    let all : fuel + steps_among (acts ++ ys) ≡ (fuel + steps_among acts) + steps_among ys =
-    omega (arith, e) in all
-steps_both (Checkpoint ∷ acts) ys = steps_both acts ys
-steps_both (Upgrade ∷ acts) ys = steps_both acts ys
+    let all : fuel_of act + steps_among (acts ++ ys)
+    ≡ (fuel_of act + steps_among acts) + steps_among ys = omega (arith, e) in all
 
--- one slice more
-pub slice_more : (fuel n : ℕ) → steps_among (replicate (n + 1) (Slice fuel))
-    ≡ steps_among (replicate n (Slice fuel)) + fuel
-slice_more fuel n =
-    let both : steps_among (replicate n (Slice fuel) ++ (Slice fuel ∷ []))
-    ≡ steps_among (replicate n (Slice fuel)) + (fuel + 0) =
-    steps_both (replicate n (Slice fuel)) (Slice fuel ∷ []) in
-    let same : steps_among (replicate (n + 1) (Slice fuel))
-    ≡ steps_among (replicate n (Slice fuel) ++ (Slice fuel ∷ [])) =
-    ap (λ z. steps_among z) (sym (replicate_more n (Slice fuel))) in
+-- one act more
+pub act_more : (act : Act) (n : ℕ) → steps_among (replicate (n + 1) act)
+    ≡ steps_among (replicate n act) + fuel_of act
+act_more act n =
+    let both : steps_among (replicate n act ++ (act ∷ []))
+    ≡ steps_among (replicate n act) + (fuel_of act + 0) =
+    steps_both (replicate n act) (act ∷ []) in
+    let same : steps_among (replicate (n + 1) act) ≡ steps_among (replicate n act ++ (act ∷ [])) =
+    ap (λ z. steps_among z) (sym (replicate_more n act)) in
     omega (arith, both, same)
 
 -- a checkpoint after them takes none
-pub round_steps : (fuel n : ℕ)
-    → steps_among (round_of fuel n) ≡ steps_among (replicate n (Slice fuel))
-round_steps fuel n =
-    let both : steps_among (round_of fuel n) ≡ steps_among (replicate n (Slice fuel)) + 0 =
-    steps_both (replicate n (Slice fuel)) (Checkpoint ∷ []) in
+pub round_steps : (act : Act) (n : ℕ)
+    → steps_among (round_of act n) ≡ steps_among (replicate n act)
+round_steps act n =
+    let both : steps_among (round_of act n) ≡ steps_among (replicate n act) + (0 + 0) =
+    steps_both (replicate n act) (Checkpoint ∷ []) in
     omega (arith, both)
 
 -- ---- nothing yet
@@ -119,9 +116,6 @@ module _ {S O : Type 0} (gives : Giving S) (takes : Taking O) where
           shows = works.0.shows;
         }
 
-    abbrev pub BreaksBy : ProcessValue → WorkFault → Type 0
-    BreaksBy old why = BreaksOffFrom gives takes old fuel fuel why s t o p
-
     -- where it is the slice that has failed
     abbrev pub BreaksInBy : ProcessValue → WorkFault → Type 0
     BreaksInBy old why = BreaksInSliceFrom gives takes old fuel fuel why s t o p
@@ -138,21 +132,52 @@ module _ {S O : Type 0} (gives : Giving S) (takes : Taking O) where
             steps = 0;
             begun = start;
             leads = leads_nowhere guest start;
+            between = o;
+            told = refl;
             back = fails.0.exchanges;
-            exchanged = fails.0.exchanged;
+            asked = fails.0.exchanged.asked;
             wanted = fails.0.wanted;
             more = fails.0.steps;
             process = fails.0.process;
-            broken = in_slice fails.1;
+            broken = in_act fails.1 fails.0.exchanged.released;
             counted = omega arith;
           };
           cause = fails.1;
         }
 
-    -- a checkpoint that fails after one that doesn't
+    -- a batch that fails
+    breaks_in_batch : (most : ℕ) (old new : ProcessValue) (why : WorkFault)
+        → BatchFails gives takes old fuel why new s t o p
+        → BreaksOffFrom gives takes old (Batch fuel most) fuel why s t o p
+    breaks_in_batch most old new why vain guest start is =
+        let batch = vain guest start is in
+        let fails = batch.1 in
+        let released = told_as_taken guest start fails.exchanges fails.steps fails.process fuel why
+        batch.3 batch.0 fails.exchanged.released in
+        record {
+          front = [];
+          answered = none_answered;
+          steps = 0;
+          begun = start;
+          leads = leads_nowhere guest start;
+          between = o;
+          told = refl;
+          back = fails.exchanges;
+          asked = fails.exchanged.asked;
+          wanted = fails.wanted;
+          more = fails.steps;
+          process = fails.process;
+          broken = in_act batch.3 (subst (λ z. ToldUpTo takes
+              (HasUntakenAnswer guest start fails.exchanges fails.steps fails.process) why z o p)
+              released batch.2);
+          counted = omega arith;
+        }
+
+  -- a checkpoint that fails after an act that doesn't
+  module _ (act : Act) (s t : S) (o p : O) where
     pub breaks_in_checkpoint : (w w' : DurableValue) (said : Now) (why : WorkFault)
-        → Slices gives takes (without_disk w) fuel said (without_disk w') s t o p
-        → BreaksBy w.process why
+        → Slices gives takes (without_disk w) (fuel_of act) said (without_disk w') s t o p
+        → BreaksOffFrom gives takes w.process act (fuel_of act) why s t o p
     breaks_in_checkpoint w w' said why slices guest start is =
         let works = slices.shown guest start is in
         record {
@@ -161,12 +186,14 @@ module _ {S O : Type 0} (gives : Giving S) (takes : Taking O) where
           steps = 0;
           begun = start;
           leads = leads_nowhere guest start;
+          between = o;
+          told = refl;
           back = works.0.exchanges;
-          exchanged = works.0.exchanged;
+          asked = works.0.exchanged.asked;
           wanted = works.0.wanted;
           more = works.0.steps;
           process = works.0.process;
-          broken = in_checkpoint said works.0.leads works.1;
+          broken = in_checkpoint said works.0.leads works.1 works.0.exchanged.released;
           counted = omega arith;
         }
 
@@ -180,15 +207,36 @@ module _ {S O : Type 0} (gives : Giving S) (takes : Taking O) where
       steps = 0;
       begun = start;
       leads = leads_nowhere guest start;
+      between = o;
+      told = refl;
       back = [];
-      exchanged = record { asked = refl; released = refl };
+      asked = refl;
       wanted = none_wanted guest start;
       more = 0;
       process = start;
-      broken = in_slice (fails_nowhere fuel guest start);
+      broken = in_act (fails_nowhere fuel guest start) refl;
       counted = omega arith;
     };
     cause = fails_nowhere fuel guest start;
+  }
+
+  batch_failed_before : (fuel most : ℕ) (s : S) (o : O) (old : ProcessValue)
+      → BreaksOffFrom gives takes old (Batch fuel most) fuel (work.Work slice.Failed) s s o o
+  batch_failed_before fuel most s o old guest start is = record {
+    front = [];
+    answered = none_answered;
+    steps = 0;
+    begun = start;
+    leads = leads_nowhere guest start;
+    between = o;
+    told = refl;
+    back = [];
+    asked = refl;
+    wanted = none_wanted guest start;
+    more = 0;
+    process = start;
+    broken = in_act (fails_nowhere fuel guest start) ([], [], refl, refl);
+    counted = omega arith;
   }
 
   pub same_fault : (a b : WorkFault) → ◌≡◌ {A = Result Now WorkFault} (Err a) (Err b) → a ≡ b
@@ -216,10 +264,28 @@ module _ {S O : Type 0} (gives : Giving S) (takes : Taking O) where
         → (has_failed ≡ true
         → ◌≡◌ {A = Result Now WorkFault} (Err why) (Err (work.Work slice.Failed)))
         → (has_failed ≡ true → t ≡ s) → (has_failed ≡ true → p ≡ o)
-        → BreaksBy fuel s t o p old why
+        → BreaksOffFrom gives takes old (Slice fuel) fuel why s t o p
     slice_breaks_off has_failed vain failed steady silent guest start is =
         let breaks = slice_breaks_in has_failed vain failed steady silent guest start is in
         breaks.broken
+
+    -- so it is of a batch
+    module _ (most : ℕ) where
+      abbrev Breaks : S → O → WorkFault → Type 0
+      Breaks t p why = BreaksOffFrom gives takes old (Batch fuel most) fuel why s t o p
+
+      pub batch_breaks_off : (has_failed : Bool)
+          → (has_failed ≡ false → BatchFails gives takes old fuel why new s t o p)
+          → (has_failed ≡ true
+          → ◌≡◌ {A = Result Now WorkFault} (Err why) (Err (work.Work slice.Failed)))
+          → (has_failed ≡ true → t ≡ s) → (has_failed ≡ true → p ≡ o) → Breaks t p why
+      batch_breaks_off false vain failed steady silent =
+          breaks_in_batch fuel s t o p most old new why (vain refl)
+      batch_breaks_off true vain failed steady silent =
+          subst (Breaks t p) (sym (same_fault why (work.Work slice.Failed) (failed refl)))
+          (subst (λ z. Breaks z p (work.Work slice.Failed)) (sym (steady refl))
+          (subst (λ z. Breaks s z (work.Work slice.Failed)) (sym (silent refl))
+          (batch_failed_before fuel most s o old)))
 
   -- ---- slices, and what comes behind them
 
@@ -241,10 +307,10 @@ module _ {S O : Type 0} (gives : Giving S) (takes : Taking O) where
       shows = second.shows;
     }
 
-    pub breaks_join : (fuel all : ℕ) (why : WorkFault)
-        → BreaksOff gives takes guest first.process u t q p fuel all why
-        → BreaksOff gives takes guest start s t o p fuel (n + all) why
-    breaks_join fuel all why second =
+    pub breaks_join : (act : Act) (all : ℕ) (why : WorkFault)
+        → BreaksOff gives takes guest first.process u t q p act all why
+        → BreaksOff gives takes guest start s t o p act (n + all) why
+    breaks_join act all why second =
         let counted = second.counted in
         let same = sym (append_assoc first.exchanges second.front second.back) in
         record {
@@ -254,10 +320,17 @@ module _ {S O : Type 0} (gives : Giving S) (takes : Taking O) where
           begun = second.begun;
           leads = leads_join guest start first.process second.begun first.exchanges second.front n
               second.steps first.leads second.leads;
+          between = second.between;
+          told = subst (λ z. Releases takes o z second.between)
+              (sym (releases_of-append first.exchanges second.front))
+              (calls_join (Released takes) o second.between q (releases_of first.exchanges)
+              (releases_of second.front) first.exchanged.released second.told);
           back = second.back;
-          exchanged = subst (λ z. Exchanges gives takes s o z t p) same
-              (exchanges_join gives takes s t u o p q first.exchanges
-              (second.front ++ second.back) first.exchanged second.exchanged);
+          asked = subst (λ z. AnswersInOrder gives s (asks_of z) t) same
+              (subst (λ z. AnswersInOrder gives s z t)
+              (sym (asks_of-append first.exchanges (second.front ++ second.back)))
+              (calls_join (Asked gives) s t u (asks_of first.exchanges)
+              (asks_of (second.front ++ second.back)) first.exchanged.asked second.asked));
           wanted = subst (λ z. AreWanted guest start z) same
               (wanted_join guest start first.process first.exchanges
               (second.front ++ second.back) n first.wanted first.leads first.answered
@@ -274,6 +347,6 @@ module _ {S O : Type 0} (gives : Giving S) (takes : Taking O) where
         → BreaksInSlice gives takes guest start s t o p fuel (n + all) why
     unfolding breaks_join
     breaks_in_join fuel all why second = record {
-      broken = breaks_join fuel all why second.broken;
+      broken = breaks_join (Slice fuel) all why second.broken;
       cause = second.cause;
     }

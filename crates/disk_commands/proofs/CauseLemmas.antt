@@ -1,5 +1,6 @@
 -- From what a run on a disk does to the cause of its exit status.
-use Rattle.std.proofs.Common.{◌≡◌, ◌⊎◌, inl, inr, ℕ, ◌+◌, ◌<◌, Bool, true, List, [], ◌∷◌}
+use Rattle.std.proofs.Common.{◌≡◌, ◌⊎◌, inl, inr, ⊎_elim, ℕ, ◌+◌, ◌<◌, ◌≤◌, Bool, true, List, []}
+use Rattle.std.proofs.Common.{◌∷◌}
 use Rattle.std.proofs.Common.{length, Some, Ok, Err, refl, sym, ap, ◌∙◌, subst, arith}
 use Rattle.std.specs.Prelude.{Result, false, if◌then◌else◌}
 use Rattle.std.specs.List.{AllByRecursion}
@@ -31,8 +32,9 @@ use Rattle.disk_commands.specs.declared.on_disk.fault.OnDiskFault.TheVariants as
 use Rattle.disk_commands.specs.rules.DiskStatuses.{IsReportedOnDisk, opening_fault}
 use Rattle.disk_commands.specs.rules.DiskStatuses.{status_on_disk}
 use Rattle.disk_commands.specs.rules.DiskStatuses.{status_of_call}
-use Rattle.disk_commands.specs.rules.Hearings.{WasHeard, AsksUnless, IsOfSource}
-use Rattle.disk_commands.specs.rules.ServedOnDisk.{RunStart, RunEnd, source_behind, handing}
+use Rattle.disk_commands.specs.rules.Hearings.{WasHeard, AsksUnless, IsOfSource, MayRefuse}
+use Rattle.disk_commands.specs.rules.ServedOnDisk.{RunStart, RunEnd, act_given, source_behind}
+use Rattle.disk_commands.specs.rules.ServedOnDisk.{handing}
 use Rattle.disk_commands.specs.rules.BrokenLives.{LeavesNoLine, steps_among}
 use Rattle.disk_commands.specs.rules.ServedOnDisk.{LivesOnDisk, HasBrokenOff}
 use Rattle.disk_commands.specs.rules.ServedOnDisk.{ServesOnDisk, over, broken}
@@ -43,6 +45,8 @@ use Rattle.disk_commands.specs.laws.DiskCauses.{IsStuck, IsFailing, IsWanting}
 use Rattle.disk_commands.specs.laws.DiskCauses.{IsAtItsEnd, IsUnanswering, HasToldItsLines}
 use Rattle.disk_commands.specs.laws.DiskCauses.{IsOverOnDisk, FailsOnDisk, opening, calling}
 use Rattle.disk_commands.specs.laws.DiskCauses.{AsksInVain, SaysOnDisk, StatusesHaveCauses}
+use Rattle.disk_commands.proofs.HearingLemmas.{none_refused}
+use Rattle.disk_commands.proofs.PaceLemmas.{one_or_several}
 use Rattle.disk_commands.proofs.PrintedLemmas.{lines_told}
 use Rattle.disk_commands.proofs.RefusalLemmas.{refusals_have_reasons}
 
@@ -147,11 +151,13 @@ module _ {D O : Type 0} (medium : D → Medium) (takes : Taking O) where
 
     -- each line was told, where none waits
     each_told : (why : WorkFault) (source' : SourceState) (lives : LifeUpTo source' why)
-        → HasBrokenOff lives why → LeavesNoLine why → HasToldItsLines lives why
+        → HasBrokenOff lives why → LeavesNoLine (act_given before.given) why
+        → HasToldItsLines lives why
     each_told why source' lives breaks none guest p is = (
       breaks guest p is,
       lines_told guest p takes (source_behind before.given lives.worker) source' lives.retold
-          after.outlet before.given.fuel (steps_among lives.acts) why none (breaks guest p is),
+          after.outlet (act_given before.given) (steps_among lives.acts) why none
+          (breaks guest p is),
     )
 
     abbrev Asks : (SourceState → List Ask → Bool → Type 0) → Type 0
@@ -202,6 +208,10 @@ module _ {D O : Type 0} (medium : D → Medium) (takes : Taking O) where
     abbrev IsSteady : Type 0
     IsSteady = after.failed ≡ before.given.failed
 
+    -- no read of the reader has failed, or a batch has found its journal full behind it
+    abbrev IsSteadyOrFull : Type 0
+    IsSteadyOrFull = IsSteady ⊎ (2 ≤ before.given.batch)
+
     zero : IsOverOnDisk medium takes before after → IsSteady → Says 0
     zero h steady = record {
       over = λ e. h;
@@ -214,7 +224,7 @@ module _ {D O : Type 0} (medium : D → Medium) (takes : Taking O) where
       known = inl refl;
     }
 
-    three : Fails IsStuck IsAtItsEnd → IsSteady → Says 3
+    three : Fails IsStuck IsAtItsEnd → IsSteadyOrFull → Says 3
     three h steady = record {
       over = λ e. absurd (omega (arith, e));
       stuck = λ e. h;
@@ -222,7 +232,8 @@ module _ {D O : Type 0} (medium : D → Medium) (takes : Taking O) where
       starved = λ e. absurd (omega (arith, e));
       bad_line = λ e. absurd (omega (arith, e));
       unprinted = λ e. absurd (omega (arith, e));
-      heeded = inl steady;
+      heeded = ⊎_elim (λ same. inl same) (λ several. inr (inr (inr (inr (refl, several)))))
+          steady;
       known = inr (omega arith, omega arith);
     }
 
@@ -270,7 +281,7 @@ module _ {D O : Type 0} (medium : D → Medium) (takes : Taking O) where
       starved = λ e. absurd (omega (arith, e));
       bad_line = λ e. absurd (omega (arith, e));
       unprinted = λ e. h;
-      heeded = inr (inr (inr refl));
+      heeded = inr (inr (inr (inl refl)));
       known = inr (omega arith, omega arith);
     }
 
@@ -280,7 +291,7 @@ module _ {D O : Type 0} (medium : D → Medium) (takes : Taking O) where
         → (wants_memory why ≡ false → Fails IsStuck IsAtItsEnd) → IsSteady
         → Says (if want then 5 else 3)
     refused_or why true is wants refuses steady = five (inl (wants is))
-    refused_or why false is wants refuses steady = three (refuses is) steady
+    refused_or why false is wants refuses steady = three (refuses is) (inl steady)
 
     -- a fault of the recovery
     by_opening : (why : RecoverFault)
@@ -288,15 +299,15 @@ module _ {D O : Type 0} (medium : D → Medium) (takes : Taking O) where
         → IsOfOpening why → Fails IsOfOpening IsOfCall) → IsSteady
         → Says (status_on_disk (opening_fault why))
     by_opening (recover.Replay replay.Diverged) f steady =
-        three (f IsStuck IsAtItsEnd tt) steady
+        three (f IsStuck IsAtItsEnd tt) (inl steady)
     by_opening (recover.Replay replay.Memory) f steady =
         five (inl (f IsWanting IsOfMemory refl))
     by_opening (recover.Replay replay.Outlet) f steady =
         seven (inl (f IsOutletFault IsOfOutlet tt))
     by_opening (recover.Worker (work.Store why)) f steady =
-        three (f IsStuck IsAtItsEnd tt) steady
+        three (f IsStuck IsAtItsEnd tt) (inl steady)
     by_opening (recover.Worker (work.Upgrade why)) f steady =
-        three (f IsStuck IsAtItsEnd tt) steady
+        three (f IsStuck IsAtItsEnd tt) (inl steady)
     by_opening (recover.Worker (work.Disk disk.Memory)) f steady =
         five (inl (f IsWanting IsOfMemory tt))
     by_opening (recover.Worker (work.Disk disk.Range)) f steady =
@@ -314,7 +325,7 @@ module _ {D O : Type 0} (medium : D → Medium) (takes : Taking O) where
     by_opening (recover.Worker (work.Work slice.Outlet)) f steady =
         seven (inl (f IsOutletFault IsOfOutlet tt))
     by_opening (recover.Worker (work.Work (slice.Refused why))) f steady =
-        three (f IsStuck IsAtItsEnd tt) steady
+        three (f IsStuck IsAtItsEnd tt) (inl steady)
     by_opening (recover.Layout why) f steady =
         refused_or (recover.Layout why) (wants_memory (recover.Layout why)) refl
         (λ is. f IsWanting IsOfMemory is) (λ is. f IsStuck IsAtItsEnd is) steady
@@ -331,23 +342,41 @@ module _ {D O : Type 0} (medium : D → Medium) (takes : Taking O) where
         refused_or (recover.Journal why) (wants_memory (recover.Journal why)) refl
         (λ is. f IsWanting IsOfMemory is) (λ is. f IsStuck IsAtItsEnd is) steady
 
+    same_call : (a b : WorkFault) → ◌≡◌ {A = Result (List Act) RecoverFault}
+        (Err (recover.Worker a)) (Err (recover.Worker b)) → a ≡ b
+    same_call a b is = cc
+
+    -- an error that isn't the source's
+    other_call : (why : WorkFault) → (why ≡ work.Work slice.Source → ⊥)
+        → IsOfSource (Err (recover.Worker why)) → ⊥
+    other_call why other source = other (same_call why (work.Work slice.Source) source)
+
     -- one of a call
     by_calling : (why : WorkFault)
         → ((IsOfOpening : RecoverFault → Type 0) (IsOfCall : WorkFault → Type 0)
         → IsOfCall why → Fails IsOfOpening IsOfCall)
-        → ((why ≡ work.Work slice.Source → ⊥) → IsSteady)
+        → ((MayRefuse (act_given before.given) (Err (recover.Worker why)) → ⊥) → IsSteady)
         → Says (status_of_call why)
     by_calling (work.Store why) f steady =
-        three (f IsStuck IsAtItsEnd tt) (steady (λ e. absurd (cc)))
+        three (f IsStuck IsAtItsEnd tt)
+        (⊎_elim (λ one. inl (steady (λ may. other_call (work.Store why) (λ e. absurd (cc))
+        (subst (λ act. MayRefuse act (Err (recover.Worker (work.Store why)))) one may))))
+        (λ several. inr several) (one_or_several before.given.fuel before.given.batch))
     by_calling (work.Upgrade why) f steady =
-        three (f IsStuck IsAtItsEnd tt) (steady (λ e. absurd (cc)))
+        three (f IsStuck IsAtItsEnd tt)
+        (inl (steady (none_refused (act_given before.given)
+        (Err (recover.Worker (work.Upgrade why)))
+        (other_call (work.Upgrade why) (λ e. absurd (cc))) (λ telling. telling))))
     by_calling (work.Disk why) f steady = four (inl (f IsFailing IsUnanswering tt))
     by_calling (work.Work slice.Source) f steady = four (inl (f IsFailing IsUnanswering tt))
     by_calling (work.Work slice.Failed) f steady = four (inl (f IsFailing IsUnanswering tt))
     by_calling (work.Work slice.Memory) f steady = five (inl (f IsWanting IsOfMemory refl))
     by_calling (work.Work slice.Outlet) f steady = seven (inl (f IsOutletFault IsOfOutlet refl))
     by_calling (work.Work (slice.Refused why)) f steady =
-        three (f IsStuck IsAtItsEnd tt) (steady (λ e. absurd (cc)))
+        three (f IsStuck IsAtItsEnd tt)
+        (inl (steady (none_refused (act_given before.given)
+        (Err (recover.Worker (work.Work (slice.Refused why))))
+        (other_call (work.Work (slice.Refused why)) (λ e. absurd (cc))) (λ telling. telling))))
 
     -- one of a request line
     by_line : (why : LineFault) → Asks (λ old asked failed. HasRefused old asked failed why)
@@ -385,10 +414,6 @@ module _ {D O : Type 0} (medium : D → Medium) (takes : Taking O) where
     said_as between status told (inr unsaid) says =
         subst Says (sym unsaid.0) (seven (inr unsaid.1))
 
-    same_call : (a b : WorkFault) → ◌≡◌ {A = Result (List Act) RecoverFault}
-        (Err (recover.Worker a)) (Err (recover.Worker b)) → a ≡ b
-    same_call a b is = cc
-
     by_told : (why : WorkFault) (told : OnDiskFault) (source' : SourceState)
         (lives : LifeUpTo source' why) → HasBrokenOff lives why → source'.failed ≡ after.failed
         → IsReportedOnDisk why source'.fault told → Says (status_on_disk told)
@@ -396,9 +421,9 @@ module _ {D O : Type 0} (medium : D → Medium) (takes : Taking O) where
         subst (λ t. Says (status_on_disk t)) (sym e.0)
         (by_calling why (λ IsOfOpening IsOfCall is.
         calling why source' lives (each_told why source' lives breaks) e.1 heeded is)
-        (λ other. sym heeded ∙ steady_unless (IsOfSource (Err (recover.Worker why)))
-        (source_behind before.given lives.worker) source' lives.heard
-        (λ source. other (same_call why (work.Work slice.Source) source))))
+        (λ other. sym heeded
+        ∙ steady_unless (MayRefuse (act_given before.given) (Err (recover.Worker why)))
+        (source_behind before.given lives.worker) source' lives.heard other))
     by_told why told source' lives breaks heeded (inr e) =
         let both : BrokenLife source' (work.Work slice.Source) =
         subst (BrokenLife source') e.1 (lives, breaks) in
@@ -420,8 +445,10 @@ module _ {D O : Type 0} (medium : D → Medium) (takes : Taking O) where
           heeded = heeded;
           told = tells;
           printed = said.1;
-        }) (sym heeded ∙ steady_unless (IsOfSource (Ok []))
-        (source_behind before.given lives.worker) source' lives.heard (λ source. absurd (cc))))
+        }) (sym heeded ∙ steady_unless (MayRefuse (act_given before.given) (Ok []))
+        (source_behind before.given lives.worker) source' lives.heard
+        (none_refused (act_given before.given) (Ok []) (λ source. absurd (cc))
+        (λ telling. telling))))
     says_why status (over now source' between done lives outcome heeded tells (inr unsaid)) =
         subst Says (sym unsaid.0) (seven (inr unsaid.1))
     says_why status (broken why told source' between lives breaks heeded is tells said) =

@@ -1,7 +1,7 @@
 -- Which questions of slices were refused.
-use Rattle.std.proofs.Common.{◌≡◌, ◌⊎◌, inl, inr, ℕ, suc, Bool, true, false, List, []}
+use Rattle.std.proofs.Common.{◌≡◌, ◌⊎◌, inl, inr, ⊎_elim, ℕ, suc, Bool, true, false, List, []}
 use Rattle.std.proofs.Common.{◌∷◌, ◌++◌, length, Option, Some, None, Ok, Err, refl, sym, subst}
-use Rattle.std.specs.Prelude.{map}
+use Rattle.std.specs.Prelude.{map, Result}
 use Rattle.std.specs.List.{AllByRecursion}
 use Rattle.wasi_abi.specs.declared.answer.Answer.{Answer}
 use Rattle.wasi_abi.specs.declared.answer.Question.{Question}
@@ -20,11 +20,15 @@ use Rattle.record_replay.specs.rules.Slices.{HasAnswer, AreWanted, IsNow, Slices
 use Rattle.record_replay.specs.rules.Faults.{LeadsUpTo, EmitsLast, StopsAtLine, last_answer}
 use Rattle.worker.specs.declared.fault.WorkFault.{WorkFault}
 use Rattle.worker.specs.declared.fault.WorkFault.TheVariants as work
+use Rattle.worker.specs.declared.recover_fault.RecoverFault.{RecoverFault}
 use Rattle.worker.specs.declared.recover_fault.RecoverFault.TheVariants as recover
+use Rattle.worker.specs.rules.Batches.{BatchFails, IsBatchCause}
 use Rattle.worker.specs.rules.DurableFailures.{SlicesOnDiskInVain, IsDiskCause}
 use Rattle.worker.specs.rules.DurableFailures.{StopsAtDisk, StopsAtStore}
+use Rattle.worker.specs.rules.LifeWords.{Act, Slice, Batch, Checkpoint, Upgrade}
 use Rattle.worker.proofs.StopLemmas.{stops_at_store}
-use Rattle.disk_commands.specs.rules.Hearings.{WasHeard, AsksUnless, IsOfSource}
+use Rattle.disk_commands.specs.rules.Hearings.{WasHeard, AsksUnless, IsOfSource, IsOfTelling}
+use Rattle.disk_commands.specs.rules.Hearings.{MayRefuse}
 
 -- ---- questions one after another
 
@@ -58,6 +62,14 @@ module _ {S : Type 0} (gives : Giving S) where
       → AsksUnless gives Refused s t
   asked_so_far Refused s t before = asked_on Refused s t t before
       (record { asks = []; led = refl; heard = inl tt })
+
+-- no question was refused, where the error is neither the source's nor one of telling lines
+pub none_refused : (act : Act) (undone : Result (List Act) RecoverFault)
+    → (IsOfSource undone → ⊥) → (IsOfTelling undone → ⊥) → MayRefuse act undone → ⊥
+none_refused (Slice fuel) undone source telling may = source may
+none_refused (Batch fuel most) undone source telling may = ⊎_elim source telling may
+none_refused Checkpoint undone source telling may = source may
+none_refused Upgrade undone source telling may = source may
 
 -- ---- slices
 
@@ -151,6 +163,21 @@ module _ (guest : Guest) (p : ProcessState) (exchanges : List Exchange) (steps :
       inl (store_heard (stops_at_store guest p fuel exchanges steps q why h))
   cause_heard fuel (work.Upgrade why) h = absurd h
 
+  cause_of_batch_heard : (fuel most : ℕ) (why : WorkFault)
+      → IsBatchCause guest p fuel exchanges steps q why
+      → AllHeard ⊎ MayRefuse (Batch fuel most) (Err (recover.Worker why))
+  cause_of_batch_heard fuel most (work.Work slice.Source) h = inr (inl refl)
+  cause_of_batch_heard fuel most (work.Work slice.Outlet) h = inr (inr tt)
+  cause_of_batch_heard fuel most (work.Work slice.Memory) h =
+      inl (up_to_heard guest p exchanges steps q h.3 h.4)
+  cause_of_batch_heard fuel most (work.Work slice.Failed) h = inl (store_heard h.1)
+  cause_of_batch_heard fuel most (work.Work (slice.Refused refusal.StepsSpent)) h =
+      inl (up_to_heard guest p exchanges steps q h.2 h.3)
+  cause_of_batch_heard fuel most (work.Work (slice.Refused (refusal.Module why))) h = absurd h
+  cause_of_batch_heard fuel most (work.Disk why) h = inr (inr tt)
+  cause_of_batch_heard fuel most (work.Store why) h = inr (inr tt)
+  cause_of_batch_heard fuel most (work.Upgrade why) h = absurd h
+
 module _ {S O : Type 0} (gives : Giving S) (takes : Taking O) (fuel : ℕ) (s t : S) (o p : O) where
   pub slice_hears : (old new : WorkerValue) (why : Now)
       → (old.failed ≡ false → IsProcess old.process)
@@ -187,4 +214,23 @@ module _ {S O : Type 0} (gives : Giving S) (takes : Taking O) (fuel : ℕ) (s t 
   slice_hears_up_to old new why false shows breaks none =
       break_hears old new why (shows refl) (breaks refl)
   slice_hears_up_to old new why true shows breaks none =
+      record { asks = []; led = none refl; heard = inl tt }
+
+  -- so it is of a batch
+  pub batch_hears_up_to : (most : ℕ) (old new : ProcessValue) (why : WorkFault)
+      (has_failed : Bool) → (has_failed ≡ false → IsProcess old)
+      → (has_failed ≡ false → BatchFails gives takes old fuel why new s t o p)
+      → (has_failed ≡ true → t ≡ s)
+      → AsksUnless gives (MayRefuse (Batch fuel most) (Err (recover.Worker why))) s t
+  batch_hears_up_to most old new why false shows breaks none =
+      let is = shows refl in
+      let batch = breaks refl is.guest is.process is.shows in
+      let fails = batch.1 in
+      record {
+        asks = asks_of fails.exchanges;
+        led = fails.exchanged.asked;
+        heard = cause_of_batch_heard is.guest is.process fails.exchanges fails.steps fails.process
+            fuel most why batch.3;
+      }
+  batch_hears_up_to most old new why true shows breaks none =
       record { asks = []; led = none refl; heard = inl tt }

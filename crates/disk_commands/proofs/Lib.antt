@@ -3,6 +3,7 @@ pub mod ShowingLemmas
 pub mod HearingLemmas
 pub mod BreakLemmas
 pub mod PrintedLemmas
+pub mod PaceLemmas
 pub mod LivingLemmas
 pub mod UpgradingLemmas
 pub mod ReleasedLemmas
@@ -15,6 +16,7 @@ pub mod CauseLemmas
 pub mod ServedLemmas
 pub mod SevenLemmas
 pub mod TakingLemmas
+pub mod ToldLemmas
 pub mod FileLemmas
 pub mod OpeningLemmas
 pub mod StatusLineLemmas

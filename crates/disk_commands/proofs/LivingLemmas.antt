@@ -1,4 +1,4 @@
--- Slices and checkpoints of an open worker, one after another.
+-- Slices, batches and checkpoints of an open worker, one after another.
 use Rattle.std.proofs.Common.{◌≡◌, inl, ℕ, ◌+◌, ◌-◌, ◌^◌, ◌<◌, ◌≤◌, List, [], ◌∷◌}
 use Rattle.std.proofs.Common.{◌++◌, Ok, Err, refl, sym, ap, ◌∙◌, subst, arith, append_assoc}
 use Rattle.std.proofs.Common.{append-nil, false}
@@ -19,22 +19,25 @@ use Rattle.worker.specs.declared.fault.WorkFault.{WorkFault}
 use Rattle.worker.specs.declared.recover_fault.RecoverFault.{RecoverFault}
 use Rattle.worker.specs.declared.recover_fault.RecoverFault.TheVariants as recover
 use Rattle.worker.specs.rules.DurableValues.{DurableValue, without_disk}
+use Rattle.worker.specs.rules.Batches.{BatchCarries}
 use Rattle.worker.specs.rules.DurableCalls.{SliceCarries, CheckpointCarries}
-use Rattle.worker.specs.rules.LifeWords.{Act, Slice, Checkpoint}
+use Rattle.worker.specs.rules.LifeWords.{Act, Slice, Batch, Checkpoint, fuel_of}
 use Rattle.worker.specs.rules.Outlets.{TakesEach, HeedsOutlet, SaysOutletFault}
 use Rattle.worker.proofs.OutletLemmas.{none_told, takes_both, heeds_on}
-use Rattle.worker.specs.rules.OneLife.{no_more, sliced, slice_failed, saved, saving_failed}
+use Rattle.worker.specs.rules.OneLife.{no_more, sliced, slice_failed, batched, batch_failed}
+use Rattle.worker.specs.rules.OneLife.{saved, saving_failed}
 use Rattle.worker.specs.rules.Outcomes.{outcome_after}
 use Rattle.disk_commands.specs.rules.BrokenLives.{BreaksOff, SlicesLead, steps_among}
-use Rattle.disk_commands.specs.rules.Hearings.{AsksUnless, IsOfSource}
+use Rattle.disk_commands.specs.rules.Hearings.{AsksUnless, MayRefuse}
 use Rattle.disk_commands.specs.rules.Paces.{round_of, IsPaced, last, more}
 use Rattle.disk_commands.specs.Livings.{Scene, scene, undone_after, steps_left, AreCalled}
 use Rattle.disk_commands.specs.Livings.{ActsLead}
+use Rattle.disk_commands.specs.Livings.{HasDoneOnce, HasFailedOnce}
 use Rattle.disk_commands.specs.Livings.{IsRested, IsRound, IsBrokenRound, LivesAtPace}
 use Rattle.disk_commands.specs.Livings.{SlicesLeadOn, BreaksOffAt}
-use Rattle.disk_commands.proofs.BreakLemmas.{steps_both, slice_more, round_steps, lead_nowhere}
+use Rattle.disk_commands.proofs.BreakLemmas.{steps_both, act_more, round_steps, lead_nowhere}
 use Rattle.disk_commands.proofs.BreakLemmas.{lead_by_slice, lead_join, breaks_in_checkpoint}
-use Rattle.disk_commands.proofs.BreakLemmas.{BreaksBy, breaks_join}
+use Rattle.disk_commands.proofs.BreakLemmas.{breaks_join}
 use Rattle.disk_commands.proofs.HearingLemmas.{nothing_asked, asked_on, asked_so_far}
 use Rattle.disk_commands.proofs.TakingLemmas.{IsOutletsCall, saving_is_other}
 
@@ -109,57 +112,97 @@ module _ {D S O : Type 0} (medium : D → Medium) (gives : Giving S) (takes : Ta
         now.Spent (leads.behind [] (Ok []) to.disk to.source to.outlet no_more)
         ∙ leads.says [] (Ok []) to.disk to.source to.outlet no_more
 
-  module _ (fuel n : ℕ) (from : Scene D S O) (w w' : DurableValue) (disk disk' : D)
-      (source source' : S) (outlet outlet' : O)
-      (leads : ActsLead medium gives takes (replicate n (Slice fuel)) from now.Spent
-      (scene w disk source outlet)) where
-    -- a slice more
-    pub slices_lead : (said : Now)
-        → SliceCarries gives takes w fuel (Ok said) w' (medium disk) (medium disk') source source'
-        outlet outlet'
-        → ActsLead medium gives takes (replicate (n + 1) (Slice fuel)) from said
-        (scene w' disk' source' outlet')
-    slices_lead said carries = record {
+  -- a slice
+  pub slice_leads : (fuel : ℕ) (w w' : DurableValue) (disk disk' : D) (source source' : S)
+      (outlet outlet' : O) (said : Now)
+      → SliceCarries gives takes w fuel (Ok said) w' (medium disk) (medium disk') source source'
+      outlet outlet'
+      → ActsLead medium gives takes (Slice fuel ∷ []) (scene w disk source outlet) said
+      (scene w' disk' source' outlet')
+  slice_leads fuel w w' disk disk' source source' outlet outlet' said carries = record {
+    behind = λ rest undone end s o done. sliced said carries done;
+    says = λ rest undone end s o done. refl;
+  }
+
+  -- a batch
+  pub batch_leads : (fuel most : ℕ) (w w' : DurableValue) (disk disk' : D) (source source' : S)
+      (outlet outlet' : O) (said : Now)
+      → BatchCarries gives takes w fuel most (Ok said) w' (medium disk) (medium disk') source
+      source' outlet outlet'
+      → ActsLead medium gives takes (Batch fuel most ∷ []) (scene w disk source outlet) said
+      (scene w' disk' source' outlet')
+  batch_leads fuel most w w' disk disk' source source' outlet outlet' said carries = record {
+    behind = λ rest undone end s o done. batched said carries done;
+    says = λ rest undone end s o done. refl;
+  }
+
+  -- one that fails, whatever was to be done after it
+  pub slice_fails : (fuel : ℕ) (w w' : DurableValue) (disk disk' : D) (source source' : S)
+      (outlet outlet' : O) (why : WorkFault)
+      → SliceCarries gives takes w fuel (Err why) w' (medium disk) (medium disk') source source'
+      outlet outlet'
+      → (rest : List Act) → AreCalled medium gives takes (Slice fuel ∷ rest)
+      (scene w disk source outlet) (Err (recover.Worker why)) disk' source' outlet'
+  slice_fails fuel w w' disk disk' source source' outlet outlet' why carries rest =
+      slice_failed carries
+
+  pub batch_fails : (fuel most : ℕ) (w w' : DurableValue) (disk disk' : D) (source source' : S)
+      (outlet outlet' : O) (why : WorkFault)
+      → BatchCarries gives takes w fuel most (Err why) w' (medium disk) (medium disk') source
+      source' outlet outlet'
+      → (rest : List Act) → AreCalled medium gives takes (Batch fuel most ∷ rest)
+      (scene w disk source outlet) (Err (recover.Worker why)) disk' source' outlet'
+  batch_fails fuel most w w' disk disk' source source' outlet outlet' why carries rest =
+      batch_failed carries
+
+  module _ (act : Act) (n : ℕ) (from here : Scene D S O)
+      (leads : ActsLead medium gives takes (replicate n act) from now.Spent here) where
+    -- one more
+    pub acts_lead : (said : Now) (to : Scene D S O)
+        → ActsLead medium gives takes (act ∷ []) here said to
+        → ActsLead medium gives takes (replicate (n + 1) act) from said to
+    acts_lead said to one = record {
       behind = λ rest undone end s o done.
-          called_as from undone end s o (replicate n (Slice fuel) ++ (Slice fuel ∷ rest))
-          (replicate (n + 1) (Slice fuel) ++ rest) (turned n (Slice fuel) rest)
-          (leads.behind (Slice fuel ∷ rest) undone end s o (sliced said carries done));
+          called_as from undone end s o (replicate n act ++ (act ∷ rest))
+          (replicate (n + 1) act ++ rest) (turned n act rest)
+          (leads.behind (act ∷ rest) undone end s o (one.behind rest undone end s o done));
       says = λ rest undone end s o done.
-          says_as from undone end s o (replicate n (Slice fuel) ++ (Slice fuel ∷ rest))
-          (replicate (n + 1) (Slice fuel) ++ rest) (turned n (Slice fuel) rest) now.Spent
-          (leads.behind (Slice fuel ∷ rest) undone end s o (sliced said carries done))
-          ∙ leads.says (Slice fuel ∷ rest) undone end s o (sliced said carries done);
+          says_as from undone end s o (replicate n act ++ (act ∷ rest))
+          (replicate (n + 1) act ++ rest) (turned n act rest) now.Spent
+          (leads.behind (act ∷ rest) undone end s o (one.behind rest undone end s o done))
+          ∙ leads.says (act ∷ rest) undone end s o (one.behind rest undone end s o done)
+          ∙ one.says rest undone end s o done;
     }
 
     -- one that fails, in a round
-    slice_breaks : (why : WorkFault)
-        → SliceCarries gives takes w fuel (Err why) w' (medium disk) (medium disk') source source'
-        outlet outlet'
-        → AreCalled medium gives takes (round_of fuel (n + 1)) from (Err (recover.Worker why)) disk'
+    act_breaks : (why : WorkFault) (disk' : D) (source' : S) (outlet' : O)
+        → ((rest : List Act) → AreCalled medium gives takes (act ∷ rest) here
+        (Err (recover.Worker why)) disk' source' outlet')
+        → AreCalled medium gives takes (round_of act (n + 1)) from (Err (recover.Worker why)) disk'
         source' outlet'
-    slice_breaks why carries =
+    act_breaks why disk' source' outlet' fails =
         subst (λ z. AreCalled medium gives takes z from (Err (recover.Worker why)) disk' source'
-        outlet') (turned n (Slice fuel) (Checkpoint ∷ []))
-        (leads.behind (Slice fuel ∷ Checkpoint ∷ []) (Err (recover.Worker why)) disk' source'
-        outlet' (slice_failed carries))
+        outlet') (turned n act (Checkpoint ∷ []))
+        (leads.behind (act ∷ Checkpoint ∷ []) (Err (recover.Worker why)) disk' source' outlet'
+        (fails (Checkpoint ∷ [])))
 
-  module _ (fuel every n : ℕ) (from : Scene D S O) (w w' : DurableValue) (disk disk' : D)
+  module _ (act : Act) (every n : ℕ) (from : Scene D S O) (w w' : DurableValue) (disk disk' : D)
       (source : S) (outlet : O) (said : Now)
-      (leads : ActsLead medium gives takes (replicate n (Slice fuel)) from said
+      (leads : ActsLead medium gives takes (replicate n act) from said
       (scene w disk source outlet)) where
-    -- a checkpoint after so many slices
+    -- a checkpoint after so many of them
     round_leads : CheckpointCarries w (Ok tt) w' (medium disk) (medium disk')
-        → ActsLead medium gives takes (round_of fuel n) from said (scene w' disk' source outlet)
+        → ActsLead medium gives takes (round_of act n) from said (scene w' disk' source outlet)
     round_leads carries = record {
       behind = λ rest undone end s o done.
-          called_as from undone end s o (replicate n (Slice fuel) ++ (Checkpoint ∷ rest))
-          (round_of fuel n ++ rest)
-          (sym (append_assoc (replicate n (Slice fuel)) (Checkpoint ∷ []) rest))
+          called_as from undone end s o (replicate n act ++ (Checkpoint ∷ rest))
+          (round_of act n ++ rest)
+          (sym (append_assoc (replicate n act) (Checkpoint ∷ []) rest))
           (leads.behind (Checkpoint ∷ rest) undone end s o (saved carries done));
       says = λ rest undone end s o done.
-          says_as from undone end s o (replicate n (Slice fuel) ++ (Checkpoint ∷ rest))
-          (round_of fuel n ++ rest)
-          (sym (append_assoc (replicate n (Slice fuel)) (Checkpoint ∷ []) rest)) now.Spent
+          says_as from undone end s o (replicate n act ++ (Checkpoint ∷ rest))
+          (round_of act n ++ rest)
+          (sym (append_assoc (replicate n act) (Checkpoint ∷ []) rest)) now.Spent
           (leads.behind (Checkpoint ∷ rest) undone end s o (saved carries done))
           ∙ leads.says (Checkpoint ∷ rest) undone end s o (saved carries done);
     }
@@ -167,10 +210,10 @@ module _ {D S O : Type 0} (medium : D → Medium) (gives : Giving S) (takes : Ta
     rested : (some : 1 ≤ n) (within : n ≤ every) (heard : AsksUnless gives ⊥ from.source source)
         (taken : TakesEach takes from.outlet outlet)
         (lead : said ≡ now.Spent → SlicesLeadOn gives takes from
-        (steps_among (replicate n (Slice fuel))) (scene w disk source outlet))
+        (steps_among (replicate n act)) (scene w disk source outlet))
         (result : Result Now WorkFault) → (said ≡ now.Spent → n ≡ every)
         → IsRested said result w w' (medium disk) (medium disk')
-        → IfOk result (λ why. IsRound medium gives takes fuel every from why
+        → IfOk result (λ why. IsRound medium gives takes act every from why
         (scene w' disk' source outlet))
     rested some within heard taken lead (Ok told) whole rests = record {
       count = n;
@@ -179,51 +222,52 @@ module _ {D S O : Type 0} (medium : D → Medium) (gives : Giving S) (takes : Ta
       whole = λ spent. whole (sym rests.0 ∙ spent);
       heard = heard;
       taken = taken;
-      leads = subst (λ z. ActsLead medium gives takes (round_of fuel n) from z
+      leads = subst (λ z. ActsLead medium gives takes (round_of act n) from z
           (scene w' disk' source outlet)) (sym rests.0) (round_leads rests.1);
       spent = λ spent guest p is.
           subst (λ v. SlicesLead gives takes guest p from.source source from.outlet outlet
-          (steps_among (round_of fuel n)) v) (sym rests.2)
+          (steps_among (round_of act n)) v) (sym rests.2)
           (subst (λ k. SlicesLead gives takes guest p from.source source from.outlet outlet k
-          w.process) (sym (round_steps fuel n)) (lead (sym rests.0 ∙ spent) guest p is));
+          w.process) (sym (round_steps act n)) (lead (sym rests.0 ∙ spent) guest p is));
     }
     rested some within heard taken lead (Err fault) whole rests = tt
 
     broken : (some : 1 ≤ n) (within : n ≤ every) (heard : AsksUnless gives ⊥ from.source source)
         (taken : TakesEach takes from.outlet outlet)
-        (breaks : (why : WorkFault) → BreaksOffAt gives takes fuel
-        (steps_among (round_of fuel n)) from why source outlet)
+        (breaks : (why : WorkFault) → BreaksOffAt gives takes act
+        (steps_among (round_of act n)) from why source outlet)
         (result : Result Now WorkFault)
         → IsRested said result w w' (medium disk) (medium disk')
-        → IfErr result (λ why. IsBrokenRound medium gives takes fuel every from why disk' source
+        → IfErr result (λ why. IsBrokenRound medium gives takes act every from why disk' source
         outlet)
     broken some within heard taken breaks (Ok told) rests = tt
     broken some within heard taken breaks (Err fault) rests = record {
       count = n;
       some = some;
       within = within;
-      heard = asked_so_far gives (IsOfSource (Err (recover.Worker fault))) from.source source heard;
+      heard = asked_so_far gives (MayRefuse act (Err (recover.Worker fault))) from.source source
+          heard;
       heeded = inl (taken, saving_is_other w (medium disk) (medium disk') fault rests.2);
       done = leads.behind (Checkpoint ∷ []) (Err (recover.Worker fault)) disk' source outlet
           (saving_failed rests.0 rests.1);
       broken = breaks fault;
     }
 
-  -- So many slices were taken in a round from there on, each of which has spent its fuel. No
+  -- So many of these acts were done in a round from there on, each of which has spent its fuel. No
   -- question was refused, and no line.
-  pub record IsWithin (fuel every n : ℕ) (from here : Scene D S O) : Type 0 where
+  pub record IsWithin (act : Act) (every n : ℕ) (from here : Scene D S O) : Type 0 where
     pub fewer : n < every
     pub heard : AsksUnless gives ⊥ from.source here.source
     pub taken : TakesEach takes from.outlet here.outlet
-    pub leads : ActsLead medium gives takes (replicate n (Slice fuel)) from now.Spent here
-    pub lead : SlicesLeadOn gives takes from (steps_among (replicate n (Slice fuel))) here
+    pub leads : ActsLead medium gives takes (replicate n act) from now.Spent here
+    pub lead : SlicesLeadOn gives takes from (steps_among (replicate n act)) here
     pub steps : steps_left here.worker ≤ steps_left from.worker
     pub room : total_sectors here.worker.store.geometry ≤ (medium here.disk).sectors
 
-  pub none_taken : (fuel every : ℕ) (here : Scene D S O) → 0 < every
+  pub none_taken : (act : Act) (every : ℕ) (here : Scene D S O) → 0 < every
       → total_sectors here.worker.store.geometry ≤ (medium here.disk).sectors
-      → IsWithin fuel every 0 here here
-  none_taken fuel every here some room = record {
+      → IsWithin act every 0 here here
+  none_taken act every here some room = record {
     fewer = some;
     heard = nothing_asked gives here.source;
     taken = none_told takes here.outlet;
@@ -245,86 +289,73 @@ module _ {D S O : Type 0} (medium : D → Medium) (gives : Giving S) (takes : Ta
       (subst (λ z. Slices gives takes (without_disk w) fuel z (without_disk w') s t o p) spent
       slices)
 
-  module _ (fuel every n : ℕ) (from here : Scene D S O)
-      (so_far : IsWithin fuel every n from here) (given : ℕ) (same : given ≡ fuel)
-      (w' : DurableValue) (disk' : D) (source' : S) (outlet' : O) where
-    -- what a slice of this fuel carries
-    abbrev Slicing : Result Now WorkFault → Type 0
-    Slicing result = SliceCarries gives takes here.worker given result w' (medium here.disk)
-        (medium disk') here.source source' here.outlet outlet'
+  -- so does one act, whatever it has answered
+  pub once_fewer : (act : Act) (from to : Scene D S O) (result : Result Now WorkFault)
+      → 0 < fuel_of act
+      → IfOk result (λ said. HasDoneOnce medium gives takes act from said to)
+      → IfOk result (λ said. said ≡ now.Spent → steps_left to.worker < steps_left from.worker)
+  once_fewer act from to (Ok said) some done =
+      slice_fewer from.worker to.worker (fuel_of act) said from.source to.source from.outlet
+      to.outlet done.shows some done.slices
+  once_fewer act from to (Err why) some done = tt
 
-    -- what it does, where it has no error
-    abbrev Sliced : ℕ → Now → Type 0
-    Sliced steps said = Slices gives takes (without_disk here.worker) steps said (without_disk w')
-        here.source source' here.outlet outlet'
-
-    sliced_so : (said : Now) → Sliced given said → Sliced fuel said
-    sliced_so said slices = subst (λ f. Sliced f said) same slices
-
-    -- the slices so far and this one
-    leads_more : (said : Now) → Slicing (Ok said)
-        → ActsLead medium gives takes (replicate (n + 1) (Slice fuel)) from said
-        (scene w' disk' source' outlet')
-    leads_more said carries =
-        slices_lead fuel n from here.worker w' here.disk disk' here.source source' here.outlet
-        outlet' so_far.leads said
-        (subst (λ f. SliceCarries gives takes here.worker f (Ok said) w' (medium here.disk)
-        (medium disk') here.source source' here.outlet outlet') same carries)
-
-    lead_more : (said : Now) → Sliced given said → said ≡ now.Spent
-        → SlicesLeadOn gives takes from (steps_among (replicate (n + 1) (Slice fuel)))
-        (scene w' disk' source' outlet')
-    lead_more said slices spent guest p is =
-        let first = so_far.lead guest p is in
-        subst (λ k. SlicesLead gives takes guest p from.source source' from.outlet outlet' k
-        w'.process) (sym (slice_more fuel n))
-        (lead_join gives takes guest p from.source here.source source' from.outlet here.outlet
-        outlet' (steps_among (replicate n (Slice fuel))) here.worker.process first fuel w'.process
-        (lead_by_slice gives takes fuel here.source source' here.outlet outlet' here.worker w'
-        (subst (λ z. Sliced fuel z) spent (sliced_so said slices)) guest first.process
-        first.shows))
-
-    -- this one has failed, or a checkpoint after it
-    breaks_more : (why : WorkFault)
-        → BreaksBy gives takes fuel here.source source' here.outlet outlet' here.worker.process why
-        → BreaksOffAt gives takes fuel (steps_among (round_of fuel (n + 1))) from why source'
-        outlet'
-    breaks_more why breaks guest p is =
-        let first = so_far.lead guest p is in
-        subst (λ k. BreaksOff gives takes guest p from.source source' from.outlet outlet' fuel k
-        why) (sym (round_steps fuel (n + 1) ∙ slice_more fuel n))
-        (breaks_join gives takes guest p from.source here.source source' from.outlet here.outlet
-        outlet' (steps_among (replicate n (Slice fuel))) here.worker.process first fuel fuel why
-        (breaks guest first.process first.shows))
-
-    -- whatever is asked after the slices so far
-    heard_on : (Refused : Type 0) → AsksUnless gives Refused here.source source'
+  module _ (act : Act) (every n : ℕ) (from here : Scene D S O)
+      (so_far : IsWithin act every n from here) where
+    -- whatever is asked after them
+    heard_on : (Refused : Type 0) (source' : S) → AsksUnless gives Refused here.source source'
         → AsksUnless gives Refused from.source source'
-    heard_on Refused heard =
+    heard_on Refused source' heard =
         asked_on gives Refused from.source here.source source' so_far.heard heard
 
-    -- whatever is told after them
-    taken_on : TakesEach takes here.outlet outlet' → TakesEach takes from.outlet outlet'
-    taken_on taken = takes_both takes from.outlet here.outlet outlet' so_far.taken taken
+    -- one more, which has failed, or a checkpoint after it
+    breaks_more : (why : WorkFault) (source' : S) (outlet' : O)
+        → BreaksOffAt gives takes act (fuel_of act) here why source' outlet'
+        → BreaksOffAt gives takes act (steps_among (round_of act (n + 1))) from why source' outlet'
+    breaks_more why source' outlet' breaks guest p is =
+        let first = so_far.lead guest p is in
+        subst (λ k. BreaksOff gives takes guest p from.source source' from.outlet outlet' act k
+        why) (sym (round_steps act (n + 1) ∙ act_more act n))
+        (breaks_join gives takes guest p from.source here.source source' from.outlet here.outlet
+        outlet' (steps_among (replicate n act)) here.worker.process first act (fuel_of act) why
+        (breaks guest first.process first.shows))
 
-    -- one more, after which others come
-    pub within_more : (said : Now) → Slicing (Ok said) → AsksUnless gives ⊥ here.source source'
-        → TakesEach takes here.outlet outlet' → Sliced given said → said ≡ now.Spent → n + 1 < every
-        → steps_left w' < steps_left here.worker
-        → total_sectors w'.store.geometry ≤ (medium disk').sectors
-        → IsWithin fuel every (n + 1) from (scene w' disk' source' outlet')
-    within_more said carries heard taken slices spent few fewer room =
-        let before = so_far.steps in
-        record {
-          fewer = few;
-          heard = heard_on ⊥ heard;
-          taken = taken_on taken;
-          leads = subst (λ z. ActsLead medium gives takes (replicate (n + 1) (Slice fuel)) from z
-              (scene w' disk' source' outlet')) spent (leads_more said carries);
-          lead = lead_more said slices spent;
-          steps = omega (arith, before, fewer);
-          room = room;
-        }
+    -- one more that is done
+    module _ (said : Now) (to : Scene D S O)
+        (done : HasDoneOnce medium gives takes act here said to) where
+      -- what is told after those so far
+      taken_on : TakesEach takes from.outlet to.outlet
+      taken_on = takes_both takes from.outlet here.outlet to.outlet so_far.taken done.taken
+
+      lead_more : said ≡ now.Spent
+          → SlicesLeadOn gives takes from (steps_among (replicate (n + 1) act)) to
+      lead_more spent guest p is =
+          let first = so_far.lead guest p is in
+          subst (λ k. SlicesLead gives takes guest p from.source to.source from.outlet to.outlet k
+          to.worker.process) (sym (act_more act n))
+          (lead_join gives takes guest p from.source here.source to.source from.outlet here.outlet
+          to.outlet (steps_among (replicate n act)) here.worker.process first (fuel_of act)
+          to.worker.process
+          (lead_by_slice gives takes (fuel_of act) here.source to.source here.outlet to.outlet
+          here.worker to.worker
+          (subst (λ z. Slices gives takes (without_disk here.worker) (fuel_of act) z
+          (without_disk to.worker) here.source to.source here.outlet to.outlet) spent done.slices)
+          guest first.process first.shows))
+
+      -- after which others come
+      pub within_more : said ≡ now.Spent → n + 1 < every
+          → steps_left to.worker < steps_left here.worker → IsWithin act every (n + 1) from to
+      within_more spent few fewer =
+          let before = so_far.steps in
+          record {
+            fewer = few;
+            heard = heard_on ⊥ to.source done.heard;
+            taken = taken_on;
+            leads = subst (λ z. ActsLead medium gives takes (replicate (n + 1) act) from z to) spent
+                (acts_lead act n from here so_far.leads said to done.leads);
+            lead = lead_more spent;
+            steps = omega (arith, before, fewer);
+            room = done.room;
+          }
 
     module _ (most : ℕ) (is_most : every ≡ most) where
       some : 1 ≤ n + 1
@@ -334,50 +365,46 @@ module _ {D S O : Type 0} (medium : D → Medium) (gives : Giving S) (takes : Ta
       within = let few = so_far.fewer in omega (arith, few, is_most)
 
       -- one that fails
-      pub within_breaks : (why : WorkFault) → Slicing (Err why)
-          → AsksUnless gives (IsOfSource (Err (recover.Worker why))) here.source source'
-          → HeedsOutlet takes (IsOutletsCall why) here.outlet outlet'
-          → BreaksBy gives takes given here.source source' here.outlet outlet' here.worker.process
-          why
-          → IsBrokenRound medium gives takes fuel most from why disk' source' outlet'
-      within_breaks why carries heard heeded breaks = record {
+      pub within_breaks : (why : WorkFault) (disk' : D) (source' : S) (outlet' : O)
+          → HasFailedOnce medium gives takes act here why disk' source' outlet'
+          → IsBrokenRound medium gives takes act most from why disk' source' outlet'
+      within_breaks why disk' source' outlet' failed = record {
         count = n + 1;
         some = some;
         within = within;
-        heard = heard_on (IsOfSource (Err (recover.Worker why))) heard;
+        heard = heard_on (MayRefuse act (Err (recover.Worker why))) source' failed.heard;
         heeded = heeds_on takes (IsOutletsCall why) from.outlet here.outlet outlet' so_far.taken
-            heeded;
-        done = slice_breaks fuel n from here.worker w' here.disk disk' here.source source'
-            here.outlet outlet' so_far.leads why
-            (subst (λ f. SliceCarries gives takes here.worker f (Err why) w' (medium here.disk)
-            (medium disk') here.source source' here.outlet outlet') same carries);
-        broken = breaks_more why (subst (λ f. BreaksBy gives takes f here.source source'
-            here.outlet outlet' here.worker.process why) same breaks);
+            failed.heeded;
+        done = act_breaks act n from here so_far.leads why disk' source' outlet' failed.done;
+        broken = breaks_more why source' outlet' failed.broken;
       }
 
       -- the last one, and a checkpoint
-      module _ (said : Now) (carries : Slicing (Ok said)) (slices : Sliced given said)
+      module _ (said : Now) (w' : DurableValue) (disk' : D) (source' : S) (outlet' : O)
+          (done : HasDoneOnce medium gives takes act here said (scene w' disk' source' outlet'))
           (result : Result Now WorkFault) (w'' : DurableValue) (disk'' : D)
           (rests : IsRested said result w' w'' (medium disk') (medium disk'')) where
-        pub within_rests : AsksUnless gives ⊥ here.source source'
-            → TakesEach takes here.outlet outlet' → (said ≡ now.Spent → n + 1 ≡ every)
-            → IfOk result (λ why. IsRound medium gives takes fuel most from why
-            (scene w'' disk'' source' outlet'))
-        within_rests heard taken whole =
-            rested fuel most (n + 1) from w' w'' disk' disk'' source' outlet' said
-            (leads_more said carries) some within (heard_on ⊥ heard) (taken_on taken)
-            (lead_more said slices) result
-            (λ e. whole e ∙ is_most) rests
+        abbrev reached : Scene D S O
+        reached = scene w' disk' source' outlet'
 
-        pub within_broken : AsksUnless gives ⊥ here.source source'
-            → TakesEach takes here.outlet outlet'
-            → IfErr result (λ why. IsBrokenRound medium gives takes fuel most from why disk''
-            source' outlet')
-        within_broken heard taken =
-            broken fuel most (n + 1) from w' w'' disk' disk'' source' outlet' said
-            (leads_more said carries) some within (heard_on ⊥ heard) (taken_on taken)
-            (λ why. breaks_more why (breaks_in_checkpoint gives takes fuel here.source source'
-            here.outlet outlet' here.worker w' said why (sliced_so said slices))) result rests
+        pub within_rests : (said ≡ now.Spent → n + 1 ≡ every)
+            → IfOk result (λ why. IsRound medium gives takes act most from why
+            (scene w'' disk'' source' outlet'))
+        within_rests whole =
+            rested act most (n + 1) from w' w'' disk' disk'' source' outlet' said
+            (acts_lead act n from here so_far.leads said reached done.leads) some within
+            (heard_on ⊥ source' done.heard) (taken_on said reached done)
+            (lead_more said reached done) result (λ e. whole e ∙ is_most) rests
+
+        pub within_broken : IfErr result (λ why. IsBrokenRound medium gives takes act most from why
+            disk'' source' outlet')
+        within_broken =
+            broken act most (n + 1) from w' w'' disk' disk'' source' outlet' said
+            (acts_lead act n from here so_far.leads said reached done.leads) some within
+            (heard_on ⊥ source' done.heard) (taken_on said reached done)
+            (λ why. breaks_more why source' outlet'
+            (breaks_in_checkpoint gives takes act here.source source' here.outlet outlet'
+            here.worker w' said why done.slices)) result rests
 
         pub within_fewer : (said ≡ now.Spent → steps_left w' < steps_left here.worker)
             → IfOk result (λ why. why ≡ now.Spent → steps_left w'' < steps_left from.worker)
@@ -397,24 +424,24 @@ module _ {D S O : Type 0} (medium : D → Medium) (gives : Giving S) (takes : Ta
 
   -- Some rounds were done: whatever is done from here on at this pace, is done at this pace from
   -- there on.
-  pub record SoFar (fuel every : ℕ) (from here : Scene D S O) : Type 0 where
+  pub record SoFar (act : Act) (every : ℕ) (from here : Scene D S O) : Type 0 where
     pub room : total_sectors here.worker.store.geometry ≤ (medium here.disk).sectors
     pub heard : AsksUnless gives ⊥ from.source here.source
     pub taken : TakesEach takes from.outlet here.outlet
     pub on : (rest : List Act) (result : Result Now WorkFault) (disk : D) (source : S)
-        (outlet : O) → IsPaced fuel every rest
-        → AsksUnless gives (IsOfSource (undone_after result)) from.source source
+        (outlet : O) → IsPaced act every rest
+        → AsksUnless gives (MayRefuse act (undone_after result)) from.source source
         → HeedsOutlet takes (SaysOutletFault (undone_after result)) from.outlet outlet
         → (done : AreCalled medium gives takes rest here (undone_after result) disk source outlet)
         → IfOk result (λ told. outcome_after now.Spent done ≡ told)
-        → IfErr result (λ why. BreaksOffAt gives takes fuel (steps_among rest) here why source
+        → IfErr result (λ why. BreaksOffAt gives takes act (steps_among rest) here why source
         outlet)
-        → LivesAtPace medium gives takes fuel every from result disk source outlet
+        → LivesAtPace medium gives takes act every from result disk source outlet
 
-  pub none_yet : (fuel every : ℕ) (here : Scene D S O)
+  pub none_yet : (act : Act) (every : ℕ) (here : Scene D S O)
       → total_sectors here.worker.store.geometry ≤ (medium here.disk).sectors
-      → SoFar fuel every here here
-  none_yet fuel every here room = record {
+      → SoFar act every here here
+  none_yet act every here room = record {
     room = room;
     heard = nothing_asked gives here.source;
     taken = none_told takes here.outlet;
@@ -429,19 +456,20 @@ module _ {D S O : Type 0} (medium : D → Medium) (gives : Giving S) (takes : Ta
     };
   }
 
-  module _ (fuel every : ℕ) (from here : Scene D S O) (so_far : SoFar fuel every from here) where
+  module _ (act : Act) (every : ℕ) (from here : Scene D S O)
+      (so_far : SoFar act every from here) where
     -- what is done after a round whose fuel is spent
-    module _ (there : Scene D S O) (r : IsRound medium gives takes fuel every here now.Spent there)
+    module _ (there : Scene D S O) (r : IsRound medium gives takes act every here now.Spent there)
         (rest : List Act) (result : Result Now WorkFault) (disk : D) (source : S) (outlet : O)
         (done : AreCalled medium gives takes rest there (undone_after result) disk source outlet)
       where
-        is_whole : round_of fuel r.count ++ rest ≡ round_of fuel every ++ rest
-        is_whole = ap (λ n. round_of fuel n ++ rest) (r.whole refl)
+        is_whole : round_of act r.count ++ rest ≡ round_of act every ++ rest
+        is_whole = ap (λ n. round_of act n ++ rest) (r.whole refl)
 
-        then_done : AreCalled medium gives takes (round_of fuel every ++ rest) here
+        then_done : AreCalled medium gives takes (round_of act every ++ rest) here
             (undone_after result) disk source outlet
         then_done = called_as here (undone_after result) disk source outlet
-            (round_of fuel r.count ++ rest) (round_of fuel every ++ rest) is_whole
+            (round_of act r.count ++ rest) (round_of act every ++ rest) is_whole
             (r.leads.behind rest (undone_after result) disk source outlet done)
 
         then_says : IfOk result (λ told. outcome_after now.Spent done ≡ told)
@@ -450,71 +478,71 @@ module _ {D S O : Type 0} (medium : D → Medium) (gives : Giving S) (takes : Ta
         then_says says =
             subst (λ z. IfOk result (λ told. z ≡ told))
             (sym (says_as here (undone_after result) disk source outlet
-            (round_of fuel r.count ++ rest) (round_of fuel every ++ rest) is_whole now.Spent
+            (round_of act r.count ++ rest) (round_of act every ++ rest) is_whole now.Spent
             (r.leads.behind rest (undone_after result) disk source outlet done)
             ∙ r.leads.says rest (undone_after result) disk source outlet done)) says
 
         abbrev Breaks : List Act → Scene D S O → WorkFault → Type 0
-        Breaks acts at why = BreaksOffAt gives takes fuel (steps_among acts) at why source outlet
+        Breaks acts at why = BreaksOffAt gives takes act (steps_among acts) at why source outlet
 
-        all_steps : steps_among (round_of fuel r.count) + steps_among rest
-            ≡ steps_among (round_of fuel every ++ rest)
-        all_steps = ap (λ n. steps_among (round_of fuel n) + steps_among rest) (r.whole refl)
-            ∙ sym (steps_both (round_of fuel every) rest)
+        all_steps : steps_among (round_of act r.count) + steps_among rest
+            ≡ steps_among (round_of act every ++ rest)
+        all_steps = ap (λ n. steps_among (round_of act n) + steps_among rest) (r.whole refl)
+            ∙ sym (steps_both (round_of act every) rest)
 
         then_breaks : (why : WorkFault) → Breaks rest there why
-            → Breaks (round_of fuel every ++ rest) here why
+            → Breaks (round_of act every ++ rest) here why
         then_breaks why breaks guest p is =
             let first = r.spent refl guest p is in
-            subst (λ k. BreaksOff gives takes guest p here.source source here.outlet outlet fuel k
+            subst (λ k. BreaksOff gives takes guest p here.source source here.outlet outlet act k
             why) all_steps
             (breaks_join gives takes guest p here.source there.source source here.outlet
-            there.outlet outlet (steps_among (round_of fuel r.count)) there.worker.process first
-            fuel (steps_among rest) why (breaks guest first.process first.shows))
+            there.outlet outlet (steps_among (round_of act r.count)) there.worker.process first
+            act (steps_among rest) why (breaks guest first.process first.shows))
 
         then_broken : IfErr result (λ why. Breaks rest there why)
-            → IfErr result (λ why. Breaks (round_of fuel every ++ rest) here why)
+            → IfErr result (λ why. Breaks (round_of act every ++ rest) here why)
         then_broken broken =
             IfErr-weaker result (λ why. Breaks rest there why)
-            (λ why. Breaks (round_of fuel every ++ rest) here why) then_breaks broken
+            (λ why. Breaks (round_of act every ++ rest) here why) then_breaks broken
 
     pub round_more : (there : Scene D S O)
         → total_sectors there.worker.store.geometry ≤ (medium there.disk).sectors
-        → IsRound medium gives takes fuel every here now.Spent there → SoFar fuel every from there
+        → IsRound medium gives takes act every here now.Spent there → SoFar act every from there
     round_more there room r = record {
       room = room;
       heard = asked_on gives ⊥ from.source here.source there.source so_far.heard r.heard;
       taken = takes_both takes from.outlet here.outlet there.outlet so_far.taken r.taken;
       on = λ rest result disk source outlet paced heard heeded done says broken.
-          so_far.on (round_of fuel every ++ rest) result disk source outlet (more rest paced) heard
+          so_far.on (round_of act every ++ rest) result disk source outlet (more rest paced) heard
           heeded (then_done there r rest result disk source outlet done)
           (then_says there r rest result disk source outlet done says)
           (then_broken there r rest result disk source outlet done broken);
     }
 
     pub round_last : (why : Now) (there : Scene D S O)
-        → IsRound medium gives takes fuel every here why there
-        → LivesAtPace medium gives takes fuel every from (Ok why) there.disk there.source
+        → IsRound medium gives takes act every here why there
+        → LivesAtPace medium gives takes act every from (Ok why) there.disk there.source
         there.outlet
     round_last why there r =
-        so_far.on (round_of fuel r.count) (Ok why) there.disk there.source there.outlet
+        so_far.on (round_of act r.count) (Ok why) there.disk there.source there.outlet
         (last r.count r.some r.within)
-        (asked_so_far gives (IsOfSource (Ok [])) from.source there.source
+        (asked_so_far gives (MayRefuse act (Ok [])) from.source there.source
         (asked_on gives ⊥ from.source here.source there.source so_far.heard r.heard))
         (inl (
           takes_both takes from.outlet here.outlet there.outlet so_far.taken r.taken,
           λ told.
               told,
-        )) (leads_out (round_of fuel r.count) here why there r.leads)
-        (says_out (round_of fuel r.count) here why there r.leads) tt
+        )) (leads_out (round_of act r.count) here why there r.leads)
+        (says_out (round_of act r.count) here why there r.leads) tt
 
     pub round_broken : (why : WorkFault) (disk : D) (source : S) (outlet : O)
-        → IsBrokenRound medium gives takes fuel every here why disk source outlet
-        → LivesAtPace medium gives takes fuel every from (Err why) disk source outlet
+        → IsBrokenRound medium gives takes act every here why disk source outlet
+        → LivesAtPace medium gives takes act every from (Err why) disk source outlet
     round_broken why disk source outlet r =
-        so_far.on (round_of fuel r.count) (Err why) disk source outlet
+        so_far.on (round_of act r.count) (Err why) disk source outlet
         (last r.count r.some r.within)
-        (asked_on gives (IsOfSource (Err (recover.Worker why))) from.source here.source source
+        (asked_on gives (MayRefuse act (Err (recover.Worker why))) from.source here.source source
         so_far.heard r.heard)
         (heeds_on takes (IsOutletsCall why) from.outlet here.outlet outlet so_far.taken r.heeded)
         r.done tt r.broken

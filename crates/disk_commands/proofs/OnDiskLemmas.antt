@@ -41,7 +41,7 @@ use Rattle.disk_commands.specs.rules.DiskStatuses.{status_of_disk, status_of_cal
 use Rattle.disk_commands.specs.rules.DiskStatuses.{status_of_recovery}
 use Rattle.disk_commands.specs.rules.LastWords.{ended_by, over_words}
 use Rattle.worker.specs.rules.Outcomes.{outcome_after}
-use Rattle.disk_commands.specs.rules.ServedOnDisk.{DiskJob, source_behind, handing}
+use Rattle.disk_commands.specs.rules.ServedOnDisk.{DiskJob, act_given, source_behind, handing}
 use Rattle.disk_commands.specs.rules.ServedOnDisk.{IsOnlySynced, IsUnopenedRun, LivesOnDisk}
 use Rattle.disk_commands.specs.rules.ServedOnDisk.{RunStart, RunEnd, ServesOnDisk}
 use Rattle.disk_commands.specs.rules.ServedOnDisk.{recovered_line}
@@ -68,20 +68,20 @@ module _ {D S O : Type 0} (medium : D → Medium) (state_of : S
   -- where it has failed, seen by where its source is
   breaks_so : (given : DiskJob) (w : DurableValue) (disk : D) (all : ℕ) (s t : S) (o p : O)
       (why : WorkFault) → state_of s ≡ source_behind given w
-      → BreaksOffAt (gives_so state_of handing takes) takes given.fuel all
-      (scene w disk s o) why t p → BreaksOffAt handing takes given.fuel all
+      → BreaksOffAt (gives_so state_of handing takes) takes (act_given given) all
+      (scene w disk s o) why t p → BreaksOffAt handing takes (act_given given) all
       (scene w disk (source_behind given w) o) why (state_of t) p
   breaks_so given w disk all s t o p why is breaks =
-      subst (λ (z : SourceState). BreaksOffFrom handing takes w.process given.fuel all why z
+      subst (λ (z : SourceState). BreaksOffFrom handing takes w.process (act_given given) all why z
       (state_of t) o p) is
-      (broken_so state_of handing takes w.process given.fuel all why s t o p breaks)
+      (broken_so state_of handing takes w.process (act_given given) all why s t o p breaks)
 
   -- what was done of a worker, seen by where its source is
   lives_so : (given : DiskJob) (w : DurableValue) (disk last : D) (s t : S) (o p : O)
       (result : Result Now WorkFault) → state_of s ≡ source_behind given w
-      → LivesAtPace medium (gives_so state_of handing takes) takes given.fuel given.every
+      → LivesAtPace medium (gives_so state_of handing takes) takes (act_given given) given.every
       (scene w disk s o) result last t p
-      → LivesAtPace medium handing takes given.fuel given.every
+      → LivesAtPace medium handing takes (act_given given) given.every
       (scene w disk (source_behind given w) o) result last (state_of t) p
   lives_so given w disk last s t o p result is lives =
       let calls = calls_so state_of handing takes medium lives.acts w disk last s t o p
@@ -106,9 +106,9 @@ module _ {D S O : Type 0} (medium : D → Medium) (state_of : S
             ∙ outcome_so state_of handing takes medium now.Spent lives.acts w disk last s t o
             p (undone_after result) lives.done)) lives.says;
         broken = IfErr-weaker result
-            (λ why. BreaksOffAt (gives_so state_of handing takes) takes given.fuel
+            (λ why. BreaksOffAt (gives_so state_of handing takes) takes (act_given given)
             (steps_among lives.acts) (scene w disk s o) why t p)
-            (λ why. BreaksOffAt handing takes given.fuel (steps_among lives.acts)
+            (λ why. BreaksOffAt handing takes (act_given given) (steps_among lives.acts)
             (scene w disk (source_behind given w) o) why (state_of t) p)
             (λ why. breaks_so given w disk (steps_among lives.acts) s t o p why is) lives.broken;
       }
@@ -116,7 +116,7 @@ module _ {D S O : Type 0} (medium : D → Medium) (state_of : S
   module _ (given : DiskJob) (w : DurableValue) (disk last : D) (s t : S) (o p : O)
       (is : state_of s ≡ source_behind given w) where
     pub has_gone : (why : Now) → why ≢ now.Spent
-        → LivesAtPace medium (gives_so state_of handing takes) takes given.fuel given.every
+        → LivesAtPace medium (gives_so state_of handing takes) takes (act_given given) given.every
         (scene w disk s o) (Ok why) last t p
         → HasGoneOn medium takes given w disk last o p (state_of t).failed (state_of t).taken
         (Ok why)
@@ -125,7 +125,7 @@ module _ {D S O : Type 0} (medium : D → Medium) (state_of : S
 
     pub has_failed : (why : WorkFault) (told : OnDiskFault)
         → IsReportedOnDisk why (state_of t).fault told
-        → LivesAtPace medium (gives_so state_of handing takes) takes given.fuel given.every
+        → LivesAtPace medium (gives_so state_of handing takes) takes (act_given given) given.every
         (scene w disk s o) (Err why) last t p
         → HasGoneOn medium takes given w disk last o p (state_of t).failed (state_of t).taken
         (Err told)
@@ -178,7 +178,7 @@ module _ {D O : Type 0} (medium : D → Medium) (takes : Taking O) where
       (result : Result Now WorkFault) (opening : D) (p : O) (source' : SourceState)
       → RecoversWorker medium takes (Ok w) before.disk opening before.outlet p
       → HeedsOutlet takes ⊥ before.outlet p
-      → LivesAtPace medium handing takes before.given.fuel before.given.every
+      → LivesAtPace medium handing takes (act_given before.given) before.given.every
       (scene w opening (source_behind before.given w) p) result after.disk source' after.outlet
       → LivesOnDisk medium takes (undone_after result) before after source'
   lives_on before after w result opening p source' recovers heeds lives = record {

@@ -5,18 +5,21 @@ use Rattle.std.specs.Prelude.{Option, suc, length}
 use Rattle.wasi_abi.specs.declared.answer.Answer.{Answer}
 use Rattle.wasi_abi.specs.declared.answer.Question.{Question}
 use Rattle.process_rules.specs.Processes.{ProcessState, Guest}
-use Rattle.record_replay.specs.rules.Calls.{Taking, Exchange, Asks, Releases, releases_of}
-use Rattle.record_replay.specs.rules.Calls.{all_taken}
-use Rattle.record_replay.proofs.Following.{releases_of-append}
+use Rattle.record_replay.specs.rules.Calls.{Taking, Exchange, Asks, Released, Releases}
+use Rattle.record_replay.specs.rules.Calls.{releases_of, all_taken}
+use Rattle.record_replay.proofs.Following.{leads_join as calls_join, releases_of-append}
 use Rattle.record_replay.specs.declared.slices.fault.SliceFault.TheVariants as slice
 use Rattle.record_replay.specs.declared.slices.fault.Refusal.TheVariants as refusal
 use Rattle.record_replay.specs.rules.Slices.{SliceLeadsTo}
-use Rattle.record_replay.specs.rules.Faults.{LeadsUpTo, last_answer}
+use Rattle.record_replay.specs.rules.Faults.{LeadsUpTo, StopsAtAnswer, last_answer}
 use Rattle.record_replay.proofs.Joining.{leads_join}
 use Rattle.worker.specs.declared.fault.WorkFault.{WorkFault}
 use Rattle.worker.specs.declared.fault.WorkFault.TheVariants as work
+use Rattle.worker.specs.rules.Batches.{HasUntakenAnswer, ToldUpTo, IsBatchCause}
+use Rattle.worker.specs.rules.DurableFailures.{IsDiskCause}
+use Rattle.worker.specs.rules.LifeWords.{Act, Slice, Batch, Checkpoint, Upgrade}
 use Rattle.command_words.specs.Lines.Answers.{SourceState}
-use Rattle.disk_commands.specs.rules.BrokenLives.{IsBrokenAt, in_slice, in_checkpoint}
+use Rattle.disk_commands.specs.rules.BrokenLives.{IsBrokenAt, in_act, in_checkpoint}
 use Rattle.disk_commands.specs.rules.BrokenLives.{BreaksOff}
 use Rattle.disk_commands.specs.rules.BrokenLives.{LeavesNoLine, TellsItsLines}
 use Rattle.disk_commands.specs.rules.ServedOnDisk.{handing}
@@ -49,9 +52,48 @@ module _ (guest : Guest) (p : ProcessState) (exchanges : List Exchange) (steps :
     leads = h.leads;
   }
 
-  told_before : (fuel : ℕ) (why : WorkFault) → LeavesNoLine why
-      → IsBrokenAt guest p fuel exchanges steps q why → AllTold guest p exchanges q
-  told_before fuel why none (in_checkpoint said leads answers) = record {
+  source_told : StopsAtAnswer guest p exchanges steps q → AllTold guest p exchanges q
+  source_told h = record {
+    front = h.front;
+    last = Asks h.ask ∷ [];
+    is = h.is;
+    untold = refl;
+    steps = steps;
+    leads = h.leads;
+  }
+
+  -- a slice that has failed so
+  slice_told : (fuel : ℕ) (why : WorkFault) → LeavesNoLine (Slice fuel) why
+      → IsDiskCause guest p fuel exchanges steps q why → AllTold guest p exchanges q
+  slice_told fuel (work.Work slice.Source) none h = source_told h.1
+  slice_told fuel (work.Work slice.Memory) none h = told_up_to h.3 h.4
+  slice_told fuel (work.Work (slice.Refused refusal.StepsSpent)) none h = told_up_to h.2 h.3
+  slice_told fuel (work.Work (slice.Refused (refusal.Module why))) none h = absurd h
+  slice_told fuel (work.Work slice.Outlet) none h = absurd none
+  slice_told fuel (work.Work slice.Failed) none h = absurd none
+  slice_told fuel (work.Disk why) none h = absurd none
+  slice_told fuel (work.Store why) none h =
+      told_up_to None (none.1 guest p fuel exchanges steps q h).4
+  slice_told fuel (work.Upgrade why) none h = absurd none
+
+  -- a batch that has failed so
+  batch_told : (fuel most : ℕ) (why : WorkFault) → LeavesNoLine (Batch fuel most) why
+      → IsBatchCause guest p fuel exchanges steps q why → AllTold guest p exchanges q
+  batch_told fuel most (work.Work slice.Source) none h = source_told h.1
+  batch_told fuel most (work.Work slice.Memory) none h = absurd none
+  batch_told fuel most (work.Work (slice.Refused why)) none h = absurd none
+  batch_told fuel most (work.Work slice.Outlet) none h = absurd none
+  batch_told fuel most (work.Work slice.Failed) none h = absurd none
+  batch_told fuel most (work.Disk why) none h = absurd none
+  batch_told fuel most (work.Store why) none h = absurd none.0
+  batch_told fuel most (work.Upgrade why) none h = absurd none
+
+module _ {O : Type 0} (takes : Taking O) (guest : Guest) (p : ProcessState)
+    (exchanges : List Exchange) (steps : ℕ) (q : ProcessState) (outlet outlet' : O) where
+  told_before : (act : Act) (why : WorkFault) → LeavesNoLine act why
+      → IsBrokenAt takes guest p act exchanges steps q why outlet outlet'
+      → AllTold guest p exchanges q
+  told_before act why none (in_checkpoint said leads answers released) = record {
     front = exchanges;
     last = [];
     is = sym (append-nil exchanges);
@@ -59,24 +101,36 @@ module _ (guest : Guest) (p : ProcessState) (exchanges : List Exchange) (steps :
     steps = steps;
     leads = leads;
   }
-  told_before fuel (work.Work slice.Source) none (in_slice h) = record {
-    front = h.1.front;
-    last = Asks h.1.ask ∷ [];
-    is = h.1.is;
-    untold = refl;
-    steps = steps;
-    leads = h.1.leads;
-  }
-  told_before fuel (work.Work slice.Memory) none (in_slice h) = told_up_to h.3 h.4
-  told_before fuel (work.Work (slice.Refused refusal.StepsSpent)) none (in_slice h) =
-      told_up_to h.2 h.3
-  told_before fuel (work.Work (slice.Refused (refusal.Module why))) none (in_slice h) = absurd h
-  told_before fuel (work.Work slice.Outlet) none (in_slice h) = absurd none
-  told_before fuel (work.Work slice.Failed) none (in_slice h) = absurd none
-  told_before fuel (work.Disk why) none (in_slice h) = absurd none
-  told_before fuel (work.Store why) none (in_slice h) =
-      told_up_to None (none guest p fuel exchanges steps q h).4
-  told_before fuel (work.Upgrade why) none (in_slice h) = absurd none
+  told_before (Slice fuel) why none (in_act cause told) =
+      slice_told guest p exchanges steps q fuel why none cause
+  told_before (Batch fuel most) why none (in_act cause told) =
+      batch_told guest p exchanges steps q fuel most why none cause
+  told_before Checkpoint why none (in_act cause told) = absurd cause
+  told_before Upgrade why none (in_act cause told) = absurd cause
+
+  -- what it has released was released whole
+  batch_released : (fuel most : ℕ) (untaken : Type 0) (why : WorkFault)
+      → LeavesNoLine (Batch fuel most) why
+      → ToldUpTo takes untaken why (releases_of exchanges) outlet outlet'
+      → Releases takes outlet (releases_of exchanges) outlet'
+  batch_released fuel most untaken (work.Work slice.Source) none told = told
+  batch_released fuel most untaken (work.Work slice.Memory) none told = absurd none
+  batch_released fuel most untaken (work.Work (slice.Refused why)) none told = absurd none
+  batch_released fuel most untaken (work.Work slice.Outlet) none told = absurd none
+  batch_released fuel most untaken (work.Work slice.Failed) none told = absurd none
+  batch_released fuel most untaken (work.Disk why) none told = absurd none
+  batch_released fuel most untaken (work.Store why) none told = absurd none.0
+  batch_released fuel most untaken (work.Upgrade why) none told = absurd none
+
+  all_released : (act : Act) (why : WorkFault) → LeavesNoLine act why
+      → IsBrokenAt takes guest p act exchanges steps q why outlet outlet'
+      → Releases takes outlet (releases_of exchanges) outlet'
+  all_released act why none (in_checkpoint said leads answers released) = released
+  all_released (Slice fuel) why none (in_act cause told) = told
+  all_released (Batch fuel most) why none (in_act cause told) =
+      batch_released fuel most (HasUntakenAnswer guest p exchanges steps q) why none told
+  all_released Checkpoint why none (in_act cause told) = absurd cause
+  all_released Upgrade why none (in_act cause told) = absurd cause
 
 module _ (guest : Guest) (p : ProcessState) where
   -- slices before it told all as well
@@ -108,12 +162,17 @@ module _ (guest : Guest) (p : ProcessState) where
         }
 
     -- each line was told that was written until a call failed
-    pub lines_told : (source source' : SourceState) (outlet outlet' : O) (fuel all : ℕ)
-        (why : WorkFault) → LeavesNoLine why
-        → (b : BreaksOff handing takes guest p source source' outlet outlet' fuel all why)
+    pub lines_told : (source source' : SourceState) (outlet outlet' : O) (act : Act) (all : ℕ)
+        (why : WorkFault) → LeavesNoLine act why
+        → (b : BreaksOff handing takes guest p source source' outlet outlet' act all why)
         → TellsItsLines takes p b.process outlet outlet'
-    lines_told source source' outlet outlet' fuel all why none b =
+    lines_told source source' outlet outlet' act all why none b =
         told_lines (b.front ++ b.back) b.process outlet outlet'
         (told_on b.front b.back b.steps b.begun b.process b.leads
-        (told_before guest b.begun b.back b.more b.process fuel why none b.broken))
-        b.exchanged.released
+        (told_before takes guest b.begun b.back b.more b.process b.between outlet' act why none
+        b.broken))
+        (subst (λ z. Releases takes outlet z outlet') (sym (releases_of-append b.front b.back))
+        (calls_join (Released takes) outlet outlet' b.between (releases_of b.front)
+        (releases_of b.back) b.told
+        (all_released takes guest b.begun b.back b.more b.process b.between outlet' act why none
+        b.broken)))

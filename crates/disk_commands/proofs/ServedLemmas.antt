@@ -45,15 +45,15 @@ pub job_served : {D O : Type 0} (medium : D → Medium) (takes : Taking O)
     (outside : Outside) (disk disk' : D) (outlet outlet' : O) (err between err' : PrinterState)
     (status : ℕ) → outside ≡ job.outside → found ≡ lines → broken ≡ failed → between ≡ err
     → ServesToEnd medium takes (run_start (disk_job (non_zero_u64_get job.pace.fuel)
-    (non_zero_u64_get job.pace.every) found outside broken) disk outlet between) disk' outlet' err'
-    status
-    → RunsJob medium takes path (run_start (job_given job lines failed) disk outlet err) disk' outlet'
-    err' status
+    (non_zero_u64_get job.pace.every) (non_zero_u64_get job.pace.batch) found outside broken) disk
+    outlet between) disk' outlet' err' status
+    → RunsJob medium takes path (run_start (job_given job lines failed) disk outlet err) disk'
+    outlet' err' status
 job_served {D} {O} medium takes path job lines found failed broken outside disk disk' outlet outlet'
     err between err' status of_job of_lines of_failed quiet serves =
     let start : Outside → Option (List ℕ) → Bool → PrinterState → RunStart D O =
     λ o l f e. run_start (disk_job (non_zero_u64_get job.pace.fuel)
-    (non_zero_u64_get job.pace.every) l o f) disk outlet e in
+    (non_zero_u64_get job.pace.every) (non_zero_u64_get job.pace.batch) l o f) disk outlet e in
     let does : RunStart D O → Type 0 =
     λ before. ServesToEnd medium takes before disk' outlet' err' status in
     inr (subst (λ e. does (start job.outside lines failed e)) quiet

@@ -8,7 +8,8 @@ use Rattle.record_replay.specs.declared.slices.now.Now.{Now}
 use Rattle.worker.specs.declared.recover_fault.RecoverFault.{RecoverFault}
 use Rattle.worker.specs.rules.DurableValues.{DurableValue}
 use Rattle.worker.specs.rules.LifeWords.{Act}
-use Rattle.worker.specs.rules.OneLife.{CallsInOrder, no_more, sliced, slice_failed, saved}
+use Rattle.worker.specs.rules.OneLife.{CallsInOrder, no_more, sliced, slice_failed, batched}
+use Rattle.worker.specs.rules.OneLife.{batch_failed, saved}
 use Rattle.worker.specs.rules.OneLife.{saving_failed, was_upgraded, upgrade_failed}
 use Rattle.worker.specs.rules.Outcomes.{outcome_after}
 use Rattle.process.specs.rules.Values.{ProcessValue}
@@ -33,10 +34,10 @@ module _ {S T O : Type 0} (state_of : S → T) (gives : Giving T) (takes : Takin
   }
 
   -- a call that has failed
-  pub broken_so : (v : ProcessValue) (fuel all : ℕ) (why : WorkFault) (s t : S) (o p : O)
-      → BreaksOffFrom gives_so takes v fuel all why s t o p
-      → BreaksOffFrom gives takes v fuel all why (state_of s) (state_of t) o p
-  broken_so v fuel all why s t o p breaks guest start is =
+  pub broken_so : (v : ProcessValue) (act : Act) (all : ℕ) (why : WorkFault) (s t : S) (o p : O)
+      → BreaksOffFrom gives_so takes v act all why s t o p
+      → BreaksOffFrom gives takes v act all why (state_of s) (state_of t) o p
+  broken_so v act all why s t o p breaks guest start is =
       let b = breaks guest start is in
       record {
         front = b.front;
@@ -44,8 +45,10 @@ module _ {S T O : Type 0} (state_of : S → T) (gives : Giving T) (takes : Takin
         steps = b.steps;
         begun = b.begun;
         leads = b.leads;
+        between = b.between;
+        told = b.told;
         back = b.back;
-        exchanged = exchanged_so (b.front ++ b.back) s t o p b.exchanged;
+        asked = asked_so (asks_of (b.front ++ b.back)) s t b.asked;
         wanted = b.wanted;
         more = b.more;
         process = b.process;
@@ -66,6 +69,13 @@ module _ {S T O : Type 0} (state_of : S → T) (gives : Giving T) (takes : Takin
         (calls_so others w' mid last u t q p undone more)
     calls_so acts w disk last s t o p undone (slice_failed slice) =
         slice_failed (slice.0, exchanged_so slice.0 s t o p slice.1, slice.2)
+    calls_so acts w disk last s t o p undone
+        (batched {fuel = fuel} {most = most} {acts = others} {w' = w'} {disk' = mid} {source' = u}
+        {outlet' = q} said batch more) =
+        batched said (batch.0, exchanged_so batch.0 s u o q batch.1, batch.2)
+        (calls_so others w' mid last u t q p undone more)
+    calls_so acts w disk last s t o p undone (batch_failed batch) =
+        batch_failed (batch.0, exchanged_so batch.0 s t o p batch.1, batch.2)
     calls_so acts w disk last s t o p undone
         (saved {acts = others} {w' = w'} {disk' = mid} carries more) =
         saved carries (calls_so others w' mid last s t o p undone more)
@@ -89,6 +99,10 @@ module _ {S T O : Type 0} (state_of : S → T) (gives : Giving T) (takes : Takin
         (sliced {fuel = fuel} {acts = others} {w' = w'} {disk' = mid} {source' = u} {outlet' = q}
         said slice more) = outcome_so said others w' mid last u t q p undone more
     outcome_so before acts w disk last s t o p undone (slice_failed slice) = refl
+    outcome_so before acts w disk last s t o p undone
+        (batched {fuel = fuel} {most = most} {acts = others} {w' = w'} {disk' = mid} {source' = u}
+        {outlet' = q} said batch more) = outcome_so said others w' mid last u t q p undone more
+    outcome_so before acts w disk last s t o p undone (batch_failed batch) = refl
     outcome_so before acts w disk last s t o p undone
         (saved {acts = others} {w' = w'} {disk' = mid} carries more) =
         outcome_so before others w' mid last s t o p undone more

@@ -1,7 +1,9 @@
 -- Which lines of slices were taken, and which of them was refused.
-use Rattle.std.proofs.Common.{◌≡◌, inl, inr, ℕ, suc, Bool, true, false, List, [], ◌∷◌, ◌++◌}
-use Rattle.std.proofs.Common.{length, None, Some, Err, refl, sym, ap, ◌∙◌, subst, append-nil}
+use Rattle.std.proofs.Common.{◌≡◌, inl, inr, ⊎_elim, ℕ, suc, Bool, true, false, List, [], ◌∷◌}
+use Rattle.std.proofs.Common.{◌++◌, length, None, Some, Err, refl, sym, ap, ◌∙◌, subst}
+use Rattle.std.proofs.Common.{append-nil}
 use Rattle.std.specs.Prelude.{map, Option, Result}
+use Rattle.std.specs.List.{AllByRecursion}
 use Rattle.wasi_abi.specs.declared.answer.Answer.{Answer}
 use Rattle.wasi_calls_rules.specs.WasiStates.{Line}
 use Rattle.process_rules.specs.Processes.{ProcessState, Guest}
@@ -9,7 +11,7 @@ use Rattle.process.specs.rules.Values.{ProcessValue, IsProcess}
 use Rattle.sector_disk.specs.rules.Medium.{Medium}
 use Rattle.record_replay.specs.rules.Calls.{Giving, Taking, Begun, Exchange, Asks, Tells, Released}
 use Rattle.record_replay.specs.rules.Calls.{Releases, releases_of, all_taken, last_refused}
-use Rattle.record_replay.proofs.Following.{leads_split, releases_of-append}
+use Rattle.record_replay.proofs.Following.{leads_before, leads_split, releases_of-append}
 use Rattle.record_replay.specs.declared.slices.fault.SliceFault.TheVariants as slice
 use Rattle.record_replay.specs.declared.slices.fault.Refusal.TheVariants as refusal
 use Rattle.record_replay.specs.declared.slices.now.Now.{Now}
@@ -19,16 +21,22 @@ use Rattle.record_replay.specs.rules.Faults.{LeadsUpTo, EmitsLast, StopsAtLine, 
 use Rattle.worker.specs.declared.fault.WorkFault.{WorkFault}
 use Rattle.worker.specs.declared.fault.WorkFault.TheVariants as work
 use Rattle.worker.specs.declared.recover_fault.RecoverFault.TheVariants as recover
+use Rattle.record_replay.specs.declared.line_list.NumberedLine.{NumberedLine}
+use Rattle.worker.specs.rules.Batches.{BatchFails, HasUntakenAnswer, TellsFront, ToldUpTo}
+use Rattle.worker.specs.rules.Batches.{taking}
+use Rattle.worker.proofs.StopLemmas.{store_tells_front}
 use Rattle.worker.specs.rules.Checkpoints.{HasCheckpointCause}
 use Rattle.worker.specs.rules.DurableFailures.{SlicesOnDiskInVain, IsDiskCause}
 use Rattle.worker.specs.rules.DurableFailures.{StopsAtDisk, StopsAtStore}
 use Rattle.worker.specs.rules.DurableValues.{DurableValue}
 use Rattle.worker.specs.rules.Outlets.{TakesEach, RefusesLast, HeedsOutlet, IsOutletFault}
+use Rattle.worker.specs.rules.Outlets.{WasTaken}
 use Rattle.worker.proofs.OutletLemmas.{none_told, refuses_then, lines_taken}
 use Rattle.worker.proofs.OutletLemmas.{last_is_refused}
 use Rattle.worker.proofs.StopLemmas.{stops_at_store}
 use Rattle.disk_commands.proofs.BreakLemmas.{same_fault}
-use Rattle.disk_commands.proofs.PrintedLemmas.{asks_only}
+use Rattle.disk_commands.proofs.ToldLemmas.{AllTaken, releases_told, taken_then, by_leads, up_to}
+use Rattle.disk_commands.proofs.ToldLemmas.{emits, at_disk, at_store}
 
 -- an error of a call that is the outlet's
 abbrev pub IsOutletsCall : WorkFault → Type 0
@@ -45,55 +53,6 @@ saving_is_other w old new (work.Work (slice.Refused why)) cause told = told
 saving_is_other w old new (work.Disk why) cause told = told
 saving_is_other w old new (work.Store why) cause told = told
 saving_is_other w old new (work.Upgrade why) cause told = told
-
--- The releases among these calls are of some lines, each of which was taken.
-record AllTaken (exchanges : List Exchange) : Type 0 where
-  first : ℕ
-  lines : List Line
-  are : releases_of exchanges ≡ all_taken first lines
-
--- releases, as calls
-releases_told : (told : List Begun) → releases_of (map Tells told) ≡ told
-releases_told [] = refl
-releases_told (begun ∷ told) = ap (λ z. begun ∷ z) (releases_told told)
-
--- questions after them release nothing
-taken_then : (exchanges front last : List Exchange) → exchanges ≡ front ++ last
-    → releases_of last ≡ [] → AllTaken front → AllTaken exchanges
-taken_then exchanges front last is none all = record {
-  first = all.first;
-  lines = all.lines;
-  are = ap releases_of is ∙ releases_of-append front last
-      ∙ ap (λ z. releases_of front ++ z) none ∙ append-nil (releases_of front) ∙ all.are;
-}
-
-module _ (guest : Guest) (p : ProcessState) (exchanges : List Exchange) (steps : ℕ) where
-  by_leads : (q : ProcessState) → SliceLeadsTo guest p exchanges steps q → AllTaken exchanges
-  by_leads q leads = record {
-    first = suc (length p.host.lines);
-    lines = leads.lines;
-    are = leads.released;
-  }
-
-up_to : (guest : Guest) (p : ProcessState) (exchanges : List Exchange) (steps : ℕ)
-    (q : ProcessState) (given : Option Answer) → LeadsUpTo guest p exchanges steps q given
-    → AllTaken exchanges
-up_to guest p exchanges steps q given h =
-    taken_then exchanges h.front (last_answer h.question given) h.is (asks_only h.question given)
-    (by_leads guest p h.front steps q h.leads)
-
-module _ (guest : Guest) (p : ProcessState) (exchanges : List Exchange) (steps : ℕ)
-    (q : ProcessState) where
-  emits : (lines : List Line) → EmitsLast guest p exchanges steps q lines → AllTaken exchanges
-  emits lines h = up_to guest p exchanges h.steps h.before h.given h.leads
-
-  at_disk : StopsAtDisk guest p exchanges steps q → AllTaken exchanges
-  at_disk (inl h) = emits h.0 h.1
-  at_disk (inr h) = up_to guest p exchanges steps q None h
-
-  at_store : StopsAtStore guest p exchanges steps q → AllTaken exchanges
-  at_store (inl h) = at_disk h
-  at_store (inr h) = up_to guest p exchanges steps q (Some h.0) h.1
 
 module _ {O : Type 0} (takes : Taking O) where
   by_taken : (exchanges : List Exchange) (o o' : O) → AllTaken exchanges
@@ -173,6 +132,96 @@ module _ {S O : Type 0} (gives : Giving S) (takes : Taking O) (fuel : ℕ) (s t 
       heeds_cause takes is.guest is.process fails.0.exchanges fails.0.steps fails.0.process o p
       fails.0.exchanged.released fuel why fails.1
   slice_heeds old new why true shows vain failed silent = inl (
+    subst (TakesEach takes o) (sym (silent refl)) (none_told takes o),
+    λ told. subst IsOutletsCall
+        (same_fault gives takes why (work.Work slice.Failed) (failed refl)) told,
+  )
+
+-- ---- a batch
+
+each_taking : (told : List NumberedLine) → AllByRecursion WasTaken (map taking told)
+each_taking [] = tt
+each_taking (line ∷ told) = (refl, each_taking told)
+
+front_taken : (front back : List Begun) → AllByRecursion WasTaken (front ++ back)
+    → AllByRecursion WasTaken front
+front_taken [] back all = tt
+front_taken (begun ∷ front) back all = (all.0, front_taken front back all.1)
+
+module _ {O : Type 0} (takes : Taking O) (told : List NumberedLine) (o p : O) where
+  -- the first of its lines were told
+  some_heed : (why : WorkFault) → (IsOutletsCall why → ⊥) → (front back : List Begun)
+      → map taking told ≡ front ++ back → Releases takes o front p
+      → HeedsOutlet takes (IsOutletsCall why) o p
+  some_heed why other front back is led = inl (
+    record {
+      releases = front;
+      led = led;
+      taken = front_taken front back (subst (AllByRecursion WasTaken) is (each_taking told));
+    },
+    other,
+  )
+
+  front_heeds : (why : WorkFault) → (IsOutletsCall why → ⊥)
+      → TellsFront takes (map taking told) o p → HeedsOutlet takes (IsOutletsCall why) o p
+  front_heeds why other h = some_heed why other h.0 h.1 h.2 h.3
+
+  whole_heeds : (why : WorkFault) → (IsOutletsCall why → ⊥)
+      → Releases takes o (map taking told) p → HeedsOutlet takes (IsOutletsCall why) o p
+  whole_heeds why other led =
+      some_heed why other (map taking told) [] (sym (append-nil (map taking told))) led
+
+  told_heeds : (untaken : Type 0) (why : WorkFault)
+      → ToldUpTo takes untaken why (map taking told) o p
+      → HeedsOutlet takes (IsOutletsCall why) o p
+  told_heeds untaken (work.Work slice.Source) h =
+      whole_heeds (work.Work slice.Source) (λ none. none) h
+  told_heeds untaken (work.Work slice.Outlet) h =
+      let r = leads_before (Released takes) o p h.0 (record h.1 { said = Err h.3 }) h.5 in
+      inr (
+        record {
+          between = r.0;
+          before = record {
+            releases = h.0;
+            led = r.1;
+            taken = front_taken h.0 (h.1 ∷ h.2)
+                (subst (AllByRecursion WasTaken) h.4 (each_taking told));
+          };
+          last = record h.1 { said = Err h.3 };
+          released = r.2;
+          fault = h.3;
+          said = refl;
+        },
+        tt,
+      )
+  told_heeds untaken (work.Work slice.Memory) h =
+      ⊎_elim (λ all. whole_heeds (work.Work slice.Memory) (λ none. none) all)
+      (λ some. front_heeds (work.Work slice.Memory) (λ none. none) some.1) h
+  told_heeds untaken (work.Work slice.Failed) h =
+      front_heeds (work.Work slice.Failed) (λ none. none) h
+  told_heeds untaken (work.Work (slice.Refused why)) h =
+      ⊎_elim (λ all. whole_heeds (work.Work (slice.Refused why)) (λ none. none) all)
+      (λ some. front_heeds (work.Work (slice.Refused why)) (λ none. none) some.1) h
+  told_heeds untaken (work.Disk why) h = front_heeds (work.Disk why) (λ none. none) h
+  told_heeds untaken (work.Store why) h =
+      front_heeds (work.Store why) (λ none. none)
+      (store_tells_front takes untaken why (map taking told) o p h)
+  told_heeds untaken (work.Upgrade why) h = front_heeds (work.Upgrade why) (λ none. none) h
+
+-- one that fails, of a worker that had failed or not
+module _ {S O : Type 0} (gives : Giving S) (takes : Taking O) (fuel : ℕ) (s t : S) (o p : O) where
+  pub batch_heeds : (old new : ProcessValue) (why : WorkFault) (has_failed : Bool)
+      → (has_failed ≡ false → IsProcess old)
+      → (has_failed ≡ false → BatchFails gives takes old fuel why new s t o p)
+      → (has_failed ≡ true
+      → ◌≡◌ {A = Result Now WorkFault} (Err why) (Err (work.Work slice.Failed)))
+      → (has_failed ≡ true → p ≡ o) → HeedsOutlet takes (IsOutletsCall why) o p
+  batch_heeds old new why false shows vain failed silent =
+      let is = shows refl in
+      let batch = vain refl is.guest is.process is.shows in
+      told_heeds takes batch.0 o p (HasUntakenAnswer is.guest is.process batch.1.exchanges
+      batch.1.steps batch.1.process) why batch.2
+  batch_heeds old new why true shows vain failed silent = inl (
     subst (TakesEach takes o) (sym (silent refl)) (none_told takes o),
     λ told. subst IsOutletsCall
         (same_fault gives takes why (work.Work slice.Failed) (failed refl)) told,

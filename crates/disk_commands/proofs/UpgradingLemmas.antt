@@ -29,7 +29,7 @@ use Rattle.worker.specs.rules.OneLife.{recovered, opened}
 use Rattle.worker.specs.rules.Outcomes.{outcome_after}
 use Rattle.worker.proofs.OutletLemmas.{takes_both, heeds_on, each_taken}
 use Rattle.command_words.specs.rules.Printers.{PrinterState, IsSaid, TellsPerson}
-use Rattle.disk_commands.specs.Livings.{Scene, scene, AreCalled}
+use Rattle.disk_commands.specs.Livings.{Scene, scene, AreCalled, HasDoneOnce}
 use Rattle.disk_commands.specs.ComingUp.{ComesUp, EndsRun, IsUpgradedFrom, UpgradesOpen}
 use Rattle.disk_commands.specs.declared.on_disk.fault.OnDiskFault.{OnDiskFault}
 use Rattle.disk_commands.specs.declared.on_disk.upgrading.Upgraded.{Upgraded}
@@ -41,10 +41,10 @@ use Rattle.disk_commands.specs.rules.Hearings.{AsksUnless, IsOfSource}
 use Rattle.disk_commands.specs.rules.ServedOnDisk.{recovered_line}
 use Rattle.disk_commands.specs.rules.Upgradings.{LivesToUpgrade, UpgradesOnDisk, from_list}
 use Rattle.disk_commands.specs.rules.Upgradings.{IsOfUpgrade, IsOfCaughtUp, undone_then}
-use Rattle.disk_commands.proofs.BreakLemmas.{slice_more, breaks_in_join}
+use Rattle.disk_commands.proofs.BreakLemmas.{act_more, breaks_in_join}
 use Rattle.disk_commands.proofs.HearingLemmas.{asked_on, asked_so_far, slice_hears}
-use Rattle.disk_commands.proofs.LivingLemmas.{IsWithin, none_taken, within_more, slices_lead}
-use Rattle.disk_commands.proofs.LivingLemmas.{called_as, turned, slice_fewer}
+use Rattle.disk_commands.proofs.LivingLemmas.{IsWithin, none_taken, within_more, acts_lead}
+use Rattle.disk_commands.proofs.LivingLemmas.{slice_leads, called_as, turned, slice_fewer}
 use Rattle.disk_commands.proofs.OnDiskLemmas.{opens_none}
 use Rattle.disk_commands.proofs.TakingLemmas.{IsOutletsCall, slice_takes}
 
@@ -92,7 +92,7 @@ module _ {D S O : Type 0} (medium : D → Medium) (gives : Giving S) (takes : Ta
   pub record HasComeTo (fuel : ℕ) (from here : Scene D S O) : Type 0 where
     pub count : ℕ
     pub within : (every : ℕ) → count < every
-        → IsWithin medium gives takes fuel every count from here
+        → IsWithin medium gives takes (Slice fuel) every count from here
     pub room : total_sectors here.worker.store.geometry ≤ (medium here.disk).sectors
 
   pub none_come : (fuel : ℕ) (here : Scene D S O)
@@ -100,7 +100,7 @@ module _ {D S O : Type 0} (medium : D → Medium) (gives : Giving S) (takes : Ta
       → HasComeTo fuel here here
   none_come fuel here room = record {
     count = 0;
-    within = λ every some. none_taken medium gives takes fuel every here some room;
+    within = λ every some. none_taken medium gives takes (Slice fuel) every here some room;
     room = room;
   }
 
@@ -129,35 +129,51 @@ module _ {D S O : Type 0} (medium : D → Medium) (gives : Giving S) (takes : Ta
         slice_takes gives takes fuel here.source source' here.outlet outlet'
         (without_disk here.worker) (without_disk w') said shows slices
 
-    pub come_more : Slicing (Ok now.Spent) → Shows → 0 < fuel → Sliced now.Spent
+    abbrev reached : Scene D S O
+    reached = scene w' disk' source' outlet'
+
+    slice_done : (said : Now) → Slicing (Ok said) → Shows → Sliced said
         → total_sectors w'.store.geometry ≤ (medium disk').sectors
-        → HasComeTo fuel from (scene w' disk' source' outlet')
-    come_more carries shows some slices room = record {
-      count = so_far.count + 1;
-      within = λ every few.
-          within_more medium gives takes fuel every so_far.count from here
-          (so_far.within every (omega (arith, few))) fuel refl w' disk' source' outlet' now.Spent
-          carries (slice_heard now.Spent shows slices) (slice_taken now.Spent shows slices) slices
-          refl few
-          (slice_fewer medium gives takes here.worker w' fuel now.Spent here.source source'
-          here.outlet outlet' shows some slices refl) room;
+        → HasDoneOnce medium gives takes (Slice fuel) here said reached
+    slice_done said carries shows slices room = record {
+      heard = slice_heard said shows slices;
+      taken = slice_taken said shows slices;
+      leads = slice_leads medium gives takes fuel here.worker w' here.disk disk' here.source
+          source' here.outlet outlet' said carries;
+      shows = shows;
+      slices = slices;
       room = room;
     }
 
-    so_many : IsWithin medium gives takes fuel (so_far.count + 1) so_far.count from here
+    pub come_more : Slicing (Ok now.Spent) → Shows → 0 < fuel → Sliced now.Spent
+        → total_sectors w'.store.geometry ≤ (medium disk').sectors
+        → HasComeTo fuel from reached
+    come_more carries shows some slices room = record {
+      count = so_far.count + 1;
+      within = λ every few.
+          within_more medium gives takes (Slice fuel) every so_far.count from here
+          (so_far.within every (omega (arith, few))) now.Spent reached
+          (slice_done now.Spent carries shows slices room) refl few
+          (slice_fewer medium gives takes here.worker w' fuel now.Spent here.source source'
+          here.outlet outlet' shows some slices refl);
+      room = room;
+    }
+
+    so_many : IsWithin medium gives takes (Slice fuel) (so_far.count + 1) so_far.count from here
     so_many = so_far.within (so_far.count + 1) (omega arith)
 
     pub come_last : (said : Now) → Slicing (Ok said) → Shows → Sliced said
         → (said ≢ now.Spent → w'.is_abreast ≡ true)
-        → ComesUp medium gives takes fuel from (Ok said) (scene w' disk' source' outlet')
+        → ComesUp medium gives takes fuel from (Ok said) reached
     come_last said carries shows slices abreast = record {
       count = so_far.count + 1;
       heard = asked_on gives ⊥ from.source here.source source' so_many.heard
           (slice_heard said shows slices);
       taken = takes_both takes from.outlet here.outlet outlet' so_many.taken
           (slice_taken said shows slices);
-      leads = slices_lead medium gives takes fuel so_far.count from here.worker w' here.disk disk'
-          here.source source' here.outlet outlet' so_many.leads said carries;
+      leads = acts_lead medium gives takes (Slice fuel) so_far.count from here so_many.leads said
+          reached (slice_leads medium gives takes fuel here.worker w' here.disk disk' here.source
+          source' here.outlet outlet' said carries);
       unfailed = slices.has_not_failed;
       abreast = abreast;
     }
@@ -178,7 +194,7 @@ module _ {D S O : Type 0} (medium : D → Medium) (gives : Giving S) (takes : Ta
       breaks = λ guest p is.
           let first = so_many.lead guest p is in
           subst (λ k. BreaksInSlice gives takes guest p from.source source' from.outlet outlet'
-          fuel k why) (sym (slice_more fuel so_far.count))
+          fuel k why) (sym (act_more (Slice fuel) so_far.count))
           (breaks_in_join gives takes guest p from.source here.source source' from.outlet
           here.outlet outlet' (steps_among (replicate so_far.count (Slice fuel)))
           here.worker.process first fuel fuel why (breaks guest first.process first.shows));

@@ -1,19 +1,21 @@
 -- The parts of a life on a disk: calls that were made of an open worker, and those that may follow.
-use Rattle.std.specs.Prelude.{◌≡◌, ◌≢◌, ℕ, ◌-◌, ◌^◌, ◌≤◌, Bool, List, [], ◌++◌, Result, Ok}
-use Rattle.std.specs.Prelude.{Err, IfOk, IfErr}
+use Rattle.std.specs.Prelude.{◌≡◌, ◌≢◌, ℕ, ◌-◌, ◌^◌, ◌≤◌, Bool, false, List, [], ◌∷◌, ◌++◌}
+use Rattle.std.specs.Prelude.{Result, Ok, Err, IfOk, IfErr}
 use Rattle.process_rules.specs.Processes.{ProcessState, Guest}
-use Rattle.process.specs.rules.Values.{ShowsProcess}
+use Rattle.process.specs.rules.Values.{ShowsProcess, IsProcess}
 use Rattle.sector_disk.specs.rules.Medium.{Medium}
+use Rattle.disk_layout.specs.rules.Places.{total_sectors}
 use Rattle.record_replay.specs.rules.Calls.{Giving, Taking}
 use Rattle.record_replay.specs.declared.slices.now.Now.{Now}
 use Rattle.record_replay.specs.declared.slices.now.Now.TheVariants as now
+use Rattle.record_replay.specs.rules.Slices.{Slices}
 use Rattle.worker.specs.declared.fault.WorkFault.{WorkFault}
 use Rattle.worker.specs.declared.recover_fault.RecoverFault.{RecoverFault}
 use Rattle.worker.specs.declared.recover_fault.RecoverFault.TheVariants as recover
-use Rattle.worker.specs.rules.DurableValues.{DurableValue}
+use Rattle.worker.specs.rules.DurableValues.{DurableValue, without_disk}
 use Rattle.worker.specs.rules.DurableCalls.{CheckpointCarries}
 use Rattle.worker.specs.rules.Checkpoints.{CheckpointFails, HasCheckpointCause}
-use Rattle.worker.specs.rules.LifeWords.{Act}
+use Rattle.worker.specs.rules.LifeWords.{Act, fuel_of}
 use Rattle.worker.specs.rules.Outlets.{TakesEach, HeedsOutlet, IsOutletFault}
 use Rattle.worker.specs.rules.Outlets.{SaysOutletFault}
 use Rattle.worker.specs.rules.OneLife.{CallsInOrder}
@@ -23,10 +25,10 @@ use Rattle.disk_commands.specs.declared.on_disk.fault.OnDiskFault.{OnDiskFault}
 use Rattle.disk_commands.specs.rules.DiskStatuses.{IsReportedOnDisk, status_on_disk}
 use Rattle.worker.specs.rules.Outcomes.{outcome_after}
 use Rattle.disk_commands.specs.rules.BrokenLives.{BreaksOffFrom, SlicesLead, steps_among}
-use Rattle.disk_commands.specs.rules.Hearings.{AsksUnless, IsOfSource}
+use Rattle.disk_commands.specs.rules.Hearings.{AsksUnless, MayRefuse}
 use Rattle.disk_commands.specs.rules.LastWords.{ended_by, over_words}
 use Rattle.disk_commands.specs.rules.Paces.{round_of, IsPaced}
-use Rattle.disk_commands.specs.rules.ServedOnDisk.{DiskJob, source_behind, handing}
+use Rattle.disk_commands.specs.rules.ServedOnDisk.{DiskJob, act_given, source_behind, handing}
 use Rattle.disk_commands.specs.rules.ServedOnDisk.{RunStart, RunEnd, recovered_line}
 
 -- a worker between two calls, with its disk, its source and its outlet
@@ -52,11 +54,11 @@ SlicesLeadOn gives takes from steps to =
     → SlicesLead gives takes guest p from.source to.source from.outlet to.outlet steps
     to.worker.process
 
--- Calls from there on, whose slices of this fuel may take so many steps, have failed so.
-abbrev pub BreaksOffAt : {D S O : Type 0} → Giving S → Taking O → ℕ → ℕ → Scene D S O
+-- Calls from there on, of this act, which may take so many steps, have failed so.
+abbrev pub BreaksOffAt : {D S O : Type 0} → Giving S → Taking O → Act → ℕ → Scene D S O
     → WorkFault → S → O → Type 0
-BreaksOffAt gives takes fuel all from why source outlet =
-    BreaksOffFrom gives takes from.worker.process fuel all why from.source source from.outlet
+BreaksOffAt gives takes act all from why source outlet =
+    BreaksOffFrom gives takes from.worker.process act all why from.source source from.outlet
     outlet
 
 -- nothing is left to be done, or there was this error
@@ -88,10 +90,33 @@ module _ {D S O : Type 0} (medium : D → Medium) (gives : Giving S) (takes : Ta
         → outcome_after now.Spent (behind rest undone disk source outlet done)
         ≡ outcome_after said done
 
-  -- At most so many slices of this fuel, with a checkpoint after them. The last one has answered
-  -- this. They are just as many where its fuel is spent, and have taken all of their steps. No
-  -- question was refused, and no line.
-  pub record IsRound (fuel every : ℕ) (from : Scene D S O) (why : Now) (to : Scene D S O)
+  -- This act was done, and has answered this: what is done then is done after it. The worker had
+  -- not failed, and ran as a slice does. No question was refused, and no line. The disk has room
+  -- for what comes next.
+  pub record HasDoneOnce (act : Act) (from : Scene D S O) (said : Now) (to : Scene D S O) : Type 0
+    where
+      pub heard : AsksUnless gives ⊥ from.source to.source
+      pub taken : TakesEach takes from.outlet to.outlet
+      pub leads : ActsLead (act ∷ []) from said to
+      pub shows : from.worker.has_failed ≡ false → IsProcess from.worker.process
+      pub slices : Slices gives takes (without_disk from.worker) (fuel_of act) said
+          (without_disk to.worker) from.source to.source from.outlet to.outlet
+      pub room : total_sectors to.worker.store.geometry ≤ (medium to.disk).sectors
+
+  -- It has failed so, whatever was to be done after it. No question was refused, unless its error
+  -- allows that, and no line, unless it is the outlet's.
+  pub record HasFailedOnce (act : Act) (from : Scene D S O) (why : WorkFault) (disk : D)
+      (source : S) (outlet : O) : Type 0 where
+    pub heard : AsksUnless gives (MayRefuse act (Err (recover.Worker why))) from.source source
+    pub heeded : HeedsOutlet takes (IsOutletFault (recover.Worker why)) from.outlet outlet
+    pub done : (rest : List Act)
+        → AreCalled (act ∷ rest) from (Err (recover.Worker why)) disk source outlet
+    pub broken : BreaksOffAt gives takes act (fuel_of act) from why source outlet
+
+  -- At most so many of this act, with a checkpoint after them. The last one has answered this. They
+  -- are just as many where its fuel is spent, and have taken all of their steps. No question was
+  -- refused, and no line.
+  pub record IsRound (act : Act) (every : ℕ) (from : Scene D S O) (why : Now) (to : Scene D S O)
       : Type 0 where
     pub count : ℕ
     pub some : 1 ≤ count
@@ -99,35 +124,35 @@ module _ {D S O : Type 0} (medium : D → Medium) (gives : Giving S) (takes : Ta
     pub whole : why ≡ now.Spent → count ≡ every
     pub heard : AsksUnless gives ⊥ from.source to.source
     pub taken : TakesEach takes from.outlet to.outlet
-    pub leads : ActsLead (round_of fuel count) from why to
+    pub leads : ActsLead (round_of act count) from why to
     pub spent : why ≡ now.Spent
-        → SlicesLeadOn gives takes from (steps_among (round_of fuel count)) to
+        → SlicesLeadOn gives takes from (steps_among (round_of act count)) to
 
-  -- One within which there was an error. No question was refused, unless it is the source's, and no
+  -- One within which there was an error. No question was refused, unless it allows that, and no
   -- line, unless it is the outlet's.
-  pub record IsBrokenRound (fuel every : ℕ) (from : Scene D S O) (why : WorkFault) (disk : D)
+  pub record IsBrokenRound (act : Act) (every : ℕ) (from : Scene D S O) (why : WorkFault) (disk : D)
       (source : S) (outlet : O) : Type 0 where
     pub count : ℕ
     pub some : 1 ≤ count
     pub within : count ≤ every
-    pub heard : AsksUnless gives (IsOfSource (Err (recover.Worker why))) from.source source
+    pub heard : AsksUnless gives (MayRefuse act (Err (recover.Worker why))) from.source source
     pub heeded : HeedsOutlet takes (IsOutletFault (recover.Worker why)) from.outlet outlet
-    pub done : AreCalled (round_of fuel count) from (Err (recover.Worker why)) disk source outlet
-    pub broken : BreaksOffAt gives takes fuel (steps_among (round_of fuel count)) from why source
+    pub done : AreCalled (round_of act count) from (Err (recover.Worker why)) disk source outlet
+    pub broken : BreaksOffAt gives takes act (steps_among (round_of act count)) from why source
         outlet
 
-  -- All that a worker is told at this pace is done, and the last slice has answered this; or it is
-  -- done up to this error. No question was refused, unless that is the source's, and no line,
-  -- unless it is the outlet's.
-  pub record LivesAtPace (fuel every : ℕ) (from : Scene D S O) (result : Result Now WorkFault)
-      (disk : D) (source : S) (outlet : O) : Type 0 where
+  -- All that a worker is told at this pace is done, and the last act has answered this; or it is
+  -- done up to this error. No question was refused, unless that allows it, and no line, unless it
+  -- is the outlet's.
+  pub record LivesAtPace (act : Act) (every : ℕ) (from : Scene D S O)
+      (result : Result Now WorkFault) (disk : D) (source : S) (outlet : O) : Type 0 where
     pub acts : List Act
-    pub paced : IsPaced fuel every acts
-    pub heard : AsksUnless gives (IsOfSource (undone_after result)) from.source source
+    pub paced : IsPaced act every acts
+    pub heard : AsksUnless gives (MayRefuse act (undone_after result)) from.source source
     pub heeded : HeedsOutlet takes (SaysOutletFault (undone_after result)) from.outlet outlet
     pub done : AreCalled acts from (undone_after result) disk source outlet
     pub says : IfOk result (λ told. outcome_after now.Spent done ≡ told)
-    pub broken : IfErr result (λ why. BreaksOffAt gives takes fuel (steps_among acts) from why
+    pub broken : IfErr result (λ why. BreaksOffAt gives takes act (steps_among acts) from why
         source outlet)
 
 -- a checkpoint of a worker whose slice has answered this
@@ -145,11 +170,11 @@ abbrev pub HasGoneOn : {D O : Type 0} → (D → Medium) → Taking O → DiskJo
     → O → O → Bool → ℕ → Result Now OnDiskFault → Type 0
 HasGoneOn medium takes given w disk disk' outlet outlet' failed' taken' (Ok why) =
     (source' : SourceState) × (why ≢ now.Spent) × (source'.failed ≡ failed')
-    × (source'.taken ≡ taken') × LivesAtPace medium handing takes given.fuel given.every
+    × (source'.taken ≡ taken') × LivesAtPace medium handing takes (act_given given) given.every
     (scene w disk (source_behind given w) outlet) (Ok why) disk' source' outlet'
 HasGoneOn medium takes given w disk disk' outlet outlet' failed' taken' (Err told) =
     (source' : SourceState) × (why : WorkFault) × IsReportedOnDisk why source'.fault told
-    × (source'.failed ≡ failed') × LivesAtPace medium handing takes given.fuel given.every
+    × (source'.failed ≡ failed') × LivesAtPace medium handing takes (act_given given) given.every
     (scene w disk (source_behind given w) outlet) (Err why) disk' source' outlet'
 
 -- What is said of a worker that has gone on so, with so many requests: its last words, where a

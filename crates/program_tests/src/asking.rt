@@ -1,6 +1,5 @@
-//! `echo`, which asks for requests, and a worker without a disk.
+//! `echo`, which asks for requests.
 
-use record_replay::EphemeralWorker;
 use std::alloc::Global;
 use std::test::Fail;
 use wasi_abi::{Answer, Config};
@@ -22,12 +21,6 @@ pub(crate) const ECHO: [&str; 9] = [
 /// One page, one file unit, 64 journal sectors and no argument.
 pub(crate) fn config(alloc: Global) -> Result<Config, Fail> {
     Ok(Config::new(1, 1, 64, ItemList::new(alloc), ItemList::new(alloc))?)
-}
-
-/// A worker of a module, before its first step.
-pub(crate) fn create_worker(alloc: Global, wasm: &[u8]) -> Result<EphemeralWorker, Fail> {
-    let config = config(alloc)?;
-    Ok(EphemeralWorker::create(alloc, wasm, config)?)
 }
 
 /// The answer that is the request `hello`.

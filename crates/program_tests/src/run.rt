@@ -1,17 +1,16 @@
 //! Workers that are run on disks: what they print, how many steps they take, and that each
 //! allocation may be refused.
 
-use crate::asking::create_worker;
-use crate::check::{BEFORE_CODE, EMPTY_BODY, HELLO, bytes_of};
+use crate::check::{BEFORE_CODE, EMPTY_BODY, HELLO};
 use crate::lines::{NoClock, OUTSIDE};
 use crate::rows::assert_row;
 use crate::serving::{Unwatched, pace_of};
-use crate::show::{SECTORS, WRITES, fresh_disk};
+use crate::show::{SECTORS, WRITES, blank_disk, create, fresh_disk};
 use command_words::{
     BufferedLines, LineOutlet, Prepared, Printer, RequestSource, Sizes, Unprepared, prepare,
 };
-use disk_commands::{Drive, Pace, create_on, serve};
-use record_replay::{AnswerList, EphemeralWorker, LineList, Now, SliceFault};
+use disk_commands::{Drive, Pace, Worker, create_on, serve};
+use record_replay::{AnswerList, LineList, Now};
 use sector_disk::MemDisk;
 use std::alloc::Global;
 use std::io::Write;
@@ -123,7 +122,7 @@ fn prints_on(alloc: Global, disk: &mut MemDisk, pace: Pace, case: &Case) -> Resu
 
 /// The same of a fresh worker.
 fn prints_so(alloc: Global, case: &Case) -> Result<bool, Fail> {
-    let pace = pace_of(case.1, EVERY)?;
+    let pace = pace_of(case.1, EVERY, 1)?;
     let mut disk = fresh_disk(alloc, case.0)?;
     let is_so = prints_on(alloc, &mut disk, pace, case);
     drop(disk);
@@ -140,13 +139,14 @@ fn workers_print(rt: HostRuntime) -> Result<(), Fail> {
 
 /// Runs a worker by slices of so many steps, until it ends.
 fn run_to_end(
-    worker: &mut EphemeralWorker,
+    worker: &mut Worker,
+    disk: &mut MemDisk,
     fuel: u64,
     source: &mut AnswerList,
     outlet: &mut LineList,
-) -> Result<(), SliceFault> {
+) -> Result<(), Fail> {
     for _ in 0..10_000 {
-        if let Now::Ended(_) = worker.slice(fuel, source, outlet)? {
+        if let Now::Ended(_) = worker.slice(disk, fuel, source, outlet)? {
             break;
         }
     }
@@ -154,10 +154,15 @@ fn run_to_end(
 }
 
 /// The same, where nothing is answered.
-fn run_alone(alloc: Global, worker: &mut EphemeralWorker, fuel: u64) -> Result<(), SliceFault> {
+fn run_alone(
+    alloc: Global,
+    worker: &mut Worker,
+    disk: &mut MemDisk,
+    fuel: u64,
+) -> Result<(), Fail> {
     let mut source = AnswerList::new(Vec::new(alloc));
     let mut outlet = LineList::new(alloc);
-    let ended = run_to_end(worker, fuel, &mut source, &mut outlet);
+    let ended = run_to_end(worker, disk, fuel, &mut source, &mut outlet);
     drop(source);
     drop(outlet);
     ended
@@ -165,11 +170,21 @@ fn run_alone(alloc: Global, worker: &mut EphemeralWorker, fuel: u64) -> Result<(
 
 /// What a worker of a module has in the end: its steps, and the number at 16.
 fn end_of(alloc: Global, texts: &[&str], fuel: u64) -> Result<(u64, Option<u32>), Fail> {
-    let wasm = bytes_of(alloc, texts)?;
-    let created = create_worker(alloc, wasm.as_slice());
-    drop(wasm);
-    let mut worker = created?;
-    let ended = run_alone(alloc, &mut worker, fuel);
+    let mut disk = blank_disk(alloc)?;
+    let end = end_on(alloc, &mut disk, texts, fuel);
+    drop(disk);
+    end
+}
+
+/// The same of a worker that is created on this disk.
+fn end_on(
+    alloc: Global,
+    disk: &mut MemDisk,
+    texts: &[&str],
+    fuel: u64,
+) -> Result<(u64, Option<u32>), Fail> {
+    let mut worker = create(alloc, disk, texts)?;
+    let ended = run_alone(alloc, &mut worker, disk, fuel);
     let steps = worker.process().steps();
     let number = worker.process().memory().load_u32(16, 0);
     drop(worker);
@@ -293,6 +308,7 @@ fn long_slices() -> Option<Pace> {
     Some(Pace {
         fuel: NonZeroU64::new(100_000)?,
         every: NonZeroU64::new(EVERY)?,
+        batch: NonZeroU64::MIN,
     })
 }
 
@@ -353,7 +369,7 @@ fn is_status_within(
 
 /// The same of a fresh worker.
 fn ends_so_within(alloc: Global, row: &(usize, usize, u8)) -> Result<bool, Fail> {
-    let pace = pace_of(100, EVERY)?;
+    let pace = pace_of(100, EVERY, 1)?;
     let mut disk = fresh_disk(alloc, &HELLO)?;
     let is_so = is_status_within(alloc, &mut disk, pace, row);
     drop(disk);

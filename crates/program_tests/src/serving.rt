@@ -22,11 +22,13 @@ const EVERY: u64 = 2;
 /// The line of `echo`, which it prints in step 20.
 const LINE: &[u8] = b"1 o hello\n";
 
-/// Slices of so many steps, and so many of them between two checkpoints.
-pub(crate) fn pace_of(fuel: u64, every: u64) -> Result<Pace, Fail> {
+/// Slices of so many steps, so many of them between two checkpoints, and so many lines that one
+/// sync may serve.
+pub(crate) fn pace_of(fuel: u64, every: u64, batch: u64) -> Result<Pace, Fail> {
     Ok(Pace {
         fuel: NonZeroU64::try_from(fuel)?,
         every: NonZeroU64::try_from(every)?,
+        batch: NonZeroU64::try_from(batch)?,
     })
 }
 
@@ -47,7 +49,7 @@ fn status_on<E: Write + Drop>(
     disk: &mut MemDisk,
     err: &mut Printer<E>,
 ) -> Result<Option<u8>, Fail> {
-    let pace = pace_of(FUEL, EVERY)?;
+    let pace = pace_of(FUEL, EVERY, 1)?;
     let mut outlet = LineOutlet::new(alloc, Vec::new(alloc))?;
     let status = status_of(alloc, disk, pace, &mut outlet, err);
     let is_printed = outlet.writer().as_slice() == LINE;
@@ -98,25 +100,34 @@ fn a_worker_runs_on_untold(rt: HostRuntime) -> Result<(), Fail> {
     Ok(())
 }
 
-/// Request lines of a run, the lines that it prints, what it tells, and its status.
-type Run = (&'static [u8], &'static [u8], &'static str, u8);
+/// The lines that one sync may serve in a run, its request lines, the lines that it prints, what it
+/// tells, and its status.
+type Run = (u64, &'static [u8], &'static [u8], &'static str, u8);
 
 /// A line that was taken is dropped by its number. One that is ahead of its number ends the run.
-static ON_ONE_DISK: [Run; 2] = [
-    (b"1 r a\n", b"1 o a\n", "parked\n", 0),
-    (b"1 r a\n2 r b\n", b"2 o b\n", "parked\n", 0),
+static ON_ONE_DISK: [Run; 3] = [
+    (1, b"1 r a\n", b"1 o a\n", "parked\n", 0),
+    (1, b"1 r a\n2 r b\n", b"2 o b\n", "parked\n", 0),
+    (
+        64,
+        b"2 r b\n3 r c\n4 r d\n",
+        b"3 o c\n4 o d\n",
+        "parked\n",
+        0,
+    ),
 ];
 
 static AHEAD: Run = (
+    64,
     b"1 r hello\n1 r other\n3 r x\n",
     b"1 o hello\n",
     "refused request 3, wanted 2\n",
     6,
 );
 
-/// What is on the disk after both runs: each of them saves as it opens and as it ends.
+/// What is on the disk after these runs: each of them saves as it opens and as it ends.
 const BEHIND: Shown = Shown {
-    out: "generation 5 steps 49 answers 2 lines 2 records 0 version 1\n",
+    out: "generation 7 steps 93 answers 4 lines 4 records 0 version 1\n",
     err: "",
     status: 0,
 };
@@ -124,11 +135,11 @@ const BEHIND: Shown = Shown {
 /// Whether a run on the disk does so.
 fn runs_so(alloc: Global, disk: &mut MemDisk, run: &Run) -> Result<bool, Fail> {
     let drive = Drive {
-        pace: pace_of(FUEL, EVERY)?,
+        pace: pace_of(FUEL, EVERY, run.0)?,
         watcher: &Unwatched,
     };
     let mut outlet = LineOutlet::new(alloc, Vec::new(alloc))?;
-    let mut source = RequestSource::new(alloc, BufferedLines::new(run.0), NoClock, OUTSIDE, 0);
+    let mut source = RequestSource::new(alloc, BufferedLines::new(run.1), NoClock, OUTSIDE, 0);
     let mut err = Vec::new(alloc);
     let status = serve(
         alloc,
@@ -139,8 +150,8 @@ fn runs_so(alloc: Global, disk: &mut MemDisk, run: &Run) -> Result<bool, Fail> {
         &mut Printer::new(&mut err, false),
     );
     drop(source);
-    let lines = outlet.writer().as_slice() == run.1;
-    let is_so = lines && err.as_slice() == run.2.as_bytes() && status == run.3;
+    let lines = outlet.writer().as_slice() == run.2;
+    let is_so = lines && err.as_slice() == run.3.as_bytes() && status == run.4;
     drop(outlet);
     drop(err);
     Ok(is_so)

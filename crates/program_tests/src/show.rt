@@ -1,8 +1,5 @@
 //! What `show` prints of a worker's disk.
 
-ghost use Rattle.std.specs.Prelude.{◌≤◌, IfOk};
-ghost use Rattle.disk_layout.specs.rules.Places.{total_sectors};
-
 use crate::asking::{ECHO, config, hello};
 use crate::check::bytes_of;
 use crate::lines::Flushed;
@@ -45,7 +42,8 @@ pub(crate) fn shows<D: Disk>(alloc: Global, disk: &mut D, shown: &Shown) -> bool
     is_so
 }
 
-fn zeros(alloc: Global) -> Result<MemDisk, Fail> {
+/// A disk of zeros, with room for the worker of a short module.
+pub(crate) fn blank_disk(alloc: Global) -> Result<MemDisk, Fail> {
     match MemDisk::new(alloc, SECTORS, WRITES) {
         Ok(disk) => Ok(disk),
         Err(fault) => Err(Fail::from(fault)),
@@ -53,9 +51,7 @@ fn zeros(alloc: Global) -> Result<MemDisk, Fail> {
 }
 
 /// A worker of a module on this disk.
-fn create<D: Disk>(alloc: Global, disk: &mut D, texts: &[&str]) -> Result<Worker, Fail>
-    ensures { IfOk result (λ w. total_sectors w.store.geometry ≤ (D.medium disk.new).sectors) }
-{
+pub(crate) fn create<D: Disk>(alloc: Global, disk: &mut D, texts: &[&str]) -> Result<Worker, Fail> {
     let wasm = bytes_of(alloc, texts)?;
     let config = config(alloc)?;
     match Worker::create(alloc, disk, wasm.as_slice(), &config) {
@@ -79,9 +75,7 @@ fn run<D: Disk>(
     worker: &mut Worker,
     disk: &mut D,
     course: &Course,
-) -> Result<(), Fail>
-    requires { total_sectors worker.old.store.geometry ≤ (D.medium disk.old).sectors }
-{
+) -> Result<(), Fail> {
     let mut answers = Vec::new(alloc);
     answers.push(hello(alloc)?)?;
     let mut source = AnswerList::new(answers);
@@ -97,9 +91,7 @@ fn save<D: Disk>(
     disk: &mut D,
     told: &mut LineList,
     is_saved: bool,
-) -> Result<(), Fail>
-    requires { total_sectors worker.old.store.geometry ≤ (D.medium disk.old).sectors }
-{
+) -> Result<(), Fail> {
     if !is_saved {
         return Ok(());
     }
@@ -140,7 +132,7 @@ fn open_again<D: Disk>(alloc: Global, disk: &mut D, is_wanted: bool) -> Result<(
 
 /// The disk of a worker of a short module as it was created.
 pub(crate) fn fresh_disk(alloc: Global, texts: &[&str]) -> Result<MemDisk, Fail> {
-    let mut disk = zeros(alloc)?;
+    let mut disk = blank_disk(alloc)?;
     let worker = create(alloc, &mut disk, texts)?;
     drop(worker);
     Ok(disk)
@@ -149,7 +141,7 @@ pub(crate) fn fresh_disk(alloc: Global, texts: &[&str]) -> Result<MemDisk, Fail>
 /// The disk of `echo` after one slice, in which it has taken a request and told its line. Nothing
 /// was saved since the creation.
 pub(crate) fn after_one_slice(alloc: Global) -> Result<MemDisk, Fail> {
-    let mut disk = zeros(alloc)?;
+    let mut disk = blank_disk(alloc)?;
     live(alloc, &mut disk, &COURSES[1])?;
     Ok(disk)
 }
@@ -163,7 +155,7 @@ fn lives_so(alloc: Global, disk: &mut MemDisk, course: &Course) -> Result<bool, 
 
 /// The same of a disk of zeros.
 fn is_shown(alloc: Global, course: &Course) -> Result<bool, Fail> {
-    let mut disk = zeros(alloc)?;
+    let mut disk = blank_disk(alloc)?;
     let is_so = lives_so(alloc, &mut disk, course);
     drop(disk);
     is_so
@@ -279,7 +271,7 @@ static TROUBLES: [Trouble; 4] = [
 ];
 
 fn is_told(alloc: Global, trouble: &Trouble) -> Result<bool, Fail> {
-    let mut disk = FaultDisk::new(zeros(alloc)?, trouble.stop, trouble.fail);
+    let mut disk = FaultDisk::new(blank_disk(alloc)?, trouble.stop, trouble.fail);
     let is_so = shows(alloc, &mut disk, &trouble.shown);
     drop(disk);
     Ok(is_so)
@@ -323,7 +315,7 @@ fn is_told_in(alloc: Global, row: &(bool, usize, u8)) -> Result<bool, Fail> {
     let mut disk = if row.0 {
         fresh_disk(alloc, &ECHO)?
     } else {
-        zeros(alloc)?
+        blank_disk(alloc)?
     };
     let is_so = is_status_in(alloc, &mut disk, row);
     drop(disk);

@@ -21,8 +21,9 @@ type Told = (Asked, &'static str, u8, &'static str, &'static str);
 /// The disk of `echo` takes 206 calls until its worker is created. The next one writes the first
 /// sector of the journal, in which the record of `hello` ends at byte 505.
 ///
-/// The images are those of a fresh worker, and of one that has taken `hello` in its sixth step.
-static TOLD: [Told; 10] = [
+/// The images are those of a fresh worker, of one that has taken `hello` in its sixth step, and of
+/// one that has then taken `world`, 22 steps later.
+static TOLD: [Told; 11] = [
     (SMALL_ECHO, "", 0, "", ""),
     (
         SMALL_ECHO,
@@ -51,6 +52,18 @@ static TOLD: [Told; 10] = [
         "life 1 created\n\
          life 2 recovered generation 2 steps 6 answers 1 lines 0 \
          image 5cbdfc1d641493c2a7bb501dacac8c5c45cedec86d2557d8f1f96db1ea6e7cfe\n",
+        "",
+    ),
+    // Both lines of the batch wait for its one write, which has both records. It is cut there.
+    (
+        SMALL_ECHO,
+        "life\nrequest hello\nrequest world\nbatch 42 2\nstop 207 505\nlife\nslice 14\n",
+        0,
+        "life 1 created\n\
+         life 2 recovered generation 2 steps 28 answers 2 lines 1 \
+         image 136aea21c9c078ca7f11615e57a0a23628c604665dc23a2a64c0957aa7fdfd12\n\
+         1 o hello\n\
+         2 o world\n",
         "",
     ),
     (
@@ -98,7 +111,7 @@ static TOLD: [Told; 10] = [
 /// A script, and its first faulty line if there is one.
 type Read = (&'static str, Option<u64>);
 
-static READ: [Read; 35] = [
+static READ: [Read; 43] = [
     ("life\nfail 1 512\nrefuse 1\n", None),
     ("life\nfail 0 0\n", Some(2)),
     ("life\nrefuse 0\n", Some(2)),
@@ -119,6 +132,17 @@ static READ: [Read; 35] = [
     ("life\nslice  1\n", Some(2)),
     ("life\nslice 1 \n", Some(2)),
     ("life\nslice +1\n", Some(2)),
+    ("life\nbatch 0 1\n", None),
+    (
+        "life\nbatch 18446744073709551615 18446744073709551615\n",
+        None,
+    ),
+    ("life\nbatch 1 0\n", Some(2)),
+    ("life\nbatch 1\n", Some(2)),
+    ("life\nbatch 1 \n", Some(2)),
+    ("life\nbatch  1 1\n", Some(2)),
+    ("life\nbatch 1 1 \n", Some(2)),
+    ("life\nbatch 1 18446744073709551616\n", Some(2)),
     ("life\nrealtime -1\n", Some(2)),
     ("life\nmonotonic a\n", Some(2)),
     ("life\n\nlife\n", Some(2)),

@@ -8,7 +8,7 @@ use std::test::Fail;
 /// Words, and the status of what is read: 0 for an order.
 type StatusRow = (&'static [&'static str], u8);
 
-static STATUSES: [StatusRow; 35] = [
+static STATUSES: [StatusRow; 38] = [
     (&["wasmhost"], 2),
     (&["wasmhost", "open", "a"], 2),
     (&["wasmhost", "check"], 2),
@@ -30,6 +30,9 @@ static STATUSES: [StatusRow; 35] = [
     (&["wasmhost", "run", "-h"], 0),
     (&["wasmhost", "run", "a.disk", "--fuel", "0"], 2),
     (&["wasmhost", "run", "a.disk", "--every", "0"], 2),
+    (&["wasmhost", "run", "a.disk", "--batch", "0"], 2),
+    (&["wasmhost", "run", "a.disk", "--batch=65536"], 0),
+    (&["wasmhost", "run", "a.disk", "--batch=65537"], 2),
     (&["wasmhost", "run", "a.disk", "--", "b"], 2),
     (&["wasmhost", "show", "a.disk"], 0),
     (&["wasmhost", "show"], 2),
@@ -86,9 +89,9 @@ enum Meant {
     /// A creation of `a.disk` from `a.wasm`: pages, units of files, sectors of the journal, entries
     /// of the environment, and arguments.
     Create([u64; 3], &'static [&'static str], &'static [&'static str]),
-    /// A run of `a.disk`: steps of a slice, slices between two checkpoints, the seed, the clock,
-    /// and whether all sectors are written back.
-    Run(u64, u64, Option<&'static str>, Option<u64>, bool),
+    /// A run of `a.disk`: steps of a slice, slices between two checkpoints and lines of a sync, the
+    /// seed, the clock, and whether all sectors are written back.
+    Run([u64; 3], Option<&'static str>, Option<u64>, bool),
     /// A story that `a.story` tells of `a.wasm`: pages, units of files and sectors of the journal.
     Story([u64; 3]),
 }
@@ -96,7 +99,7 @@ enum Meant {
 /// Words, and what they say.
 type MeantRow = (&'static [&'static str], Meant);
 
-static MEANT: [MeantRow; 14] = [
+static MEANT: [MeantRow; 15] = [
     (
         &["wasmhost", "check", "/dev/null"],
         Meant::Check("/dev/null"),
@@ -134,19 +137,23 @@ static MEANT: [MeantRow; 14] = [
     ),
     (
         &["wasmhost", "run", "a.disk"],
-        Meant::Run(100_000, 100, None, None, false),
+        Meant::Run([100_000, 100, 1], None, None, false),
     ),
     (
         &["wasmhost", "run", "a.disk", "--fuel", "1", "--every=1"],
-        Meant::Run(1, 1, None, None, false),
+        Meant::Run([1, 1, 1], None, None, false),
+    ),
+    (
+        &["wasmhost", "run", "--batch=64", "a.disk"],
+        Meant::Run([100_000, 100, 64], None, None, false),
     ),
     (
         &["wasmhost", "run", "--seed", "0A", "--clock", "0", "a.disk"],
-        Meant::Run(100_000, 100, Some("0A"), Some(0), false),
+        Meant::Run([100_000, 100, 1], Some("0A"), Some(0), false),
     ),
     (
         &["wasmhost", "run", "--rewrite", "--", "a.disk"],
-        Meant::Run(100_000, 100, None, None, true),
+        Meant::Run([100_000, 100, 1], None, None, true),
     ),
     (
         &["wasmhost", "story", "a.story", "a.wasm"],
@@ -198,12 +205,16 @@ fn is_creation(order: &CreateOrder<'_>, meant: &Meant) -> bool {
     }
 }
 
+/// The steps of a slice, the slices between two checkpoints, and the lines for a sync.
+fn numbers_of(order: &RunOrder<'_>) -> [u64; 3] {
+    [order.fuel.get(), order.every.get(), order.batch.get()]
+}
+
 fn is_run(order: &RunOrder<'_>, meant: &Meant) -> bool {
     match meant {
-        Meant::Run(fuel, every, seed, clock, rewrites) => {
+        Meant::Run(numbers, seed, clock, rewrites) => {
             order.disk == "a.disk"
-                && order.fuel.get() == *fuel
-                && order.every.get() == *every
+                && numbers_of(order) == *numbers
                 && order.seed == *seed
                 && order.clock == *clock
                 && order.rewrites == *rewrites

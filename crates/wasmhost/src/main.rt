@@ -62,6 +62,12 @@ use story_commands::{
 /// It is read to keep a number from other files. It has no bytes, and takes none from a reader.
 const NULL_DEVICE: &str = "/dev/null";
 
+/// How many bytes of its input a run reads ahead.
+const AHEAD: usize = 8_192;
+
+/// The same for batches: so some 3,000 short request lines may be at hand.
+const AHEAD_OF_BATCHES: usize = 65_536;
+
 /// The numbers of those standard streams that were closed when the program began. As long as it
 /// lives no file gets one of them: a closed input is at its end, and a write to a closed output
 /// fails.
@@ -185,6 +191,11 @@ fn look_at_disk<R: Files<File = File>, W: Write + Drop, E: Write + Drop>(
     report_output(out, status, err)
 }
 
+/// How many bytes of its input a run reads ahead, of whose lines one sync may serve so many.
+fn ahead_for(batch: u64) -> usize {
+    if batch > 1 { AHEAD_OF_BATCHES } else { AHEAD }
+}
+
 /// Runs the worker of a disk on the lines of the standard input and the machine's clock.
 fn run<R: Files<File = File> + Input + Clock, W: Write + Drop, E: Write + Drop>(
     rt: &R,
@@ -198,7 +209,8 @@ fn run<R: Files<File = File> + Input + Clock, W: Write + Drop, E: Write + Drop>(
     let Ok(mut outlet) = LineOutlet::new(alloc, out) else {
         return report(err, Obstacle::Memory);
     };
-    let Ok(reader) = BufReader::new(alloc, rt.reader()) else {
+    let ahead = ahead_for(order.batch.get());
+    let Ok(reader) = BufReader::with_capacity(alloc, ahead, rt.reader()) else {
         return report(err, Obstacle::Memory);
     };
     let system = System {

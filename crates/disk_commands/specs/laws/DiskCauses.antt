@@ -31,7 +31,8 @@ use Rattle.command_words.specs.rules.Seeds.{words_for}
 use Rattle.disk_commands.specs.rules.BrokenLives.{BreaksOff, LeavesNoLine, TellsItsLines}
 use Rattle.disk_commands.specs.rules.BrokenLives.{steps_among}
 use Rattle.disk_commands.specs.rules.LastWords.{ended_by, over_words}
-use Rattle.disk_commands.specs.rules.ServedOnDisk.{RunStart, RunEnd, source_behind, handing}
+use Rattle.disk_commands.specs.rules.ServedOnDisk.{RunStart, RunEnd, act_given, source_behind}
+use Rattle.disk_commands.specs.rules.ServedOnDisk.{handing}
 use Rattle.disk_commands.specs.rules.ServedOnDisk.{IsUnopenedRun, LivesOnDisk, HasOutcome}
 use Rattle.disk_commands.specs.rules.ServedOnDisk.{ServesOnDisk, recovered_line}
 
@@ -95,7 +96,7 @@ abbrev pub HasToldItsLines : {D O : Type 0} {medium : D → Medium} {takes : Tak
 HasToldItsLines {takes = takes} {before = before} {after = after} {source' = source'} lives why =
     (guest : Guest) (p : ProcessState) → ShowsProcess lives.worker.process guest p
     → (broken : BreaksOff handing takes guest p (source_behind before.given lives.worker) source'
-    lives.retold after.outlet before.given.fuel (steps_among lives.acts) why)
+    lives.retold after.outlet (act_given before.given) (steps_among lives.acts) why)
     × TellsItsLines takes p broken.process lives.retold after.outlet
 
 -- ---- faults of a call
@@ -163,7 +164,7 @@ module _ {D O : Type 0} (medium : D → Medium) (takes : Taking O) (before : Run
         → FailsOnDisk IsOfOpening IsOfCall
     calling : (why : WorkFault) (source' : SourceState)
         → (lives : LivesOnDisk medium takes (Err (recover.Worker why)) before after source')
-        → (LeavesNoLine why → HasToldItsLines lives why)
+        → (LeavesNoLine (act_given before.given) why → HasToldItsLines lives why)
         → (why ≡ work.Work slice.Source → source'.fault ≡ None) → source'.failed ≡ after.failed
         → IsOfCall why → FailsOnDisk IsOfOpening IsOfCall
 
@@ -182,9 +183,10 @@ module _ {D O : Type 0} (medium : D → Medium) (takes : Taking O) (before : Run
   -- 0: it is over. 3: the disk shows no worker that can go on, or a number is at its end. 4: the
   -- disk or the source has failed. 5: memory was refused. 6: the next line is refused. 7: a line of
   -- the worker was refused, or what is said couldn't be written. A reader that fails is told by 4,
-  -- or by 5 where it wants memory, unless that can't be printed. Of a worker that was recovered,
-  -- each line was told where a number is at its end (3), memory was refused (5), or the source has
-  -- failed (4, 5, 6).
+  -- or by 5 where it wants memory. That isn't so where it can't be printed, nor where a batch then
+  -- finds its journal full (3). Of a worker that was recovered, each line was told where the source
+  -- has failed (4, 5, 6), and without batches where a number is at its end (3) or memory was
+  -- refused (5).
   pub record SaysOnDisk (status : ℕ) : Type 0 where
     pub over : status ≡ 0 → IsOverOnDisk
     pub stuck : status ≡ 3 → FailsOnDisk IsStuck IsAtItsEnd
@@ -197,6 +199,7 @@ module _ {D O : Type 0} (medium : D → Medium) (takes : Taking O) (before : Run
         → FailsOnDisk IsOutletFault (λ why. why ≡ work.Work slice.Outlet)
         ⊎ (after.err.failed ≡ true)
     pub heeded : (after.failed ≡ before.given.failed) ⊎ (status ≡ 4) ⊎ (status ≡ 5) ⊎ (status ≡ 7)
+        ⊎ ((status ≡ 3) × (2 ≤ before.given.batch))
     pub known : (status ≡ 0) ⊎ ((3 ≤ status) × (status ≤ 7))
 
 -- so it is of each run

@@ -3,32 +3,55 @@ use Rattle.std.specs.Prelude.{◌≡◌, ℕ, suc, ◌+◌, ⊤, List, [], ◌�
 use Rattle.wasi_calls_rules.specs.WasiStates.{Line}
 use Rattle.process_rules.specs.Processes.{ProcessState, Guest}
 use Rattle.process.specs.rules.Values.{ProcessValue, ShowsProcess}
-use Rattle.record_replay.specs.rules.Calls.{Giving, Taking, Exchange, Exchanges, Releases}
-use Rattle.record_replay.specs.rules.Calls.{all_taken}
+use Rattle.record_replay.specs.rules.Calls.{Giving, Taking, Begun, Exchange, Exchanges}
+use Rattle.record_replay.specs.rules.Calls.{AnswersInOrder, Releases, all_taken, asks_of}
+use Rattle.record_replay.specs.rules.Calls.{releases_of}
 use Rattle.record_replay.specs.declared.slices.now.Now.{Now}
 use Rattle.record_replay.specs.declared.slices.fault.SliceFault.TheVariants as slice
 use Rattle.record_replay.specs.rules.Slices.{SliceLeadsTo, AreAnswered, AreWanted, IsNow}
 use Rattle.worker.specs.declared.fault.WorkFault.{WorkFault}
 use Rattle.worker.specs.declared.fault.WorkFault.TheVariants as work
+use Rattle.worker.specs.rules.Batches.{HasUntakenAnswer, ToldUpTo, IsBatchCause}
 use Rattle.worker.specs.rules.DurableFailures.{IsDiskCause, StopsAtQuestion}
-use Rattle.worker.specs.rules.LifeWords.{Act, Slice, Batch, Checkpoint, Upgrade}
+use Rattle.worker.specs.rules.LifeWords.{Act, Slice, Batch, Checkpoint, Upgrade, fuel_of}
 
--- how many steps the slices and batches among these acts may take
+-- how many steps these acts may take
 abbrev pub steps_among : List Act → ℕ
 steps_among [] = 0
-steps_among (Slice fuel ∷ acts) = fuel + steps_among acts
-steps_among (Batch fuel most ∷ acts) = fuel + steps_among acts
-steps_among (Checkpoint ∷ acts) = steps_among acts
-steps_among (Upgrade ∷ acts) = steps_among acts
+steps_among (act ∷ acts) = fuel_of act + steps_among acts
 
--- A slice of this fuel has failed there, as its own clause says. Or it has answered there, when no
--- line waits, and the checkpoint after it has failed (by what, `CallsInOrder` says).
-pub data IsBrokenAt (guest : Guest) (p : ProcessState) (fuel : ℕ) (exchanges : List Exchange)
-    (steps : ℕ) (q : ProcessState) (why : WorkFault) : Type 0 where
-  in_slice : IsDiskCause guest p fuel exchanges steps q why
-      → IsBrokenAt guest p fuel exchanges steps q why
+-- ---- where it has failed
+
+-- a slice or a batch has failed there, as its own clause says
+abbrev pub IsActCause : Act → Guest → ProcessState → List Exchange → ℕ → ProcessState → WorkFault
+    → Type 0
+IsActCause (Slice fuel) guest p exchanges steps q why =
+    IsDiskCause guest p fuel exchanges steps q why
+IsActCause (Batch fuel most) guest p exchanges steps q why =
+    IsBatchCause guest p fuel exchanges steps q why
+IsActCause Checkpoint guest p exchanges steps q why = ⊥
+IsActCause Upgrade guest p exchanges steps q why = ⊥
+
+-- How many of its releases it has made: all, or of a batch as many as its own clause says.
+abbrev pub IsToldBy : {O : Type 0} → Taking O → Act → (untaken : Type 0) → WorkFault → List Begun
+    → O → O → Type 0
+IsToldBy takes (Batch fuel most) untaken why all outlet outlet' =
+    ToldUpTo takes untaken why all outlet outlet'
+IsToldBy takes act untaken why all outlet outlet' = Releases takes outlet all outlet'
+
+-- This act has failed there. Or it has answered there, when no line waits, and the checkpoint after
+-- it has failed (by what, `CallsInOrder` says).
+pub data IsBrokenAt {O : Type 0} (takes : Taking O) (guest : Guest) (p : ProcessState) (act : Act)
+    (exchanges : List Exchange) (steps : ℕ) (q : ProcessState) (why : WorkFault)
+    (outlet outlet' : O) : Type 0 where
+  in_act : IsActCause act guest p exchanges steps q why
+      → IsToldBy takes act (HasUntakenAnswer guest p exchanges steps q) why
+      (releases_of exchanges) outlet outlet'
+      → IsBrokenAt takes guest p act exchanges steps q why outlet outlet'
   in_checkpoint : (said : Now) → SliceLeadsTo guest p exchanges steps q
-      → IsNow guest q exchanges steps fuel said → IsBrokenAt guest p fuel exchanges steps q why
+      → IsNow guest q exchanges steps (fuel_of act) said
+      → Releases takes outlet (releases_of exchanges) outlet'
+      → IsBrokenAt takes guest p act exchanges steps q why outlet outlet'
 
 module _ {S O : Type 0} (gives : Giving S) (takes : Taking O) (guest : Guest) (p : ProcessState)
     (source source' : S) (outlet outlet' : O) where
@@ -43,33 +66,36 @@ module _ {S O : Type 0} (gives : Giving S) (takes : Taking O) (guest : Guest) (p
     pub leads : SliceLeadsTo guest p exchanges steps process
     pub shows : ShowsProcess new guest process
 
-  -- Slices have led the process to where the last one began, by all of their steps. From there the
-  -- last one has led it to where that slice, or the checkpoint after it, has failed.
-  pub record BreaksOff (fuel all : ℕ) (why : WorkFault) : Type 0 where
+  -- Acts have led the process to where the last one began, by all of their steps. From there the
+  -- last one has led it to where it, or the checkpoint after it, has failed. All lines of the ones
+  -- before it were told.
+  pub record BreaksOff (act : Act) (all : ℕ) (why : WorkFault) : Type 0 where
     pub front : List Exchange
     pub answered : AreAnswered front
     pub steps : ℕ
     pub begun : ProcessState
     pub leads : SliceLeadsTo guest p front steps begun
+    pub between : O
+    pub told : Releases takes outlet (releases_of front) between
     pub back : List Exchange
-    pub exchanged : Exchanges gives takes source outlet (front ++ back) source' outlet'
+    pub asked : AnswersInOrder gives source (asks_of (front ++ back)) source'
     pub wanted : AreWanted guest p (front ++ back)
     pub more : ℕ
     pub process : ProcessState
-    pub broken : IsBrokenAt guest begun fuel back more process why
-    pub counted : steps + fuel ≡ all
+    pub broken : IsBrokenAt takes guest begun act back more process why between outlet'
+    pub counted : steps + fuel_of act ≡ all
 
   -- so it is, and the last slice itself has failed
   pub record BreaksInSlice (fuel all : ℕ) (why : WorkFault) : Type 0 where
-    pub broken : BreaksOff fuel all why
+    pub broken : BreaksOff (Slice fuel) all why
     pub cause : IsDiskCause guest broken.begun fuel broken.back broken.more broken.process why
 
 -- so it is whichever process the worker showed
-abbrev pub BreaksOffFrom : {S O : Type 0} → Giving S → Taking O → ProcessValue → ℕ → ℕ
+abbrev pub BreaksOffFrom : {S O : Type 0} → Giving S → Taking O → ProcessValue → Act → ℕ
     → WorkFault → S → S → O → O → Type 0
-BreaksOffFrom gives takes old fuel all why source source' outlet outlet' =
+BreaksOffFrom gives takes old act all why source source' outlet outlet' =
     (guest : Guest) (p : ProcessState) → ShowsProcess old guest p
-    → BreaksOff gives takes guest p source source' outlet outlet' fuel all why
+    → BreaksOff gives takes guest p source source' outlet outlet' act all why
 
 -- so it is where the slice itself has failed
 abbrev pub BreaksInSliceFrom : {S O : Type 0} → Giving S → Taking O → ProcessValue → ℕ → ℕ
@@ -86,14 +112,20 @@ IsOfQuestion why = (guest : Guest) (p : ProcessState) (fuel : ℕ) (exchanges : 
     (steps : ℕ) (q : ProcessState) → IsDiskCause guest p fuel exchanges steps q why
     → StopsAtQuestion guest p fuel exchanges steps q
 
--- Where a slice fails by this no line waits: an answer or memory was refused, or a number can't be
--- counted. That is of a step or its lines; or of a generation, which is wanted at a question alone.
-abbrev pub LeavesNoLine : WorkFault → Type 0
-LeavesNoLine (work.Work slice.Source) = ⊤
-LeavesNoLine (work.Work slice.Memory) = ⊤
-LeavesNoLine (work.Work (slice.Refused why)) = ⊤
-LeavesNoLine (work.Store why) = IsOfQuestion (work.Store why)
-LeavesNoLine other = ⊥
+-- no line of it waits at a question
+abbrev pub TellsAtOnce : Act → Type 0
+TellsAtOnce (Batch fuel most) = ⊥
+TellsAtOnce act = ⊤
+
+-- Where such an act fails by this no line waits: the source has failed. Or it is no batch, and
+-- memory was refused, or a number can't be counted. That is of a step or its lines; or of a
+-- generation, which is wanted at a question alone.
+abbrev pub LeavesNoLine : Act → WorkFault → Type 0
+LeavesNoLine act (work.Work slice.Source) = ⊤
+LeavesNoLine act (work.Work slice.Memory) = TellsAtOnce act
+LeavesNoLine act (work.Work (slice.Refused why)) = TellsAtOnce act
+LeavesNoLine act (work.Store why) = TellsAtOnce act × IsOfQuestion (work.Store why)
+LeavesNoLine act other = ⊥
 
 -- Each line that the process has written on its way from p to q was released, once and in order,
 -- with its number, and the outlet took it. No other line was released.

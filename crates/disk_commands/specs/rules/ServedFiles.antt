@@ -33,11 +33,12 @@ use Rattle.disk_commands.specs.rules.Upgradings.{upgraded_words}
 abbrev pub named_status : RunJob → Option (List ℕ)
 named_status job = option_map (λ text. text.now) job.status
 
--- The job is that of the words: their fuel, their pace, their clock or the machine's, the seed that
--- they spell or that is in their file, and their status file.
+-- The job is that of the words: their fuel, their pace, their lines for a sync, their clock or the
+-- machine's, the seed that they spell or that is in their file, and their status file.
 pub record IsJobOf (said : RunMeaning) (job : RunJob) : Type 0 where
   pub fuel : non_zero_u64_get job.pace.fuel ≡ said.fuel
   pub every : non_zero_u64_get job.pace.every ≡ said.every
+  pub batch : non_zero_u64_get job.pace.batch ≡ said.batch
   pub clock : job.outside.clock ≡ said.clock
   pub seed : IsSeedFrom said.seed_file said.seed job.outside.seed
   pub status : named_status job ≡ said.status
@@ -45,7 +46,7 @@ pub record IsJobOf (said : RunMeaning) (job : RunJob) : Type 0 where
 -- what such a run is given, with the lines of a reader, and whether a read of it has failed
 abbrev pub job_given : RunJob → Option (List ℕ) → Bool → DiskJob
 job_given job lines failed = disk_job (non_zero_u64_get job.pace.fuel)
-    (non_zero_u64_get job.pace.every) lines job.outside failed
+    (non_zero_u64_get job.pace.every) (non_zero_u64_get job.pace.batch) lines job.outside failed
 
 module _ {D O : Type 0} (medium : D → Medium) (takes : Taking O) (before : RunStart D O)
     (disk' : D) (outlet' : O) (err' : PrinterState) (status : ℕ) where

@@ -27,28 +27,35 @@ use Rattle.disk_commands.specs.rules.BrokenLives.{BreaksOffFrom, steps_among}
 use Rattle.disk_commands.specs.rules.DiskStatuses.{IsReportedOnDisk, opening_fault}
 use Rattle.disk_commands.specs.rules.DiskStatuses.{status_on_disk}
 use Rattle.worker.specs.rules.Outcomes.{life_outcome}
-use Rattle.disk_commands.specs.rules.Hearings.{AsksUnless, IsOfSource}
-use Rattle.disk_commands.specs.rules.Paces.{IsPaced}
+use Rattle.disk_commands.specs.rules.Hearings.{AsksUnless, MayRefuse}
+use Rattle.disk_commands.specs.rules.Paces.{act_at, IsPaced}
 use Rattle.disk_commands.specs.rules.LastWords.{ended_by, over_words}
 
--- What such a run is given: the steps of a slice, the slices between two checkpoints, the lines of
--- a reader, where times and random bytes come from, and whether a read of the reader has failed.
+-- What such a run is given: the steps of a slice, the slices between two checkpoints, how many
+-- lines one sync may serve, the lines of a reader, where times and random bytes come from, and
+-- whether a read of the reader has failed.
 pub record DiskJob : Type 0 where
   pub fuel : ℕ
   pub every : ℕ
+  pub batch : ℕ
   pub lines : Option (List ℕ)
   pub outside : Outside
   pub failed : Bool
 
 -- a job of these parts
-abbrev pub disk_job : ℕ → ℕ → Option (List ℕ) → Outside → Bool → DiskJob
-disk_job fuel every lines outside failed = record {
+abbrev pub disk_job : ℕ → ℕ → ℕ → Option (List ℕ) → Outside → Bool → DiskJob
+disk_job fuel every batch lines outside failed = record {
   fuel = fuel;
   every = every;
+  batch = batch;
   lines = lines;
   outside = outside;
   failed = failed;
 }
+
+-- what its worker is told to do between two checkpoints
+abbrev pub act_given : DiskJob → Act
+act_given given = act_at given.fuel given.batch
 
 -- before such a run: what it is given, the disk, the outlet of its lines, and the printer of its
 -- last words
@@ -103,9 +110,9 @@ pub record IsOnlySynced {D O : Type 0} (medium : D → Medium) (found last : D)
   pub read : OnlyReads (medium synced_disk) (medium last)
   pub same : outlet' ≡ outlet
 
--- The worker isn't opened: a recovery has failed so. Where there is none, that is all. Else all that
--- was done is a life that failed while it was opened, if the answers of the disk fit an image. The
--- outlet took each line, unless that fault is the outlet's.
+-- The worker isn't opened: a recovery has failed so. Where there is none, that is all. Else all
+-- that was done is a life that failed while it was opened, if the answers of the disk fit an image.
+-- The outlet took each line, unless that fault is the outlet's.
 pub record IsUnopenedRun {D O : Type 0} (medium : D → Medium) (takes : Taking O)
     (why : RecoverFault) (found last : D) (outlet outlet' : O) : Type 0 where
   pub recovers : RecoversWorker medium takes (Err why) found last outlet outlet'
@@ -118,8 +125,8 @@ pub record IsUnopenedRun {D O : Type 0} (medium : D → Medium) (takes : Taking 
 
 -- The worker was recovered. Then this disk and this outlet were left, to which some lines were told
 -- once more. All that was done is one life, at this pace, if the answers of that disk fit an image.
--- No question was refused in it, unless its error is that of the source. The outlet took each line,
--- unless its error is the outlet's.
+-- No question was refused in it, unless its error is that of the source, or one by which waiting
+-- lines of a batch were not told. The outlet took each line, unless its error is the outlet's.
 pub record LivesOnDisk {D O : Type 0} (medium : D → Medium) (takes : Taking O)
     (undone : Result (List Act) RecoverFault) (before : RunStart D O) (after : RunEnd D O)
     (source' : SourceState) : Type 0 where
@@ -128,8 +135,9 @@ pub record LivesOnDisk {D O : Type 0} (medium : D → Medium) (takes : Taking O)
   pub retold : O
   pub recovers : RecoversWorker medium takes (Ok worker) before.disk opening before.outlet retold
   pub acts : List Act
-  pub paced : IsPaced before.given.fuel before.given.every acts
-  pub heard : AsksUnless handing (IsOfSource undone) (source_behind before.given worker) source'
+  pub paced : IsPaced (act_given before.given) before.given.every acts
+  pub heard : AsksUnless handing (MayRefuse (act_given before.given) undone)
+      (source_behind before.given worker) source'
   pub heeded : HeedsOutlet takes (SaysOutletFault undone) before.outlet after.outlet
   pub life : (image : DiskImage) → (medium opening).crash_images image
       → (bytes : List ℕ) (config : Settings)
@@ -137,7 +145,7 @@ pub record LivesOnDisk {D O : Type 0} (medium : D → Medium) (takes : Taking O)
       (source_behind before.given worker) before.outlet by_recovery (Some worker) undone after.disk
       source' after.outlet
 
--- The last slice of that life has answered this.
+-- The last act of that life has answered this.
 abbrev pub HasOutcome : {D O : Type 0} {medium : D → Medium} {takes : Taking O}
     {undone : Result (List Act) RecoverFault} {before : RunStart D O} {after : RunEnd D O}
     {source' : SourceState} → LivesOnDisk medium takes undone before after source' → Now → Type 0
@@ -151,8 +159,9 @@ abbrev pub HasBrokenOff : {D O : Type 0} {medium : D → Medium} {takes : Taking
     {source' : SourceState} → LivesOnDisk medium takes undone before after source'
     → WorkFault → Type 0
 HasBrokenOff {takes = takes} {before = before} {after = after} {source' = source'} lives why =
-    BreaksOffFrom handing takes lives.worker.process before.given.fuel (steps_among lives.acts) why
-    (source_behind before.given lives.worker) source' lives.retold after.outlet
+    BreaksOffFrom handing takes lives.worker.process (act_given before.given)
+    (steps_among lives.acts) why (source_behind before.given lives.worker) source' lives.retold
+    after.outlet
 
 -- ---- what a person is told
 
@@ -166,8 +175,8 @@ recovered_line w =
 -- ---- what each exit status says
 
 -- The worker isn't opened, and the status says why. Or a person is told that it is recovered, where
--- one reads along. Then it lives until a slice doesn't just spend its fuel, which is the last one.
--- The last words are those of what that slice has answered. Where a person reads along, they have
+-- one reads along. Then it lives until an act doesn't just spend its fuel, which is the last one.
+-- The last words are those of what that act has answered. Where a person reads along, they have
 -- the number after the requests that were taken. Or a call of it fails, and the status says why: a
 -- fault of the source is told as that of a request line, where there is one. Lines wait then only
 -- where that call's own clause says so.

@@ -1,4 +1,4 @@
-//! Slices and checkpoints of a worker that is open on its disk.
+//! Slices, batches and checkpoints of a worker that is open on its disk.
 //!
 //! # Choices
 //!
@@ -9,11 +9,13 @@ ghost use Rattle.std.specs.Prelude.{◌≡◌, ◌≢◌, ◌≤◌, ◌<◌, �
 ghost use Rattle.std.specs.Int.NonZero.{non_zero_u64_get};
 ghost use Rattle.disk_layout.specs.rules.Places.{total_sectors};
 ghost use Rattle.record_replay.specs.declared.slices.now.Now.TheVariants.{Spent};
-ghost use Rattle.disk_commands.specs.Livings.{scene, steps_left, IsRested};
-ghost use Rattle.disk_commands.specs.Livings.{IsRound, IsBrokenRound, LivesAtPace};
+ghost use Rattle.worker.specs.rules.LifeWords.{Batch, Slice};
+ghost use Rattle.disk_commands.specs.rules.Paces.{act_at};
+ghost use Rattle.disk_commands.specs.Livings.{scene, steps_left, HasDoneOnce, HasFailedOnce};
+ghost use Rattle.disk_commands.specs.Livings.{IsRested, IsRound, IsBrokenRound, LivesAtPace};
 
 use crate::on_disk::watching::Watcher;
-use record_replay::{Now, Outlet, Source};
+use record_replay::{Now, Outlet, Readiness, Source};
 use sector_disk::Disk;
 use std::num::NonZeroU64;
 use worker::{WorkFault, Worker};
@@ -25,6 +27,8 @@ pub struct Pace {
     pub fuel: NonZeroU64,
     /// Slices between two checkpoints.
     pub every: NonZeroU64,
+    /// How many lines one sync may serve: with more than one a slice is a batch.
+    pub batch: NonZeroU64,
 }
 
 /// Whether a slice has only spent its fuel.
@@ -35,6 +39,78 @@ fn is_spent(now: Now) -> bool
         Now::Spent => true,
         Now::Waiting | Now::Ended(_) => false,
     }
+}
+
+/// One slice.
+fn slice_once<D: Disk, S: Source, O: Outlet>(
+    worker: &mut Worker,
+    disk: &mut D,
+    fuel: u64,
+    source: &mut S,
+    outlet: &mut O,
+) -> Result<Now, WorkFault>
+    requires { total_sectors worker.old.store.geometry ≤ (D.medium disk.old).sectors }
+    ensures done { IfOk result (λ now. HasDoneOnce D.medium S.gives O.takes (Slice fuel)
+        (scene worker.old disk.old source.old outlet.old) now
+        (scene worker.new disk.new source.new outlet.new)) }
+    ensures failed { IfErr result (λ why. HasFailedOnce D.medium S.gives O.takes (Slice fuel)
+        (scene worker.old disk.old source.old outlet.old) why
+        disk.new source.new outlet.new) }
+{
+    match worker.slice(disk, fuel, source, outlet) {
+        Ok(now) => Ok(now),
+        Err(fault) => Err(fault),
+    }
+}
+
+/// One batch.
+fn batch_once<D: Disk, S: Source + Readiness, O: Outlet>(
+    worker: &mut Worker,
+    disk: &mut D,
+    fuel: u64,
+    most: u64,
+    source: &mut S,
+    outlet: &mut O,
+) -> Result<Now, WorkFault>
+    requires { total_sectors worker.old.store.geometry ≤ (D.medium disk.old).sectors }
+    ensures done { IfOk result (λ now. HasDoneOnce D.medium S.gives O.takes (Batch fuel most)
+        (scene worker.old disk.old source.old outlet.old) now
+        (scene worker.new disk.new source.new outlet.new)) }
+    ensures failed { IfErr result (λ why. HasFailedOnce D.medium S.gives O.takes (Batch fuel most)
+        (scene worker.old disk.old source.old outlet.old) why
+        disk.new source.new outlet.new) }
+{
+    match worker.batch(disk, fuel, most, source, outlet) {
+        Ok(now) => Ok(now),
+        Err(fault) => Err(fault),
+    }
+}
+
+/// One slice, or one batch where a sync may serve more than one line.
+fn go_once<D: Disk, S: Source + Readiness, O: Outlet>(
+    worker: &mut Worker,
+    disk: &mut D,
+    pace: Pace,
+    source: &mut S,
+    outlet: &mut O,
+) -> Result<Now, WorkFault>
+    requires { total_sectors worker.old.store.geometry ≤ (D.medium disk.old).sectors }
+    ensures done { IfOk result (λ now. HasDoneOnce D.medium S.gives O.takes
+        (act_at (non_zero_u64_get pace.fuel) (non_zero_u64_get pace.batch))
+        (scene worker.old disk.old source.old outlet.old) now
+        (scene worker.new disk.new source.new outlet.new)) }
+    ensures failed { IfErr result (λ why. HasFailedOnce D.medium S.gives O.takes
+        (act_at (non_zero_u64_get pace.fuel) (non_zero_u64_get pace.batch))
+        (scene worker.old disk.old source.old outlet.old) why
+        disk.new source.new outlet.new) }
+    ensures fewer { IfOk result (λ now. now ≡ Spent
+        → steps_left worker.new < steps_left worker.old) }
+{
+    let most = pace.batch.get();
+    if most > 1 {
+        return batch_once(worker, disk, pace.fuel.get(), most, source, outlet);
+    }
+    slice_once(worker, disk, pace.fuel.get(), source, outlet)
 }
 
 /// Saves a worker after a slice that has answered this, and tells the watcher. No line waits, and
@@ -62,9 +138,10 @@ fn rest_on<D: Disk, O: Outlet, T: Watcher>(
     }
 }
 
-/// Slice after slice, at most as many as come between two checkpoints, and then a checkpoint, of
-/// which the watcher is told. Between two slices it is told that the worker runs on.
-fn round<D: Disk, S: Source, O: Outlet, T: Watcher>(
+/// Slice after slice, or batch after batch, at most as many as come between two checkpoints, and
+/// then a checkpoint, of which the watcher is told. Between two slices it is told that the worker
+/// runs on.
+fn round<D: Disk, S: Source + Readiness, O: Outlet, T: Watcher>(
     worker: &mut Worker,
     disk: &mut D,
     pace: Pace,
@@ -74,13 +151,15 @@ fn round<D: Disk, S: Source, O: Outlet, T: Watcher>(
 ) -> Result<Now, WorkFault>
     requires { total_sectors worker.old.store.geometry ≤ (D.medium disk.old).sectors }
     ensures done { IfOk result (λ now. IsRound D.medium S.gives O.takes
-        (non_zero_u64_get pace.fuel) (non_zero_u64_get pace.every)
+        (act_at (non_zero_u64_get pace.fuel) (non_zero_u64_get pace.batch))
+        (non_zero_u64_get pace.every)
         (scene worker.old disk.old source.old outlet.old) now
         (scene worker.new disk.new source.new outlet.new)) }
     ensures fewer { IfOk result (λ now. now ≡ Spent
         → steps_left worker.new < steps_left worker.old) }
     ensures failed { IfErr result (λ why. IsBrokenRound D.medium S.gives O.takes
-        (non_zero_u64_get pace.fuel) (non_zero_u64_get pace.every)
+        (act_at (non_zero_u64_get pace.fuel) (non_zero_u64_get pace.batch))
+        (non_zero_u64_get pace.every)
         (scene worker.old disk.old source.old outlet.old) why
         disk.new source.new outlet.new) }
     ensures room { IfOk result (λ _.
@@ -91,7 +170,7 @@ fn round<D: Disk, S: Source, O: Outlet, T: Watcher>(
     let mut taken = 0;
     loop {
         taken += 1;
-        let now = match worker.slice(disk, pace.fuel.get(), source, outlet) {
+        let now = match go_once(worker, disk, pace, source, outlet) {
             Ok(now) => now,
             Err(fault) => return Err(fault),
         };
@@ -103,7 +182,7 @@ fn round<D: Disk, S: Source, O: Outlet, T: Watcher>(
 }
 
 /// Lives on until the worker is over. It comes to that, or fails, since its steps are numbered.
-pub(crate) fn live<D: Disk, S: Source, O: Outlet, T: Watcher>(
+pub(crate) fn live<D: Disk, S: Source + Readiness, O: Outlet, T: Watcher>(
     worker: &mut Worker,
     disk: &mut D,
     pace: Pace,
@@ -113,7 +192,8 @@ pub(crate) fn live<D: Disk, S: Source, O: Outlet, T: Watcher>(
 ) -> Result<Now, WorkFault>
     requires { total_sectors worker.old.store.geometry ≤ (D.medium disk.old).sectors }
     ensures lives { LivesAtPace D.medium S.gives O.takes
-        (non_zero_u64_get pace.fuel) (non_zero_u64_get pace.every)
+        (act_at (non_zero_u64_get pace.fuel) (non_zero_u64_get pace.batch))
+        (non_zero_u64_get pace.every)
         (scene worker.old disk.old source.old outlet.old) result
         disk.new source.new outlet.new }
     ensures over { IfOk result (λ now. now ≢ Spent) }

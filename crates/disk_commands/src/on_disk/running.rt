@@ -62,6 +62,7 @@ fn job_of<'a>(order: &RunOrder<'a>, seed: [u8; 32]) -> RunJob<'a>
         pace: Pace {
             fuel: order.fuel,
             every: order.every,
+            batch: order.batch,
         },
         outside: Outside {
             seed,
@@ -90,7 +91,7 @@ where
     T: Watcher,
     ensures serves { ServesToEnd D.medium O.takes
         (run_start (disk_job (non_zero_u64_get drive.entry.pace.fuel)
-        (non_zero_u64_get drive.entry.pace.every)
+        (non_zero_u64_get drive.entry.pace.every) (non_zero_u64_get drive.entry.pace.batch)
         (reader_remaining I.remaining source.old.requests.reader.reader) source.old.outside
         source.old.requests.reader.has_failed) disk.old outlet.old err.old)
         disk.new outlet.new err.new result }

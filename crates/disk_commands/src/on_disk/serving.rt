@@ -4,16 +4,17 @@
 //!
 //! - `serve`: what each status of a run of the worker on a disk says (`serves`), with whatever
 //!   outlet it is lent. Where the worker was recovered, all that was done of the disk, the source
-//!   and the outlet are the calls of one life, in order: slices of its fuel, and checkpoints at its
-//!   pace (`IsPaced`). The source begins after the requests that the worker has taken, and at the
-//!   first word of the seed's stream of its generation, and takes texts as long as the worker's
-//!   version has them (`source_behind`). It refuses no question, unless the error is its own
-//!   (`AsksUnless`), and the outlet no line, unless the error is the outlet's (`HeedsOutlet` of
-//!   `worker`). Where `err` is a terminal, its first line says how the worker was recovered
+//!   and the outlet are the calls of one life, in order: slices of its fuel, or batches of so many
+//!   lines, and checkpoints at its pace (`IsPaced`). The source begins after the requests that the
+//!   worker has taken, and at the first word of the seed's stream of its generation, and takes
+//!   texts as long as the worker's version has them (`source_behind`). It refuses no question,
+//!   unless the error is its own (`AsksUnless`), or the waiting lines of a batch weren't told
+//!   (`MayRefuse`). It refuses the outlet no line, unless the error is the outlet's (`HeedsOutlet`
+//!   of `worker`). Where `err` is a terminal, its first line says how the worker was recovered
 //!   (`recovered_line`), and one after `parked` which request comes next (`next_line`): that after
 //!   those which the source of this life has handed out. `laws::lives_on_disk_go_on`: such calls
 //!   are a life that goes on from all that was promised. The last words are those of what its last
-//!   slice has answered (`HasOutcome`). Where a call fails, lines wait only as its own clause says
+//!   act has answered (`HasOutcome`). Where a call fails, lines wait only as its own clause says
 //!   (`HasBrokenOff`). Where the disk shows no worker nothing is written or released. No status is
 //!   above 7 (`known`). It is 7 where the outlet has refused a line, and else only where a write of
 //!   `err` has failed (`refusal`). `laws::seven_is_a_failed_write`: what that comes to where the
@@ -58,7 +59,7 @@ use crate::on_disk::fault::{OnDiskFault, say_disk_fault};
 use crate::on_disk::living::{Pace, live};
 use crate::on_disk::showing::print_number;
 use crate::on_disk::watching::Watcher;
-use command_words::{LineFault, LineReader, Printer, RealTime, RequestSource};
+use command_words::{LineFault, LineReader, Printer, ReadAhead, RealTime, RequestSource};
 use record_replay::{Now, Outlet, SliceFault};
 use sector_disk::Disk;
 use std::alloc::Global;
@@ -84,7 +85,7 @@ pub struct Drive<'a, T> {
 
 /// Runs a worker that is open on its disk: request lines after those that it has taken, texts as
 /// long as its version has them, random bytes of its generation.
-fn go_on<D: Disk, R: LineReader + Drop, C: RealTime + Drop, O: Outlet, T: Watcher>(
+fn go_on<D, R, C, O, T>(
     worker: &mut Worker,
     disk: &mut D,
     pace: Pace,
@@ -92,9 +93,16 @@ fn go_on<D: Disk, R: LineReader + Drop, C: RealTime + Drop, O: Outlet, T: Watche
     outlet: &mut O,
     watcher: &T,
 ) -> Result<Now, OnDiskFault>
+where
+    D: Disk,
+    R: LineReader + ReadAhead + Drop,
+    C: RealTime + Drop,
+    O: Outlet,
+    T: Watcher,
     requires { total_sectors worker.old.store.geometry ≤ (D.medium disk.old).sectors }
     ensures gone { HasGoneOn D.medium O.takes (disk_job (non_zero_u64_get pace.fuel)
-        (non_zero_u64_get pace.every) (R.unread source.old.requests.reader) source.old.outside
+        (non_zero_u64_get pace.every) (non_zero_u64_get pace.batch)
+        (R.unread source.old.requests.reader) source.old.outside
         (R.has_failed source.old.requests.reader)) worker.old disk.old disk.new
         outlet.old outlet.new (R.has_failed source.new.requests.reader) source.new.requests.taken
         result }
@@ -143,7 +151,7 @@ fn serve_open<D, R, C, O, E, T>(
 ) -> u8
 where
     D: Disk,
-    R: LineReader + Drop,
+    R: LineReader + ReadAhead + Drop,
     C: RealTime + Drop,
     O: Outlet,
     E: Write + Drop,
@@ -151,7 +159,7 @@ where
     requires { total_sectors worker.old.store.geometry ≤ (D.medium disk.old).sectors }
     ensures serves { RunsOpen D.medium O.takes worker.old
         (run_start (disk_job (non_zero_u64_get drive.entry.pace.fuel)
-        (non_zero_u64_get drive.entry.pace.every)
+        (non_zero_u64_get drive.entry.pace.every) (non_zero_u64_get drive.entry.pace.batch)
         (R.unread source.old.requests.reader) source.old.outside
         (R.has_failed source.old.requests.reader)) disk.old outlet.old err.old)
         (run_end disk.new outlet.new err.new (R.has_failed source.new.requests.reader)) result }
@@ -189,14 +197,14 @@ pub fn serve<D, R, C, O, E, T>(
 ) -> u8
 where
     D: Disk,
-    R: LineReader + Drop,
+    R: LineReader + ReadAhead + Drop,
     C: RealTime + Drop,
     O: Outlet,
     E: Write + Drop,
     T: Watcher,
     ensures serves { ServesOnDisk D.medium O.takes
         (run_start (disk_job (non_zero_u64_get drive.entry.pace.fuel)
-        (non_zero_u64_get drive.entry.pace.every)
+        (non_zero_u64_get drive.entry.pace.every) (non_zero_u64_get drive.entry.pace.batch)
         (R.unread source.old.requests.reader) source.old.outside
         (R.has_failed source.old.requests.reader)) disk.old outlet.old err.old)
         (run_end disk.new outlet.new err.new (R.has_failed source.new.requests.reader)) result }

@@ -16,6 +16,7 @@ returns-in-Ok-clause-gone g c =
     s.requests.taken s.place (g.R.LineReader.unread s.requests.reader)
     (g.R.LineReader.has_failed s.requests.reader) s.fault) g.O.Outlet.takes
     (disk_job (non_zero_u64_get c.args.pace.fuel) (non_zero_u64_get c.args.pace.every)
+    (non_zero_u64_get c.args.pace.batch)
     (g.R.LineReader.unread c.args.source.now.requests.reader) c.args.source.now.outside
     (g.R.LineReader.has_failed c.args.source.now.requests.reader))
     c.args.worker.now c.args.disk.now c.live.new.disk c.go_on_behind.new.self c.live.new.source
@@ -36,6 +37,7 @@ returns-in-Err-clause-gone g c =
     s.requests.taken s.place (g.R.LineReader.unread s.requests.reader)
     (g.R.LineReader.has_failed s.requests.reader) s.fault) g.O.Outlet.takes
     (disk_job (non_zero_u64_get c.args.pace.fuel) (non_zero_u64_get c.args.pace.every)
+    (non_zero_u64_get c.args.pace.batch)
     (g.R.LineReader.unread c.args.source.now.requests.reader) c.args.source.now.outside
     (g.R.LineReader.has_failed c.args.source.now.requests.reader))
     c.args.worker.now c.args.disk.now c.live.new.disk c.go_on_behind.new.self c.live.new.source

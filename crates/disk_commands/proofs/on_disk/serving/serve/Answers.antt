@@ -12,7 +12,7 @@ returns-in-Ok-clause-serves g c =
     let runs = served.ensures.serves in
     serves_gone g.D.Disk.medium g.O.Outlet.takes
     (run_start (disk_job (non_zero_u64_get c.args.drive.pace.fuel)
-    (non_zero_u64_get c.args.drive.pace.every)
+    (non_zero_u64_get c.args.drive.pace.every) (non_zero_u64_get c.args.drive.pace.batch)
     (g.R.LineReader.unread c.args.source.now.requests.reader) c.args.source.now.outside
     (g.R.LineReader.has_failed c.args.source.now.requests.reader))
     c.args.disk.now c.args.outlet.now c.args.err.now)
@@ -29,7 +29,7 @@ pub returns-in-Err-clause-serves : goal.returns-in-Err-clause-serves
 returns-in-Err-clause-serves g c =
     serves_none g.D.Disk.medium g.O.Outlet.takes
     (run_start (disk_job (non_zero_u64_get c.args.drive.pace.fuel)
-    (non_zero_u64_get c.args.drive.pace.every)
+    (non_zero_u64_get c.args.drive.pace.every) (non_zero_u64_get c.args.drive.pace.batch)
     (g.R.LineReader.unread c.args.source.now.requests.reader) c.args.source.now.outside
     (g.R.LineReader.has_failed c.args.source.now.requests.reader))
     c.args.disk.now c.args.outlet.now c.args.err.now)

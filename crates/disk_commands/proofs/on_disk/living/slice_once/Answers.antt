@@ -1,0 +1,40 @@
+use Rattle.disk_commands.proofs.BreakLemmas.{slice_breaks_off}
+use Rattle.disk_commands.proofs.HearingLemmas.{slice_hears, slice_hears_up_to}
+use Rattle.disk_commands.proofs.TakingLemmas.{slice_takes, slice_heeds}
+use Rattle.disk_commands.proofs.LivingLemmas.{slice_leads, slice_fails}
+use Rattle.disk_commands.proofs.on_disk.living.slice_once.Goals as goal
+
+pub returns-in-Ok-clause-done : goal.returns-in-Ok-clause-done
+returns-in-Ok-clause-done g c =
+    let runs = c.in-Ok.ensures.runs c.requires in
+    record {
+      heard = slice_hears g.S.Source.gives g.O.Outlet.takes c.args.fuel _ _ _ _ _ _ c.in-Ok.now
+          runs.shows runs.done;
+      taken = slice_takes g.S.Source.gives g.O.Outlet.takes c.args.fuel _ _ _ _ _ _ c.in-Ok.now
+          runs.shows runs.done;
+      leads = slice_leads g.D.Disk.medium g.S.Source.gives g.O.Outlet.takes _ _ _ _ _ _ _ _ _ _
+          runs.carries;
+      shows = runs.shows;
+      slices = runs.done;
+      room = runs.room;
+    }
+
+pub returns-in-Err-clause-failed : goal.returns-in-Err-clause-failed
+returns-in-Err-clause-failed g c =
+    let runs = c.in-Err.ensures.runs c.requires in
+    record {
+      heard = slice_hears_up_to g.S.Source.gives g.O.Outlet.takes c.args.fuel _ _ _ _
+          c.args.worker.now.process c.slice.new.self.process c.in-Err.fault
+          c.args.worker.now.has_failed runs.shows runs.failed
+          (λ e. (c.in-Err.ensures.refused e).3);
+      heeded = slice_heeds g.S.Source.gives g.O.Outlet.takes c.args.fuel _ _ _ _
+          c.args.worker.now.process c.slice.new.self.process c.in-Err.fault
+          c.args.worker.now.has_failed runs.shows runs.failed
+          (λ e. (c.in-Err.ensures.refused e).0) (λ e. (c.in-Err.ensures.refused e).4);
+      done = slice_fails g.D.Disk.medium g.S.Source.gives g.O.Outlet.takes _ _ _ _ _ _ _ _ _ _
+          runs.carries;
+      broken = slice_breaks_off g.S.Source.gives g.O.Outlet.takes c.args.fuel _ _ _ _
+          c.args.worker.now.process c.slice.new.self.process c.in-Err.fault
+          c.args.worker.now.has_failed runs.failed (λ e. (c.in-Err.ensures.refused e).0)
+          (λ e. (c.in-Err.ensures.refused e).3) (λ e. (c.in-Err.ensures.refused e).4);
+    }
