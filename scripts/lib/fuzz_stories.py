@@ -13,8 +13,10 @@ ENDED = re.compile(rb"life (\d+) ended (.*)")
 # Texts of requests that guests of the repository know.
 TEXTS = ["hello", "again", "", "5", "-20", "add milk", "list", "drop 1", "clear", "x" * 600]
 
-# Steps of a slice, prefixes of a write, and the calls of a life in which it may be cut.
+# Steps of a slice or a batch, fewer lines than that may wait in one, prefixes of a write, and the
+# calls of a life in which it may be cut.
 STEPS = [0, 1, 7, 20, 42, 100, 400, 2_000, 20_000]
+MOST = [1, 2, 3, 64, 1 << 63]
 FRONTS, CALLS = [0, 1, 8, 255, 495, 500, 504, 511, 512], 700
 
 
@@ -41,9 +43,15 @@ def answers(rng, kinds):
     return [answer(rng, it) for it in taken]
 
 
+def steps(rng):
+    """A slice or a batch."""
+    fuel = rng.choice(STEPS)
+    return f"batch {fuel} {rng.choice(MOST)}" if rng.random() < 0.4 else f"slice {fuel}"
+
+
 def acts(rng):
     """What a worker has to do in a life."""
-    found = [f"slice {rng.choice(STEPS)}" for _ in range(rng.choice([1, 1, 2, 3]))]
+    found = [steps(rng) for _ in range(rng.choice([1, 1, 2, 3]))]
     if rng.random() < 0.4:
         found.insert(rng.randrange(len(found) + 1), "checkpoint")
     return found

@@ -115,6 +115,42 @@ CUTS = [
           + behind(3, 2, [b"hello"], b"world") + "1 o hello\n"),
 ]
 
+# A record whose second sector the first one's 494 bytes leave 13 bytes of, behind that of `hello`.
+LONGER = "b" * 480
+BOTH = "life\nrequest hello\nrequest world\n"
+IN_ONE = recovered(2, 3, (42, 2, 2), form.echo_process((42, 2, 2), (20, (0,)),
+                                                       form.echo_memory([b"hello", b"world"])))
+
+# In a batch lines wait where the worker asks, and one sync serves them. Each disk but for its
+# generation is as by a slice, and what was told before a cut comes again.
+BATCHES = [
+    Story(f"{BOTH}batch 42 2\ncheckpoint\nlife\n", out=CREATED + "1 o hello\n2 o world\n" + IN_ONE),
+    # One of 1 is a slice. Of 2 the power is cut in the write of both records, and then in its sync.
+    Story(f"{BOTH}batch 42 1\nstop {RECORD + 2} 0\nlife\n",
+          out=CREATED + "1 o hello\n" + behind(2, 2, [], b"hello")),
+    Story(f"{BOTH}batch 42 2\nstop {RECORD} 504\nlife\n", out=CREATED + fresh(2, 2)),
+    Story(f"{BOTH}batch 42 2\nstop {RECORD + 1} 0\nlife\n",
+          out=CREATED + behind(2, 2, [b"hello"], b"world") + "1 o hello\n"),
+    # The second record begins in the first sector and ends in the second, in whose write it is cut.
+    Story(f"life\nrequest hello\nrequest {LONGER}\nbatch 42 64\nstop {RECORD + 1} 0\nlife\n",
+          out=CREATED + behind(2, 2, [], b"hello")),
+    # Where the source has no more, or hands over what doesn't fit, both lines are told.
+    Story(f"{BOTH}batch 99 64\nlife\n",
+          out=CREATED + "1 o hello\n2 o world\n" + behind(2, 2, [b"hello"], b"world")
+          + "1 o hello\n"),
+    Story(f"{BOTH}realtime 1\nbatch 99 64\nlife\n",
+          out=CREATED + "1 o hello\n2 o world\nlife 1 ended N2 Source\n"
+          + behind(2, 2, [b"hello"], b"world") + "1 o hello\n"),
+    # The barrier fails behind the last question, and its fault is told. Nothing was.
+    Story(f"{BOTH}realtime 1\nbatch 99 64\nfail {RECORD + 1} 0\nlife\n",
+          out=CREATED + "life 1 ended N1 Disk\n" + behind(2, 2, [b"hello"], b"world")
+          + "1 o hello\n"),
+    # A refused line ends it, and no later one is told.
+    Story(f"{BOTH}batch 99 64\nrefuse 1\nlife\n",
+          out=CREATED + "1 o hello\nlife 1 ended N3 Outlet\n"
+          + behind(2, 2, [b"hello"], b"world") + "1 o hello\n"),
+]
+
 # What the worker that asks for times and random bytes is given, in letters.
 REALTIME, MONOTONIC, RANDOM = b"REALTIME", b"MONOTONE", b"JklmN"
 TIMES = [int.from_bytes(it, "little") for it in (REALTIME, MONOTONIC)]
@@ -292,6 +328,8 @@ def unswept(script, err, module="echo.wasm", words=(), status=2):
 # twice. The least journal of version 2 has 133 sectors.
 WIDER = ("--journal", "133", "--fronts", "0,512")
 CREATION, LINE, CHECKPOINT = Calls(199, 7), Calls(1, 1), Calls(3, 131)
+# A life that goes on from one record writes two sectors of an area and a head, as above.
+RECOVERY = Calls(3, SECOND_RECORD - 1 - 3)
 IN_TWO = CREATION + Calls(133 - SECTORS, 0)
 NO_UPGRADE = "the script's upgrade can't be done again after a cut"
 TWO = "life\nrequest hello\nrequest again\nslice 42\ncheckpoint\n"
@@ -302,7 +340,11 @@ SWEPT = [
     # The first of two lives, whose second request the second one has.
     swept(HELLO + "life\nrequest again\nslice 42\n", CREATION + LINE, 2,
           words=("--life", "1", "--fronts", "505"), fronts=1),
+    # The second one, each cut of which goes on from what the first has left.
+    swept(HELLO + "life\nrequest again\nslice 42\n", RECOVERY + LINE, 2),
     swept(TWO.replace("checkpoint", "upgrade"), IN_TWO + LINE + LINE + CHECKPOINT, 2, words=WIDER),
+    # Both lines of a batch have one write and one sync.
+    swept(TWO.replace("slice 42", "batch 42 64"), CREATION + LINE + CHECKPOINT, 2),
     # It upgrades before it has asked. A recovered worker asks first, and then is upgraded.
     swept("life\nupgrade\nrequest hello\nslice 20\n", IN_TWO + CHECKPOINT + LINE, 1, words=WIDER),
     # Only version 2 takes the second request. Its record has 4,110 bytes, and a sector 494 of them.
@@ -310,8 +352,8 @@ SWEPT = [
           CREATION + Calls(MORE_SECTORS - SECTORS + 9, 1) + LINE + CHECKPOINT, 3,
           words=("--journal", str(MORE_SECTORS), "--fronts", "0,512")),
     # The upgrade of the second life is a checkpoint.
-    swept(f"{HELLO}upgrade\nlife\nupgrade\nrequest again\nslice 42\n", IN_TWO + LINE + CHECKPOINT, 2,
-          words=(*WIDER, "--life", "1")),
+    swept(f"{HELLO}upgrade\nlife\nupgrade\nrequest again\nslice 42\n",
+          IN_TWO + LINE + CHECKPOINT, 2, words=(*WIDER, "--life", "1")),
     # The power is cut in the first life, and the second one upgrades.
     swept(f"{HELLO}life\nrequest again\nslice 42\nupgrade\n", IN_TWO + LINE, 2,
           words=(*WIDER, "--life", "1")),
@@ -319,8 +361,8 @@ SWEPT = [
     swept(f"{HELLO}upgrade\nrequest lost\nslice 10\nlife\nrequest again\nslice 42\n",
           IN_TWO + LINE + CHECKPOINT, 2, words=(*WIDER, "--life", "1")),
     # A script may have an answer that doesn't fit, where nobody takes it.
-    swept("life\nrequest hello\nmonotonic 1\nslice 25\n", CREATION + LINE, 1, words=("--fronts", "505"),
-          fronts=1),
+    swept("life\nrequest hello\nmonotonic 1\nslice 25\n", CREATION + LINE, 1,
+          words=("--fronts", "505"), fronts=1),
     # Plans that can't be run to their end, or done again.
     unswept("life\nrequest hello\nmonotonic 1\nslice 99\n", "the script's life 1 ended N2 Source"),
     unswept("life\nupgrade\n", "the script's life 1 ended N7 JournalTooSmall",
@@ -359,4 +401,5 @@ POWER_CUT = Story(
     + recovered(4, 5, (49, 2, 2), echo_image([b"hello", b"world"])))
 
 STORIES = [
-    *LIVES, *CUTS, POWER_CUT, *ANSWERS, *TROUBLES, *SIZES, *FLOODS, *UPGRADES, *FAULTS, *SWEPT]
+    *LIVES, *CUTS, POWER_CUT, *BATCHES, *ANSWERS, *TROUBLES, *SIZES, *FLOODS, *UPGRADES, *FAULTS,
+    *SWEPT]
