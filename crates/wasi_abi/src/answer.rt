@@ -1,7 +1,9 @@
 //! What a process asks of the outside, and what it is given.
 
-ghost use Rattle.std.specs.Prelude.{◌↔◌, IsTrue};
-ghost use Rattle.wasi_abi.specs.rules.Answers.{Fits, IsRequestText, AreSoManyBytes, IsTime};
+ghost use Rattle.std.specs.Prelude.{◌≡◌, ◌↔◌, false, IsTrue};
+ghost use Rattle.std.specs.List.{AllByRecursion};
+ghost use Rattle.wasi_abi.specs.rules.Answers.{Fits, IsNoNewline, IsRequestText};
+ghost use Rattle.wasi_abi.specs.rules.Answers.{AreSoManyBytes, IsTime};
 
 use wasm_syntax::ItemList;
 
@@ -49,7 +51,18 @@ pub fn fits(limit: usize, question: Question, answer: &Answer) -> bool
 fn is_request(limit: usize, text: &[u8]) -> bool
     ensures { IsTrue result ↔ IsRequestText limit text.now }
 {
-    text.len() <= limit && text.iter().all(|byte| *byte != b'\n')
+    text.len() <= limit && !has_newline(text)
+}
+
+/// Whether a byte is a newline. It looks at all bytes, so that many are compared at once.
+fn has_newline(bytes: &[u8]) -> bool
+    ensures { (result ≡ false) ↔ AllByRecursion IsNoNewline bytes.now }
+{
+    let mut found = false;
+    for byte in bytes {
+        found |= *byte == b'\n';
+    }
+    found
 }
 
 /// Any value of 64 bits is one.
