@@ -9,4 +9,5 @@ mod FolderLemmas
 pub mod CallLemmas
 pub mod Moments
 pub mod RunLemmas
+pub mod CopyLemmas
 pub mod CountLemmas

@@ -1,6 +1,7 @@
 pub mod Answered
 pub mod Calls
 pub mod Causes
+pub mod Copying
 pub mod Counts
 pub mod FaultDisk
 pub mod File

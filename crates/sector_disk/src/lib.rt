@@ -30,8 +30,8 @@
 //! - `FileDisk` logs each call that it made of its file, with the answer. After a write or a sync
 //!   that failed every call answers `Io`, and the file isn't asked (`logged`). `open`, `create` and
 //!   `create_on_device` give the disk of the file at the path, with its lock (`IsOpenedAt`,
-//!   `IsMadeAt`, `IsTakenAt`). Else a call for that path or of that file has failed, and `OpenFault`
-//!   says so (`IsUnopenedAt`, `IsUnmade`, `IsUntaken`).
+//!   `IsMadeAt`, `IsTakenAt`). Else a call for that path or of that file has failed, and
+//!   `OpenFault` says so (`IsUnopenedAt`, `IsUnmade`, `IsUntaken`).
 //! - `rewrite` writes each sector of a disk back as it reads it, and syncs. At no moment does it
 //!   add an image to what reads give or to what a cut may leave (`same`, `any_moment`).
 //! - `store_run` writes sectors one after another, and syncs. A cut at any moment leaves of each
@@ -53,6 +53,7 @@
 //! reads or writes it. `DiskFile`, `DiskFiles` and `NewFiles` are what files have to answer.
 #![tactic(auto)]
 
+mod copying;
 mod disk;
 mod disk_call;
 mod disk_file;
@@ -78,6 +79,7 @@ mod sector;
 mod trouble;
 mod write;
 
+pub use copying::{CopyFault, copy_disk};
 pub use disk::Disk;
 pub use disk_file::DiskFile;
 pub use disk_files::{DiskFiles, NewFile, NewFiles};
