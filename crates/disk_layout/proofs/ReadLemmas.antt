@@ -12,7 +12,6 @@ use Rattle.sha2.specs.Sha256.{sha256}
 use Rattle.disk_layout.specs.declared.fault.LayoutFault.{LayoutFault}
 use Rattle.disk_layout.specs.declared.fault.LayoutFault.TheVariants.{NotAWorker, Version, TooSmall}
 use Rattle.disk_layout.specs.declared.fault.LayoutFault.TheVariants.{Damaged, Memory, Disk}
-use Rattle.disk_layout.specs.declared.damage.Damage.{Damage}
 use Rattle.disk_layout.specs.declared.damage.Damage.TheVariants as damage
 use Rattle.disk_layout.specs.declared.stored.Stored.{Stored}
 use Rattle.disk_layout.specs.rules.Places.{Geometry}

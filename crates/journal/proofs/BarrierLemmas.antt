@@ -177,7 +177,8 @@ module _ (geometry : Geometry) (v : Version) (g used : ℕ) (bytes : List ℕ)
         ap (λ l. records_bytes v records ++ l) on.spells
         ∙ sym (flat_map-append (record_bytes v) records kept) in
         record {
-          holds_bytes = subst (λ (l : List ℕ). HoldsBytes geometry g (used + n) l image) spelled all;
+          holds_bytes = subst (λ (l : List ℕ). HoldsBytes geometry g (used + n) l image) spelled
+              all;
           clean = clean;
         }
 

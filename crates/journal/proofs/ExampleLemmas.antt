@@ -86,8 +86,10 @@ holding_examples = record {
   };
   in_fewer_sectors = λ s.
       (let h : 5 < 5 = s.clean 1 (omega arith) (omega arith) in omega (arith, h));
-  in_more_sectors = λ s. differ 0 1 (ap bit_of (s.holds_bytes.written 2 (omega arith))) (omega arith);
-  of_another_generation = λ s. differ 0 1 (ap bit_of (s.holds_bytes.written 0 (omega arith))) (omega arith);
+  in_more_sectors = λ s.
+      differ 0 1 (ap bit_of (s.holds_bytes.written 2 (omega arith))) (omega arith);
+  of_another_generation = λ s.
+      differ 0 1 (ap bit_of (s.holds_bytes.written 0 (omega arith))) (omega arith);
   before_one_of_earlier = record {
     holds_bytes = record {
       within = omega arith;

@@ -141,7 +141,8 @@ payloads_joined image g s p (suc n) on =
     at_next (λ q t. IsOn g q t) image s p k (on (suc k) (omega arith))) in
     ap (λ l. flat_map payload_of_sector (take (suc n) l)) (drop_next image s means.some)
     ∙ ap (λ k. payload_of_sector (sector_at image s)
-    ++ flat_map payload_of_sector (take n (drop k image))) (let e : suc s ≡ s + 1 = omega arith in e)
+    ++ flat_map payload_of_sector (take n (drop k image)))
+    (let e : suc s ≡ s + 1 = omega arith in e)
     ∙ ap (λ l. payload_of_sector (sector_at image s) ++ l) rest
     ∙ sym (pay_on image g s p n here)
 

@@ -201,7 +201,8 @@ module _ (geometry : Geometry) (g used n : ℕ) (bytes kept : List ℕ) (old new
             let here = whole_at i (omega arith) in
             ap (λ t. is_of g (1 + k) (sector_at new t)) (sym at)
             ∙ ap (λ q. is_of g q (sector_at new (journal_place geometry + used + i))) (sym p)
-            ∙ is_of_true g (1 + used + i) (sector_at new (journal_place geometry + used + i)) here.0)
+            ∙ is_of_true g (1 + used + i) (sector_at new (journal_place geometry + used + i))
+            here.0)
             (cases_lt k used)
 
         pub holds_all : HoldsBytes geometry g (used + n) (bytes ++ kept) new

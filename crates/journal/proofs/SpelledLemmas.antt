@@ -414,7 +414,8 @@ module _ (v : Version) where
           let less = length-drop k bytes in
           let rest = again more (omega (arith, less, le)) (all_drop IsByte k bytes are) in
           let others : List Record = records_at v n more in
-          subst (λ (o : Option Record). SpellsRecords v (with_first o others) bytes) (sym is) (record {
+          subst (λ (o : Option Record). SpellsRecords v (with_first o others) bytes) (sym is)
+          (record {
             rest = rest.rest;
             spelled = sym read.1 ∙ ap (λ l. record_bytes v r ++ l) rest.spelled
                 ∙ sym (append_assoc (record_bytes v r) (records_bytes v others) rest.rest);

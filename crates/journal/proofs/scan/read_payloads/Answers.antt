@@ -65,7 +65,8 @@ returns-then-not-is_of-clause-payloads g c = λ image shows.
     ap (λ (n : ℕ). payloads_from image c.args.generation n 1 c.args.geometry.now.journal_sectors)
     (sym c.journal_place-at.ensures)
     ∙ payloads_end image c.args.generation c.journal_place-at.result 1 c.loop-k.k
-    c.args.geometry.now.journal_sectors le (at.on image before) (λ _. off) ∙ at.payloads image before
+    c.args.geometry.now.journal_sectors le (at.on image before) (λ _. off)
+    ∙ at.payloads image before
 
 pub loop-k-preserved : goal.loop-k-preserved
 loop-k-preserved g c =
