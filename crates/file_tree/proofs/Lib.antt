@@ -13,6 +13,7 @@ pub mod Seen
 pub mod Hangs
 pub mod Removes
 pub mod Forgets
+pub mod RemovedNodes
 pub mod Ends
 pub mod Moves
 pub mod Within

@@ -24,8 +24,8 @@
 //! - Each question answers what the definitions do. `entry` goes by the order of names, `number_at`
 //!   by rising numbers, `entry_after` by a name, whether or not an entry has that.
 //! - Each change is the one of the definitions. `create`, `create_removed` and `resize` may be out
-//!   of memory, and then nothing has changed (`unchanged`). `write`, `remove`, `forget`, `rename`,
-//!   `hang` and `raise_next` can't fail.
+//!   of memory, and then nothing has changed (`unchanged`). `write`, `remove`, `forget`,
+//!   `forget_removed`, `rename`, `hang` and `raise_next` can't fail.
 //! - By `create_removed`, `hang` and `raise_next` a tree is built anew from what was told of it.
 //! - Files lie in chunks of 4,096 bytes, as many as their bytes need (`chunks`).
 //! - `laws`: a rename moves what lies below a path and no other path. Entries tell paths, and a
@@ -56,6 +56,7 @@
 #![tactic(auto)]
 
 mod children;
+mod forgetting;
 pub mod laws;
 pub mod limits;
 mod lookup;

@@ -32,6 +32,8 @@
 //! - `WasiState::release` takes lines off, `WasiState::end` emits what is not finished, and
 //!   `WasiState::widen` sets the version. The host goes on showing the rules' host (`shown`). All
 //!   getters are what the rules' host has.
+//! - `WasiState::into_tree` is what a host leaves to another one: its files, without removed nodes.
+//!   `WasiState::go_on_from` gives files, time and number of lines to a first host.
 //!
 //! # Definitions to read
 //!

@@ -202,6 +202,13 @@ impl Streams {
         self.released += count as u64;
     }
 
+    /// So many lines were released before those that wait.
+    pub fn count_from(&mut self, released: u64)
+        ensures { self.new ≡ record self.old { released = released } }
+    {
+        self.released = released;
+    }
+
     /// Emits what is not finished. It takes no memory.
     pub fn end(&mut self, alloc: Global)
         ensures { self.new ≡ output_ended self.old }

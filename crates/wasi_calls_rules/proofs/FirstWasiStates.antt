@@ -1,18 +1,21 @@
--- What a process begins with is a host, and so is a host in another version.
-use Rattle.std.proofs.Common.{◌≡◌, ℕ, zero, suc, ◌≤◌, List, [], refl, ap, ◌∙◌, arith}
-use Rattle.std.proofs.Common.{replicate, inl, inr, true}
-use Rattle.std.specs.Prelude.{Option, Some, None, IfSome, slice_get}
+-- What a process begins with is a host. So is that with other files, and a host in another version.
+use Rattle.std.proofs.Common.{◌≡◌, ℕ, zero, suc, ◌≤◌, List, [], ◌∷◌, refl, sym, ap, subst, ◌∙◌}
+use Rattle.std.proofs.Common.{arith, replicate, inl, inr, Bool, true, false, cond, eqb, filter}
+use Rattle.std.specs.Prelude.{Option, Some, None, IfSome, slice_get, find, is_some}
 use Rattle.std.specs.List.{AllByRecursion}
 use Rattle.std.proofs.lemmas.Bool.Decides.{eqb_tells}
-use Rattle.file_tree.specs.rules.Files.{FileNode, Directory, IsFiles, fresh}
+use Rattle.file_tree.specs.rules.Files.{Files, FileNode, Directory, IsFiles, used, only_named}
+use Rattle.file_tree.specs.rules.Files.{fresh}
 use Rattle.wasi_abi.specs.declared.version.Version.{Version}
 use Rattle.wasi_abi.specs.rules.Numbers.{directory_rights, all_rights, input_rights}
 use Rattle.wasi_abi.specs.rules.Numbers.{output_rights, are_within}
-use Rattle.wasi_calls_rules.specs.WasiStates.{Stream, Node, Descriptor, stream, stream_rights}
-use Rattle.wasi_calls_rules.specs.WasiStates.{first_descriptors, first_host, IsDescriptor}
+use Rattle.wasi_abi.specs.rules.Answers.{IsTime}
+use Rattle.wasi_calls_rules.specs.WasiStates.{Stream, Node, Descriptor, Line, stream, stream_rights}
+use Rattle.wasi_calls_rules.specs.WasiStates.{first_descriptors, first_host, IsThere, IsDescriptor}
 use Rattle.wasi_calls_rules.specs.WasiStates.{IsStreamAt}
 use Rattle.wasi_calls_rules.specs.WasiStates.{IsRemoved, WasiState, IsWasiState}
 use Rattle.wasi_calls_rules.proofs.KeptLines.{nothing_unfinished}
+use Rattle.wasi_calls_rules.proofs.NodesAfter.{there_node, path_node}
 
 pub fresh_is_files : IsFiles fresh
 fresh_is_files = record {
@@ -34,19 +37,35 @@ root_descriptor = record {
   inheriting = all_rights;
 }
 
-root_is : IsDescriptor fresh root_descriptor
-root_is =
-    record { there = tt; offset = omega arith; flags = omega arith; base = refl; inheriting = refl }
+abbrev AreDescriptors : Files → List (Option Descriptor) → Type 0
+AreDescriptors fs ds = AllByRecursion (λ (o : Option Descriptor). IfSome o (IsDescriptor fs)) ds
 
-stream_is : (n rights : ℕ) → are_within rights all_rights ≡ true
-    → IsDescriptor fresh (stream n rights)
-stream_is n rights e =
+root_is : (fs : Files) → IsThere fs (Node 1) → IsDescriptor fs root_descriptor
+root_is fs there = record {
+  there = there;
+  offset = omega arith;
+  flags = omega arith;
+  base = refl;
+  inheriting = refl;
+}
+
+stream_is : (fs : Files) (n rights : ℕ) → are_within rights all_rights ≡ true
+    → IsDescriptor fs (stream n rights)
+stream_is fs n rights e =
     record { there = tt; offset = omega arith; flags = omega arith; base = e; inheriting = refl }
 
-none_of : (n : ℕ)
-    → AllByRecursion (λ (o : Option Descriptor). IfSome o (IsDescriptor fresh)) (replicate n None)
-none_of zero = tt
-none_of (suc n) = (tt, none_of n)
+none_of : (fs : Files) (n : ℕ) → AreDescriptors fs (replicate n None)
+none_of fs zero = tt
+none_of fs (suc n) = (tt, none_of fs n)
+
+first_are : (fs : Files) → IsThere fs (Node 1) → AreDescriptors fs first_descriptors
+first_are fs there = (
+  stream_is fs 0 input_rights refl,
+  (
+    stream_is fs 1 output_rights refl,
+    (stream_is fs 2 output_rights refl, (root_is fs there, none_of fs 60)),
+  ),
+)
 
 own : (n s : ℕ) (d : Descriptor) → n ≤ 2 → Some (Some (stream n (stream_rights n))) ≡ Some (Some d)
     → d.target ≡ Stream s → IsStreamAt n s d
@@ -92,10 +111,7 @@ first_is_host room version arguments environment = record {
   files = fresh_is_files;
   within = omega arith;
   places = refl;
-  descriptors = (
-    stream_is 0 input_rights refl,
-    (stream_is 1 output_rights refl, (stream_is 2 output_rights refl, (root_is, none_of 60))),
-  );
+  descriptors = first_are fresh tt;
   streams = streams_kept;
   root = (root_descriptor, refl, refl);
   unread = tt;
@@ -104,6 +120,69 @@ first_is_host room version arguments environment = record {
   second = nothing_unfinished;
   open_nodes = λ k gone. absurd (kept k gone);
 }
+
+-- ---- with other files
+
+-- the first of these nodes under a number has a path, where the first one has
+first_or_later : (x n : FileNode) (is : Bool) (later : Option FileNode) → is_some x.path ≡ true
+    → (later ≡ Some n → is_some n.path ≡ true) → cond is (Some x) later ≡ Some n
+    → is_some n.path ≡ true
+first_or_later x n true later here there e =
+    let same : x ≡ n = cc in
+    subst (λ (z : FileNode). is_some z.path ≡ true) same here
+first_or_later x n false later here there e = there e
+
+abbrev with_paths : List FileNode → List FileNode
+with_paths ns = filter (λ (n : FileNode). is_some n.path) ns
+
+found_named : (ns : List FileNode) (k : ℕ) (n : FileNode)
+    → find (λ (m : FileNode). eqb m.number k) (with_paths ns) ≡ Some n → is_some n.path ≡ true
+found_named [] k n e = absurd (cc)
+found_named (x ∷ ns) k n e = by_test (is_some x.path) refl e (found_named ns k n)
+  where
+    by_test : (b : Bool) → is_some x.path ≡ b
+        → find (λ (m : FileNode). eqb m.number k) (cond b (x ∷ with_paths ns) (with_paths ns))
+        ≡ Some n
+        → (find (λ (m : FileNode). eqb m.number k) (with_paths ns) ≡ Some n
+        → is_some n.path ≡ true) → is_some n.path ≡ true
+    by_test true is e later =
+        first_or_later x n (eqb x.number k)
+        (find (λ (m : FileNode). eqb m.number k) (with_paths ns)) is later e
+    by_test false is e later = later e
+
+-- where each node has a path, none was removed
+pub none_removed : (fs : Files) (k : ℕ) → only_named fs ≡ fs → IsRemoved fs k → ⊥
+none_removed fs k named gone =
+    let n : FileNode = gone.0 in
+    let same : with_paths fs.nodes ≡ fs.nodes = ap (λ (z : Files). z.nodes) named in
+    let found = subst (λ ns. find (λ (m : FileNode). eqb m.number k) ns ≡ Some n) (sym same) gone.1
+    in
+    let has : is_some n.path ≡ true = found_named fs.nodes k n found in
+    let lacks : is_some n.path ≡ false = ap is_some gone.2 in
+    let both : true ≡ false = sym has ∙ lacks in
+    cc
+
+-- with the first descriptors, and the files, lines and time that another one has left
+pub of_files_left : (h : WasiState) (fs : Files) (lines : List Line) (time : ℕ) → IsWasiState h
+    → h.descriptors ≡ first_descriptors → IsFiles fs → only_named fs ≡ fs → used fs ≤ h.room
+    → IsTime time
+    → IsWasiState (record h { files = fs; lines = lines; last_monotonic = time })
+of_files_left h fs lines time is opened files named within small = record {
+  files = files;
+  within = within;
+  places = is.places;
+  descriptors = subst (AreDescriptors fs) (sym opened)
+      (first_are fs (there_node fs 1 (path_node fs 1 [] files.root)));
+  streams = is.streams;
+  root = is.root;
+  unread = is.unread;
+  last_monotonic = small;
+  first = is.first;
+  second = is.second;
+  open_nodes = λ k gone. absurd (none_removed fs k named gone);
+}
+
+-- ---- in another version
 
 pub of_any_version : (h : WasiState) (version : Version) → IsWasiState h
     → IsWasiState (record h { version = version })

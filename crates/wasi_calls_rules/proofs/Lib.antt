@@ -13,6 +13,7 @@ pub mod KeptLines
 pub mod FileState
 pub mod KeepsWasiStates
 pub mod FirstWasiStates
+pub mod FilesOfBytes
 pub mod Puts
 pub mod Supplies
 pub mod SmallCallRules

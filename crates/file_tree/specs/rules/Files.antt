@@ -3,7 +3,7 @@
 use Rattle.std.specs.Prelude.{◌≡◌, ◌≢◌, ◌⊎◌, ℕ, ◌+◌, ◌<◌, ◌≤◌, ◌==◌, nat_lt, not, ◌&&◌, Bool, true}
 use Rattle.std.specs.Prelude.{false, if◌then◌else◌, List, [], ◌∷◌, ◌++◌, length, map, filter}
 use Rattle.std.specs.Prelude.{sum_by, find, Option, Some, None, option_map, IfSome}
-use Rattle.std.specs.Option.{option_and_then}
+use Rattle.std.specs.Option.{option_and_then, is_some}
 use Rattle.std.specs.List.{AllByRecursion}
 use Rattle.std.specs.Str.{IsUtf8}
 use Rattle.file_tree.specs.declared.limits.TheConstants.{NODES, FILE_BYTES, NAME_BYTES}
@@ -236,6 +236,10 @@ forgotten k fs = record {
   nodes = filter (λ (n : FileNode). not (n.number == k)) fs.nodes;
   next = fs.next;
 }
+
+-- the files without the nodes that have no path; no number is used again
+abbrev pub only_named : Files → Files
+only_named fs = record fs { nodes = filter (λ (n : FileNode). is_some n.path) fs.nodes }
 
 -- what is after a front
 abbrev pub path_behind : Path → Path → Option Path

@@ -60,3 +60,11 @@ held_released count held = record {
 -- the same in version 2
 abbrev pub held_widened : HeldWasiState → HeldWasiState
 held_widened held = record held { host = record held.host { version = Two } }
+
+-- the same with the files and the last monotonic time that another host has left, after so many
+-- lines that were released
+abbrev pub held_succeeding : Files → ℕ → ℕ → HeldWasiState → HeldWasiState
+held_succeeding files last_monotonic released held = record {
+  released = released;
+  host = record held.host { files = files; last_monotonic = last_monotonic };
+}

@@ -10,6 +10,7 @@ mod nodes;
 mod opening;
 mod renaming;
 mod restoring;
+mod succession;
 mod texts;
 
 ghost use Rattle.std.specs.Prelude.{◌≡◌, ◌+◌, ◌*◌, ◌<◌, ◌≤◌, ◌^◌, ◌++◌, length, IfOk, OnOk, OnErr};
