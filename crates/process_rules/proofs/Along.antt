@@ -3,8 +3,9 @@ use Rattle.std.proofs.Common.{◌≡◌, ℕ, zero, suc, ◌+◌, List, [], ◌�
 use Rattle.std.proofs.Common.{Some, None, refl, ◌≤◌, subst, arith}
 use Rattle.wasi_abi.specs.declared.answer.Answer.{Answer}
 use Rattle.process_rules.specs.Processes.{Ending, ProcessState, Guest}
-use Rattle.process_rules.specs.Runs.{Kept, Given, Wider, IsWidening, Moves, Runs, none, step, take}
-use Rattle.process_rules.specs.Runs.{widen}
+use Rattle.process_rules.specs.Origins.{Origin}
+use Rattle.process_rules.specs.Runs.{Kept, Given, Wider, Succeeds, IsWidening, Moves, Runs, none}
+use Rattle.process_rules.specs.Runs.{step, take, widen, succeed}
 use Rattle.process_rules.specs.Behind.{IsNarrowTo}
 use Rattle.process_rules.proofs.Growing.{runs_count}
 use Rattle.process_rules.proofs.OneProcess.{moves_once, one_or_other}
@@ -68,9 +69,27 @@ not_widened guest P n a k b s p r kept more others along up at e =
     next_widens zero list up e = absurd (cc)
     next_widens (suc b) [] up e = absurd (cc)
     next_widens (suc b) (Given x ∷ list) up e = absurd (cc)
+    next_widens (suc b) (Succeeds o ∷ list) up e = absurd (cc)
     next_widens (suc b) (Wider t ∷ list) up e =
         let same : t ≡ s = cc in
         subst (λ z. suc r.steps ≤ z) same up
+
+-- nor goes on from another one
+none_succeeds : (guest : Guest) (P : ℕ → ℕ → ProcessState → Type 0) (n a k b : ℕ)
+    (p r : ProcessState) (kept more others : List Kept) (o : Origin)
+    → Along guest P n a p kept k r → IsNarrowTo more (suc r.steps)
+    → Succeeds o ∷ others ≡ firsts b (kept ++ more) → ⊥
+none_succeeds guest P n a k b p r kept more others o along up e =
+    next_succeeds b (kept ++ more)
+    (up_to_end guest P n a k (suc r.steps) p r kept more along up) e
+  where
+    next_succeeds : (b : ℕ) (list : List Kept) → IsNarrowTo list (suc r.steps)
+        → Succeeds o ∷ others ≡ firsts b list → ⊥
+    next_succeeds zero list up e = cc
+    next_succeeds (suc b) [] up e = cc
+    next_succeeds (suc b) (Given x ∷ list) up e = cc
+    next_succeeds (suc b) (Wider t ∷ list) up e = cc
+    next_succeeds (suc b) (Succeeds from ∷ list) up e = omega (arith, up)
 
 -- It ends, so any process that some of its answers lead to, and of what was kept after them, is on
 -- it, where that widens nothing up to its end.
@@ -115,6 +134,9 @@ all_known guest P n a k p r kept more prefix (suc b) j q why over up
 all_known guest P n a k p r kept more prefix b j q why over up along
     (widen {p = p'} {steps = s} {kept = others} at rest) e =
     absurd (not_widened guest P n a k b s p' r kept more others along up at e)
+all_known guest P n a k p r kept more prefix b j q why over up along
+    (succeed {p = p'} {o = o} {kept = others} at sum rest) e =
+    absurd (none_succeeds guest P n a k b p' r kept more others o along up e)
 
 -- so it is of a whole run
 pub known_from_start : (guest : Guest) (P : ℕ → ℕ → ProcessState → Type 0) (k : ℕ)

@@ -1,5 +1,5 @@
 -- What is reached counts its steps and its answers, and has ended where its program has.
-use Rattle.std.proofs.Common.{◌≡◌, ℕ, suc, ◌+◌, ◌≤◌, List, [], ◌∷◌, length, Option, Some, None}
+use Rattle.std.proofs.Common.{◌≡◌, ℕ, ◌+◌, ◌≤◌, List, [], ◌∷◌, Option, Some, None}
 use Rattle.std.proofs.Common.{refl, sym, ap, subst, arith}
 use Rattle.std.specs.Prelude.{Ok, Err, reverse, map, slice_get}
 use Rattle.wasm_syntax.specs.declared.value.Value.{Value}
@@ -17,11 +17,11 @@ use Rattle.wasi_calls_rules.specs.WasiStates.{WasiState}
 use Rattle.wasi_calls_rules.specs.Checks.{Refuses, Ends, Asks as Inquires, Ruling}
 use Rattle.wasi_calls_rules.specs.CallRules.{call_rule}
 use Rattle.process_rules.specs.Processes.{Ending, ProcessState, Guest, IsStart, closed_at}
+use Rattle.process_rules.specs.Origins.{Origin, IsSucceeding, succeeding}
 use Rattle.process_rules.specs.Runs.{Next, On, Over, Wants, Nowhere, after_call_rule, after_call}
 use Rattle.process_rules.specs.Runs.{after_counted_step, next_of, taken, request_taken, stepped}
-use Rattle.process_rules.specs.Runs.{LeadsTo}
-use Rattle.process_rules.specs.Runs.{Moves, Kept, widened, IsWidening, Runs, none, step, take}
-use Rattle.process_rules.specs.Runs.{widen}
+use Rattle.process_rules.specs.Runs.{LeadsTo, Moves, Kept, widened, IsWidening, Runs, none, step}
+use Rattle.process_rules.specs.Runs.{take, widen, succeed, answers_in}
 use Rattle.process_rules.specs.laws.Laws.{ReachedAreCounted, IsClosed, ReachedAreClosed}
 use Rattle.process_rules.proofs.Growing.{move_counts, runs_count, start_counts}
 use Rattle.process_rules.proofs.ReachedStates.{beginning, move_version}
@@ -181,8 +181,24 @@ widening_taken k s p at t =
       closed = closed_still p.ended p t.closed;
     }
 
+closed_after : (o : Origin) (ending : Option Ending) (p : ProcessState) → IsClosed ending p
+    → IsClosed ending (succeeding o p)
+closed_after o None p closed = closed
+closed_after o (Some why) p closed = closed
+
+succeeding_taken : (o : Origin) (k : ℕ) (p : ProcessState) → IsSucceeding o p → HasTaken k p
+    → HasTaken (k + o.answers) (succeeding o p)
+succeeding_taken o k p at t =
+    let few = at.origin.answers in
+    record {
+      answers = omega (arith, at.no_answers, t.answers);
+      few_answers = omega (arith, few);
+      few_requests = at.origin.requests;
+      closed = closed_after o p.ended p t.closed;
+    }
+
 runs_taken : (guest : Guest) (k : ℕ) (p q : ProcessState) (kept : List Kept) (n : ℕ)
-    → Runs guest p kept n q → HasTaken k p → HasTaken (k + length kept) q
+    → Runs guest p kept n q → HasTaken k p → HasTaken (k + answers_in kept) q
 runs_taken guest k p q kept n none t =
     let same : k ≡ k + 0 = omega arith in
     subst (λ j. HasTaken j q) same t
@@ -190,13 +206,19 @@ runs_taken guest k p q kept n (step {p = p'} {q = next} {kept = kept'} {n = n'} 
     runs_taken guest k next q kept' n' rest (none_taken guest k p' next moves t)
 runs_taken guest k p q kept n
     (take {p = p'} {q = next} {a = a} {kept = kept'} {n = n'} moves rest) t =
-    let whole : k + 1 + length kept' ≡ k + suc (length kept') = omega arith in
+    let whole : k + 1 + answers_in kept' ≡ k + (1 + answers_in kept') = omega arith in
     subst (λ j. HasTaken j q) whole
     (runs_taken guest (k + 1) next q kept' n' rest (one_taken guest k p' next a moves t))
 runs_taken guest k p q kept n (widen {p = p'} {steps = s} {kept = kept'} {n = n'} at rest) t =
-    let whole : k + 1 + length kept' ≡ k + suc (length kept') = omega arith in
+    let whole : k + 1 + answers_in kept' ≡ k + (1 + answers_in kept') = omega arith in
     subst (λ j. HasTaken j q) whole
     (runs_taken guest (k + 1) (widened p') q kept' n' rest (widening_taken k s p' at t))
+runs_taken guest k p q kept n (succeed {p = p'} {o = o} {kept = kept'} {k = n'} at sum rest) t =
+    let whole : k + o.answers + answers_in kept' ≡ k + (o.answers + answers_in kept') = omega arith
+    in
+    subst (λ j. HasTaken j q) whole
+    (runs_taken guest (k + o.answers) (succeeding o p') q kept' n' rest
+    (succeeding_taken o k p' at t))
 
 -- ---- the beginning
 

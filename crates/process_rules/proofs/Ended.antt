@@ -4,10 +4,12 @@ use Rattle.wasm_syntax.specs.declared.module.Module.{Module}
 use Rattle.wasm_semantics.specs.Validity.{IsValid}
 use Rattle.wasi_abi.specs.rules.Configs.{Settings}
 use Rattle.process_rules.specs.Processes.{ProcessState, Guest, Ending}
-use Rattle.process_rules.specs.Runs.{Kept, widened, Runs, none, step, take, widen, Reaches}
+use Rattle.process_rules.specs.Origins.{succeeding}
+use Rattle.process_rules.specs.Runs.{Kept, widened, Runs, none, step, take, widen, succeed, Reaches}
 use Rattle.process_rules.specs.laws.Examples.{ComesTo}
 use Rattle.process_rules.proofs.OneStart.{start_once}
-use Rattle.process_rules.proofs.OneProcess.{moves_once, one_or_other, never_late, one_process}
+use Rattle.process_rules.proofs.OneProcess.{moves_once, one_or_other, never_late, never_then}
+use Rattle.process_rules.proofs.OneProcess.{one_process}
 
 none_longer : (guest : Guest) (p q r : ProcessState) (why : Ending) (kept : List Kept) (n k : ℕ)
     → q.ended ≡ Some why → Runs guest p kept n q → Runs guest p kept k r → k ≤ n
@@ -43,6 +45,18 @@ none_longer guest p q r why kept n k over (widen at rest)
 none_longer guest p q r why kept n k over (widen {p = p'} {kept = kept'} {n = n'} at rest)
     (widen {n = k'} at' rest') =
     none_longer guest (widened p') q r why kept' n' k' over rest rest'
+none_longer guest p q r why kept n k over
+    (step {p = p'} {q = q'} {kept = kept'} {n = n'} m rest) (succeed at sum others) =
+    absurd (never_then guest p' q' q kept' n' m rest refl)
+none_longer guest p q r why kept n k over (succeed at sum rest)
+    (step {p = p'} {q = r'} {kept = kept'} {n = k'} m' rest') =
+    absurd (never_then guest p' r' r kept' k' m' rest' refl)
+none_longer guest p q r why kept n k over
+    (succeed {p = p'} {o = o} {kept = kept'} {k = n'} at sum rest)
+    (succeed {k = k'} at' sum' rest') =
+    let shorter : k' ≤ n' =
+    none_longer guest (succeeding o p') q r why kept' n' k' over rest rest' in
+    omega (arith, shorter, sum, sum')
 
 no_more : (m : Module) (config : Settings) (kept : List Kept) (n k : ℕ) (why : Ending)
     (p other : ProcessState) → IsValid m → p.ended ≡ Some why

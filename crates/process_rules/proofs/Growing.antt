@@ -1,6 +1,6 @@
 -- A step is counted, and its lines are after those that were there.
-use Rattle.std.proofs.Common.{◌≡◌, ℕ, ◌+◌, List, [], ◌∷◌, ◌++◌, Option, Some, None, refl, ◌∙◌, ap}
-use Rattle.std.proofs.Common.{arith, append_assoc}
+use Rattle.std.proofs.Common.{◌≡◌, ℕ, ◌+◌, List, [], ◌∷◌, ◌++◌, Option, Some, None, refl, sym, ap}
+use Rattle.std.proofs.Common.{◌∙◌, arith, append_assoc}
 use Rattle.std.specs.Prelude.{Ok, Err, reverse, map, slice_get}
 use Rattle.wasm_syntax.specs.declared.module.Module.{Module}
 use Rattle.wasm_syntax.specs.declared.value.Value.{Value}
@@ -18,10 +18,11 @@ use Rattle.wasi_calls_rules.specs.CallRules.{call_rule}
 use Rattle.wasi_calls_rules.specs.laws.Laws.{Emits}
 use Rattle.wasi_calls_rules.proofs.EmitsLines.{emits_none, call_rules_emit}
 use Rattle.process_rules.specs.Processes.{ProcessState, Guest, IsStart, closed, closed_at}
+use Rattle.process_rules.specs.Origins.{succeeding}
 use Rattle.process_rules.specs.Runs.{Next, On, Over, Wants, Nowhere, after_call_rule, after_call}
 use Rattle.process_rules.specs.Runs.{after_counted_step, next_of, stepped, LeadsTo, Moves, none}
 use Rattle.process_rules.specs.Runs.{step, take}
-use Rattle.process_rules.specs.Runs.{widened, widen}
+use Rattle.process_rules.specs.Runs.{widened, widen, succeed}
 use Rattle.process_rules.specs.laws.Laws.{RunsCount, RunsEmit}
 
 pub emits_on : (g h k : WasiState) → Emits g h → Emits h k → Emits g k
@@ -139,6 +140,11 @@ runs_count guest p q kept n (take {p = p'} {q = next} {a = a} {kept = kept'} {n 
     omega arith
 runs_count guest p q kept n (widen {p = p'} {kept = kept'} {n = m} at rest) =
     runs_count guest (widened p') q kept' m rest
+runs_count guest p q kept n
+    (succeed {p = p'} {o = o} {kept = kept'} {n = whole} {k = k} at sum rest) =
+    let others = runs_count guest (succeeding o p') q kept' k rest in
+    let none = at.no_steps in
+    omega (arith, others, none, sum)
 
 pub runs_emit : RunsEmit
 runs_emit guest p q kept n (none {p = p'}) = emits_none p'.host p'.host refl
@@ -151,3 +157,5 @@ runs_emit guest p q kept n (take {p = p'} {q = next} {a = a} {kept = kept'} {n =
 runs_emit guest p q kept n (widen {p = p'} {kept = kept'} {n = m} at rest) =
     emits_on p'.host (widened p').host q.host (emits_none p'.host (widened p').host refl)
     (runs_emit guest (widened p') q kept' m rest)
+runs_emit guest p q kept n (succeed at sum rest) =
+    record { lines = q.host.lines; are = ap (λ lines. lines ++ q.host.lines) (sym at.no_lines) }

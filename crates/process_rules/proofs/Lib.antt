@@ -15,3 +15,5 @@ pub mod ReachedStates
 pub mod Counted
 pub mod ReachedTyped
 pub mod WideningHolds
+pub mod Succeeding
+pub mod SucceedingHolds

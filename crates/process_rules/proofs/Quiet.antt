@@ -9,8 +9,9 @@ use Rattle.wasm_semantics.specs.Steps.{more as more_steps, Advances}
 use Rattle.wasi_calls_rules.specs.WasiStates.{WasiState}
 use Rattle.process_rules.specs.Processes.{Ending, ProcessState, Guest, Exited, Trapped, over}
 use Rattle.process_rules.specs.Processes.{closed, closed_at}
+use Rattle.process_rules.specs.Origins.{succeeding}
 use Rattle.process_rules.specs.Runs.{Given, widened, after_counted_step, stepped, LeadsTo, Moves}
-use Rattle.process_rules.specs.Runs.{Runs, none as no_run, step, take, widen}
+use Rattle.process_rules.specs.Runs.{Runs, none as no_run, step, take, widen, succeed}
 use Rattle.process_rules.specs.Behind.{Syncs}
 use Rattle.process_rules.specs.Owing.{MovesQuietly, RunsQuietly, none, more}
 use Rattle.process_rules.specs.laws.Laws.{RunsJoin, QuietRunsJoin, QuietRunsAreRuns, StepsAreQuiet}
@@ -33,6 +34,9 @@ runs_join guest p q r front rest n k
     (take moves (runs_join guest next q r kept rest m k a b))
 runs_join guest p q r front rest n k (widen {p = p'} {steps = s} {kept = kept} {n = m} at a) b =
     widen at (runs_join guest (widened p') q r kept rest m k a b)
+runs_join guest p q r front rest n k
+    (succeed {p = p'} {o = o} {kept = kept} {n = m} {k = j} at sum a) b =
+    succeed at (omega (arith, sum)) (runs_join guest (succeeding o p') q r kept rest j k a b)
 
 pub quiet_runs_join : QuietRunsJoin
 quiet_runs_join guest p q r n k (none {p = p'}) b =

@@ -31,26 +31,27 @@ use Rattle.wasi_calls_rules.proofs.WasiStateBytes.{call_rules_keep_states_of_byt
 use Rattle.wasi_calls_rules.proofs.ShortInput.{call_rules_keep_input_short}
 use Rattle.wasi_calls_rules.proofs.KeepsWasiStates.{call_rules_keep_wasi_states}
 use Rattle.wasi_calls_rules.proofs.KeptLines.{nothing_unfinished}
-use Rattle.wasi_calls_rules.proofs.FirstWasiStates.{first_is_host, of_any_version}
+use Rattle.wasi_calls_rules.proofs.FirstWasiStates.{first_is_host, of_any_version, of_files_left}
 use Rattle.process_rules.specs.Processes.{ProcessState, Guest, IsStart, host_of, closed_at}
+use Rattle.process_rules.specs.Origins.{Origin, IsSucceeding, succeeding}
 use Rattle.process_rules.specs.Runs.{Next, On, Over, Wants, Nowhere, after_call_rule, after_call}
 use Rattle.process_rules.specs.Runs.{after_counted_step, next_of, stepped, LeadsTo, Moves, Kept}
-use Rattle.process_rules.specs.Runs.{widened}
-use Rattle.process_rules.specs.Runs.{Given, Wider, IsWidening, Runs, none, step, take, widen}
-use Rattle.process_rules.specs.Runs.{version_after}
+use Rattle.process_rules.specs.Runs.{widened, Given, Wider, Succeeds, IsWidening, Runs, none, step}
+use Rattle.process_rules.specs.Runs.{take, widen, succeed, version_after}
 use Rattle.process_rules.specs.laws.Laws.{ReachedAreConfigured, NodesAreFew}
 use Rattle.process_rules.specs.laws.Laws.{ReachedVersions, WidenedOnce}
 use Rattle.process_rules.specs.laws.Laws.{ReachedInputIsShort, ReachedHaveWasiStates}
+use Rattle.process_rules.proofs.Growing.{move_counts, runs_count, start_counts}
 use Rattle.process_rules.proofs.MemoryKept.{GoesToBytes, step_bytes, reduced_store}
 use Rattle.process_rules.proofs.MemoryKept.{begins_with_bytes}
 
 -- ---- one node a step at most
 
-record Follows (h after : WasiState) : Type 0 where
-  configured : IsConfiguredAs h after
-  version : after.version ≡ h.version
-  nodes : MakesOneNodeAtMost h after
-  input : HasShortInput h → HasShortInput after
+pub record Follows (h after : WasiState) : Type 0 where
+  pub configured : IsConfiguredAs h after
+  pub version : after.version ≡ h.version
+  pub nodes : MakesOneNodeAtMost h after
+  pub input : HasShortInput h → HasShortInput after
 
 same_host : (h : WasiState) → Follows h h
 same_host h = record {
@@ -145,7 +146,7 @@ configured_on g h k a b = record {
   environment = b.environment ∙ a.environment;
 }
 
-runs_configured : (guest : Guest) (p q : ProcessState) (kept : List Kept) (n : ℕ)
+pub runs_configured : (guest : Guest) (p q : ProcessState) (kept : List Kept) (n : ℕ)
     → Runs guest p kept n q → IsConfiguredAs p.host q.host
 runs_configured guest p q kept n (none {p = p'}) = (same_host p'.host).configured
 runs_configured guest p q kept n (step {p = p'} {q = next} {kept = kept'} {n = m} moves rest) =
@@ -159,6 +160,10 @@ runs_configured guest p q kept n (widen {p = p'} {kept = kept'} {n = m} at rest)
     configured_on p'.host (widened p').host q.host
     (record { room = refl; arguments = refl; environment = refl })
     (runs_configured guest (widened p') q kept' m rest)
+runs_configured guest p q kept n (succeed {p = p'} {o = o} {kept = kept'} {k = m} at sum rest) =
+    configured_on p'.host (succeeding o p').host q.host
+    (record { room = refl; arguments = refl; environment = refl })
+    (runs_configured guest (succeeding o p') q kept' m rest)
 
 -- a widened process stays in version 2
 pub runs_wide : (guest : Guest) (p q : ProcessState) (kept : List Kept) (n : ℕ)
@@ -171,6 +176,8 @@ runs_wide guest p q kept n
     runs_wide guest next q kept' m rest (move_version guest p' next (Some a) moves ∙ wide)
 runs_wide guest p q kept n (widen {p = p'} {kept = kept'} {n = m} at rest) wide =
     runs_wide guest (widened p') q kept' m rest refl
+runs_wide guest p q kept n (succeed at sum rest) wide =
+    absurd (let narrow = at.narrow in cc)
 
 -- one of version 1 comes to the version to which the kept answers lead
 pub runs_version : (guest : Guest) (p q : ProcessState) (kept : List Kept) (n : ℕ)
@@ -183,20 +190,31 @@ runs_version guest p q kept n
     runs_version guest next q kept' m rest (move_version guest p' next (Some a) moves ∙ first)
 runs_version guest p q kept n (widen {p = p'} {kept = kept'} {n = m} at rest) first =
     runs_wide guest (widened p') q kept' m rest refl
+runs_version guest p q kept n (succeed {p = p'} {o = o} {kept = kept'} {k = m} at sum rest) first =
+    runs_version guest (succeeding o p') q kept' m rest first
+
+-- one node a step at most, beside the root and the number that comes next
+abbrev HasFewNodes : ProcessState → Type 0
+HasFewNodes p = p.host.files.next ≤ p.steps + 2
+
+move_nodes : (guest : Guest) (p q : ProcessState) (given : Option Answer) → Moves guest p given q
+    → HasFewNodes p → HasFewNodes q
+move_nodes guest p q given moves few =
+    let one = (move_follows guest p q given moves).nodes.most in
+    let counted = move_counts guest p q given moves in
+    omega (arith, one, counted, few)
 
 runs_nodes : (guest : Guest) (p q : ProcessState) (kept : List Kept) (n : ℕ) → Runs guest p kept n q
-    → q.host.files.next ≤ p.host.files.next + n
-runs_nodes guest p q kept n (none {p = p'}) = omega arith
-runs_nodes guest p q kept n (step {p = p'} {q = next} {kept = kept'} {n = m} moves rest) =
-    let one = (move_follows guest p' next None moves).nodes.most in
-    let others = runs_nodes guest next q kept' m rest in
-    omega (arith, one, others)
-runs_nodes guest p q kept n (take {p = p'} {q = next} {a = a} {kept = kept'} {n = m} moves rest) =
-    let one = (move_follows guest p' next (Some a) moves).nodes.most in
-    let others = runs_nodes guest next q kept' m rest in
-    omega (arith, one, others)
-runs_nodes guest p q kept n (widen {p = p'} {kept = kept'} {n = m} at rest) =
-    runs_nodes guest (widened p') q kept' m rest
+    → HasFewNodes p → HasFewNodes q
+runs_nodes guest p q kept n none few = few
+runs_nodes guest p q kept n (step {p = p'} {q = next} {kept = kept'} {n = m} moves rest) few =
+    runs_nodes guest next q kept' m rest (move_nodes guest p' next None moves few)
+runs_nodes guest p q kept n (take {p = p'} {q = next} {a = a} {kept = kept'} {n = m} moves rest)
+    few = runs_nodes guest next q kept' m rest (move_nodes guest p' next (Some a) moves few)
+runs_nodes guest p q kept n (widen {p = p'} {kept = kept'} {n = m} at rest) few =
+    runs_nodes guest (widened p') q kept' m rest few
+runs_nodes guest p q kept n (succeed {p = p'} {o = o} {kept = kept'} {k = m} at sum rest) few =
+    runs_nodes guest (succeeding o p') q kept' m rest at.origin.next
 
 -- version 2 has room for what version 1 had
 widening_short : (s : ℕ) (p : ProcessState) → IsWidening p s → HasShortInput p.host
@@ -215,6 +233,8 @@ runs_input guest p q kept n (take {p = p'} {q = next} {a = a} {kept = kept'} {n 
     runs_input guest next q kept' m rest ((move_follows guest p' next (Some a) moves).input short)
 runs_input guest p q kept n (widen {p = p'} {steps = s} {kept = kept'} {n = m} at rest) short =
     runs_input guest (widened p') q kept' m rest (widening_short s p' at short)
+runs_input guest p q kept n (succeed {p = p'} {o = o} {kept = kept'} {k = m} at sum rest) short =
+    runs_input guest (succeeding o p') q kept' m rest short
 
 -- the process before its first step
 abbrev pub beginning : (c : Configuration) → Settings → ProcessState
@@ -227,7 +247,7 @@ beginning c config = record {
   ended = None;
 }
 
-start_follows : (m : Module) (config : Settings) (guest : Guest) (p : ProcessState)
+pub start_follows : (m : Module) (config : Settings) (guest : Guest) (p : ProcessState)
     → IsStart m config guest p → Follows (host_of config) p.host
 start_follows m config guest p start =
     subst (λ (z : ProcessState). Follows (host_of config) z.host) (sym start.is)
@@ -277,6 +297,8 @@ never_again guest p q whole (x ∷ front) rest n steps
     (move_version guest p' next (Some a) moves ∙ wide) behind
 never_again guest p q whole front rest n steps (widen at others) wide e =
     let narrow = at.narrow in cc
+never_again guest p q whole front rest n steps (succeed at sum others) wide e =
+    let narrow = at.narrow in cc
 
 runs_widen_once : (guest : Guest) (p q : ProcessState) (whole front rest : List Kept) (n steps : ℕ)
     → Runs guest p whole n q → whole ≡ front ++ Wider steps ∷ rest → version_after front ≡ One
@@ -286,6 +308,8 @@ runs_widen_once guest p q whole (x ∷ front) rest n steps
     (step {q = next} {kept = whole'} {n = m} moves others) e =
     runs_widen_once guest next q whole' (x ∷ front) rest m steps others e
 runs_widen_once guest p q whole (Wider s ∷ front) rest n steps (take moves others) e = absurd (cc)
+runs_widen_once guest p q whole (Succeeds o ∷ front) rest n steps (take moves others) e =
+    absurd (cc)
 runs_widen_once guest p q whole (Given x ∷ front) rest n steps
     (take {q = next} {kept = whole'} {n = m} moves others) e =
     let behind : whole' ≡ front ++ Wider steps ∷ rest = cc in
@@ -295,6 +319,15 @@ runs_widen_once guest p q whole (Wider s ∷ front) rest n steps
     (widen {p = p'} {kept = whole'} {n = m} at others) e =
     let behind : whole' ≡ front ++ Wider steps ∷ rest = cc in
     absurd (never_again guest (widened p') q whole' front rest m steps others refl behind)
+runs_widen_once guest p q whole (Succeeds o ∷ front) rest n steps (widen at others) e = absurd (cc)
+runs_widen_once guest p q whole (Given x ∷ front) rest n steps (succeed at sum others) e =
+    absurd (cc)
+runs_widen_once guest p q whole (Wider s ∷ front) rest n steps (succeed at sum others) e =
+    absurd (cc)
+runs_widen_once guest p q whole (Succeeds o ∷ front) rest n steps
+    (succeed {p = p'} {o = from} {kept = whole'} {k = m} at sum others) e =
+    let behind : whole' ≡ front ++ Wider steps ∷ rest = cc in
+    runs_widen_once guest (succeeding from p') q whole' front rest m steps others behind
 
 pub widened_once : WidenedOnce
 widened_once m config front rest n steps p r =
@@ -303,8 +336,11 @@ widened_once m config front rest n steps p r =
 pub nodes_are_few : NodesAreFew
 nodes_are_few m config kept n p r =
     let first = start_next m config r.guest r.start r.begins in
-    let others = runs_nodes r.guest r.start p kept n r.runs in
-    omega (arith, first, others)
+    let none = start_counts m config r.guest r.start r.begins in
+    let few : HasFewNodes r.start = omega (arith, first, none) in
+    let counted = runs_count r.guest r.start p kept n r.runs in
+    let all = runs_nodes r.guest r.start p kept n r.runs few in
+    omega (arith, all, counted, none)
 
 pub reached_input_is_short : ReachedInputIsShort
 reached_input_is_short m config kept n p r =
@@ -424,6 +460,20 @@ widened_holds p k = record {
   host = of_any_version p.host Two k.host;
 }
 
+pub succeeding_holds : (o : Origin) (p : ProcessState) → IsSucceeding o p → ProcessHolds p
+    → ProcessHolds (succeeding o p)
+succeeding_holds o p at k = record {
+  memory_bytes = k.memory_bytes;
+  of_bytes = record {
+    files = at.origin.of_bytes;
+    unread = k.of_bytes.unread;
+    arguments = k.of_bytes.arguments;
+    environment = k.of_bytes.environment;
+  };
+  host = of_files_left p.host o.files o.lines o.last_monotonic k.host at.opened at.origin.files
+      at.origin.named at.origin.within at.origin.time;
+}
+
 runs_hold : (guest : Guest) (p q : ProcessState) (kept : List Kept) (n : ℕ) → Runs guest p kept n q
     → ProcessHolds p → ProcessHolds q
 runs_hold guest p q kept n none k = k
@@ -433,6 +483,8 @@ runs_hold guest p q kept n (take {p = p'} {q = next} {a = a} {kept = kept'} {n =
     runs_hold guest next q kept' m rest (move_holds guest p' next (Some a) moves k)
 runs_hold guest p q kept n (widen {p = p'} {kept = kept'} {n = m} at rest) k =
     runs_hold guest (widened p') q kept' m rest (widened_holds p' k)
+runs_hold guest p q kept n (succeed {p = p'} {o = o} {kept = kept'} {k = m} at sum rest) k =
+    runs_hold guest (succeeding o p') q kept' m rest (succeeding_holds o p' at k)
 
 pub start_holds : (m : Module) (config : Settings) (guest : Guest) (p : ProcessState) → IsValid m
     → IsOfBytes (host_of config) → IsStart m config guest p → ProcessHolds p

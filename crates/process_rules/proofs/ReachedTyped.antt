@@ -41,16 +41,15 @@ use Rattle.wasi_calls_rules.proofs.Halting.{exit_alone_ends}
 use Rattle.wasi_calls_rules.proofs.KeepsMemory.{call_rules_keep_memory, call_rules_keep_bytes}
 use Rattle.process_rules.specs.Processes.{ProcessState, Guest, AreCalls}
 use Rattle.process_rules.specs.Processes.{closed_at}
+use Rattle.process_rules.specs.Origins.{succeeding}
 use Rattle.process_rules.specs.Runs.{Next, On, Over, Wants, Nowhere, given_by, after_call_rule}
 use Rattle.process_rules.specs.Runs.{after_call}
 use Rattle.process_rules.specs.Runs.{after_counted_step, next_of, stepped, LeadsTo, Moves, Kept}
-use Rattle.process_rules.specs.Runs.{Runs, none}
-use Rattle.process_rules.specs.Runs.{step, take, widened, widen}
+use Rattle.process_rules.specs.Runs.{Runs, none, step, take, widened, widen, succeed}
 use Rattle.process_rules.specs.laws.Laws.{OffersCalls, IsSmallEnding, IsTypedProcess}
 use Rattle.process_rules.specs.laws.Laws.{ReachedAreTyped}
 use Rattle.process_rules.proofs.ReachedStates.{Holds, ProcessHolds, move_holds, widened_holds}
-use Rattle.process_rules.proofs.ReachedStates.{start_holds}
-use Rattle.process_rules.proofs.ReachedStates.{beginning}
+use Rattle.process_rules.proofs.ReachedStates.{succeeding_holds, start_holds, beginning}
 use Rattle.process_rules.proofs.OneStart.{entry_once, item_number}
 
 -- ---- the types of the calls
@@ -294,6 +293,9 @@ module _ (c : Context) (guest : Guest) (typed : IsTypedProgram c guest.program)
       (move_typed p' next (Some a) moves holds t)
   runs_typed p q kept n (widen {p = p'} {kept = kept'} {n = k} at rest) holds t =
       runs_typed (widened p') q kept' k rest (widened_holds p' holds)
+      (record { typed = t.typed; reduced = t.reduced; ended = t.ended })
+  runs_typed p q kept n (succeed {p = p'} {o = o} {kept = kept'} {k = k} at sum rest) holds t =
+      runs_typed (succeeding o p') q kept' k rest (succeeding_holds o p' at holds)
       (record { typed = t.typed; reduced = t.reduced; ended = t.ended })
 
 -- ---- the beginning

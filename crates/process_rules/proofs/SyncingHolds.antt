@@ -25,7 +25,8 @@ use Rattle.wasi_calls_rules.specs.WasiStates.{Line}
 use Rattle.wasi_calls_rules.specs.Checks.{Bytes}
 use Rattle.wasi_calls_rules.specs.CallRules.{IsSync}
 use Rattle.process_rules.specs.Processes.{ProcessState, Guest, Exited, IsStart, host_of}
-use Rattle.process_rules.specs.Runs.{Kept, Given, Wider, On, Wants, next_of, after_counted_step}
+use Rattle.process_rules.specs.Runs.{Kept, Given, Wider, Succeeds, On, Wants, next_of}
+use Rattle.process_rules.specs.Runs.{after_counted_step}
 use Rattle.process_rules.specs.Runs.{Runs}
 use Rattle.process_rules.specs.Runs.{Reaches}
 use Rattle.process_rules.specs.Behind.{AnswersBehindLine, IsLine, Syncs, AnswersBehindSync}
@@ -357,6 +358,7 @@ later : (more : List Kept) (k : ℕ) → IsNarrowTo more 19 → k ≤ 19 → IsN
 later [] k up few = tt
 later (Given x ∷ more) k up few = tt
 later (Wider s ∷ more) k up few = omega (arith, up, few)
+later (Succeeds o ∷ more) k up few = absurd (omega (arith, up))
 
 -- so many answers as are there
 all_there : (more : List Kept) (a : ℕ) → a ≤ length (abc_and_more more)

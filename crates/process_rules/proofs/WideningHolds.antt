@@ -117,7 +117,7 @@ silent config =
     (goes (λ few. absurd (omega arith)) (exits config)
     (at_last (λ few. absurd (omega arith))))))))))
 
-silent_there : (config : Settings) (n : ℕ) (p : ProcessState) → Reaches hello config [] n p
+pub silent_there : (config : Settings) (n : ℕ) (p : ProcessState) → Reaches hello config [] n p
     → n ≤ 4 → p.host.lines ≡ []
 silent_there config n p r few =
     let same = start_once hello config r.guest (guest_of config) r.start (first config)

@@ -14,11 +14,13 @@ use Rattle.wasi_calls_rules.specs.WasiStates.{Line}
 use Rattle.wasi_calls_rules.specs.Checks.{Done}
 use Rattle.wasi_calls_rules.specs.CallRules.{call_rule, IsSync}
 use Rattle.process_rules.specs.Processes.{ProcessState, Guest}
-use Rattle.process_rules.specs.Runs.{Kept, Wider, Reaches}
+use Rattle.process_rules.specs.Runs.{Kept, Wider, Succeeds, Reaches}
 
--- If what is kept next widens the process, then after so many steps at least.
+-- If what is kept next widens the process, then after so many steps at least. Before it goes on
+-- from another one it takes no step.
 abbrev pub IsNarrowTo : List Kept → ℕ → Type 0
 IsNarrowTo (Wider steps ∷ kept) step = step ≤ steps
+IsNarrowTo (Succeeds o ∷ kept) step = step ≤ 0
 IsNarrowTo _ step = Unit {0}
 
 -- the first a of the kept answers, exactly, lead to a process that has emitted line i, counted from

@@ -1,4 +1,5 @@
 pub mod Processes
+pub mod Origins
 pub mod Runs
 pub mod Behind
 pub mod Owing

@@ -24,6 +24,7 @@ use Rattle.wasi_calls_rules.specs.Checks.{Refuses, Ends, Asks as Inquires, Rulin
 use Rattle.wasi_calls_rules.specs.CallRules.{call_rule}
 use Rattle.process_rules.specs.Processes.{Ending, Exited, Trapped, ProcessState, Guest, IsStart}
 use Rattle.process_rules.specs.Processes.{over, closed}
+use Rattle.process_rules.specs.Origins.{Origin, IsSucceeding, succeeding}
 
 -- ---- one counted step
 
@@ -119,10 +120,12 @@ pub record Moves (guest : Guest) (p : ProcessState) (given : Option Answer) (q :
 
 -- ---- runs
 
--- what is kept of the outside: its answers, and that the process was widened after so many steps
+-- What is kept of the outside: its answers, that the process was widened after so many steps, and
+-- what it goes on from, if it succeeds another.
 pub data Kept : Type 0 where
   Given : Answer → Kept
   Wider : (steps : ℕ) → Kept
+  Succeeds : Origin → Kept
 
 -- The same process in version 2. That it was widened counts among the answers that it has taken.
 abbrev pub widened : ProcessState → ProcessState
@@ -133,7 +136,8 @@ pub record IsWidening (p : ProcessState) (steps : ℕ) : Type 0 where
   pub narrow : p.host.version ≡ One
   pub at : steps ≡ p.steps
 
--- so many counted steps, which took exactly these answers, in order; a widening is no step
+-- So many counted steps, which took exactly these answers, in order. A widening is no step. A
+-- process that goes on from another, before its first step, has the steps of that one.
 pub data Runs (guest : Guest) : ProcessState → List Kept → ℕ → ProcessState → Type 0 where
   none : {p : ProcessState} → Runs guest p [] 0 p
   step : {p q r : ProcessState} {kept : List Kept} {n : ℕ} → Moves guest p None q
@@ -142,12 +146,27 @@ pub data Runs (guest : Guest) : ProcessState → List Kept → ℕ → ProcessSt
       → Runs guest q kept n r → Runs guest p (Given a ∷ kept) (suc n) r
   widen : {p r : ProcessState} {steps : ℕ} {kept : List Kept} {n : ℕ} → IsWidening p steps
       → Runs guest (widened p) kept n r → Runs guest p (Wider steps ∷ kept) n r
+  succeed : {p r : ProcessState} {o : Origin} {kept : List Kept} {n k : ℕ} → IsSucceeding o p
+      → n ≡ o.steps + k → Runs guest (succeeding o p) kept k r
+      → Runs guest p (Succeeds o ∷ kept) n r
 
 -- the version of what these lead to
 abbrev pub version_after : List Kept → Version
 version_after [] = One
 version_after (Given a ∷ kept) = version_after kept
 version_after (Wider steps ∷ kept) = Two
+version_after (Succeeds o ∷ kept) = version_after kept
+
+-- what is kept before the first answer of a process of this version that succeeds another
+abbrev pub first_kept : Version → Origin → List Kept
+first_kept One o = Succeeds o ∷ []
+first_kept Two o = Succeeds o ∷ Wider o.steps ∷ []
+
+-- How many answers these are. A widening counts as one, and those of the process before too.
+abbrev pub answers_in : List Kept → ℕ
+answers_in [] = 0
+answers_in (Succeeds o ∷ kept) = o.answers + answers_in kept
+answers_in (x ∷ kept) = 1 + answers_in kept
 
 -- The module under a configuration reaches this process on these answers, all of them, in n counted
 -- steps.

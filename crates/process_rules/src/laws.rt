@@ -10,11 +10,14 @@ ghost use Rattle.process_rules.specs.laws.Laws.{ReachedVersions, ReachedInputIsS
 ghost use Rattle.process_rules.specs.laws.Laws.{ReachedHaveWasiStates};
 ghost use Rattle.process_rules.specs.laws.Laws.{ReachedAreCounted, ReachedAreClosed};
 ghost use Rattle.process_rules.specs.laws.Laws.{ReachedAreTyped};
+ghost use Rattle.process_rules.specs.laws.Laws.{SucceedsFirst, SuccessorsHaveComeFrom};
+ghost use Rattle.process_rules.specs.laws.Laws.{EachMaySucceed, OneSuccessor, AnswersJoin};
 ghost use Rattle.wasi_abi.specs.rules.Configs.{Settings};
 ghost use Rattle.process_rules.specs.Runs.{Kept};
 ghost use Rattle.process_rules.specs.laws.Examples.{HelloEnds, EchoEnds, IdleEnds, TrappingEnds};
 ghost use Rattle.process_rules.specs.laws.BehindExamples.{SyncingOwes};
 ghost use Rattle.process_rules.specs.laws.WideningExamples.{HelloIsWidened, EchoWantsMore};
+ghost use Rattle.process_rules.specs.laws.SucceedingExamples.{HelloGoesOn};
 
 /// The same answers lead to the same process.
 pub fn one_process_is_reached()
@@ -42,6 +45,17 @@ pub fn runs_count_and_emit()
 pub fn widening_is_all()
     ensures all { WideningIsAll }
     ensures once { WidenedOnce }
+{}
+
+/// What goes on from another process does so once, before its first step, and keeps the lines that
+/// were there. It may do so where it has room for the files, and is then one process. Answers are
+/// added up, those before it too.
+pub fn successors_come_first()
+    ensures first { SucceedsFirst }
+    ensures on { SuccessorsHaveComeFrom }
+    ensures each { EachMaySucceed }
+    ensures one { OneSuccessor }
+    ensures answers { AnswersJoin }
 {}
 
 /// So are steps after which nothing is owed, which are a run without answers that emits no line.
@@ -109,4 +123,10 @@ pub fn worked_examples()
 pub fn worked_widenings()
     ensures hello { (config : Settings) → HelloIsWidened config }
     ensures echo { (config : Settings) → EchoWantsMore config }
+{}
+
+/// So does one that goes on from another process, with one line more. Without room for the files it
+/// reaches nothing.
+pub fn worked_successors()
+    ensures { (config : Settings) → HelloGoesOn config }
 {}

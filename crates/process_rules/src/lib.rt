@@ -26,15 +26,20 @@
 //!   counted its steps and its answers (`reached_processes_are_counted`).
 //! - `widening_is_all`: after the same steps, a widened process is the other one but for the
 //!   widening (`all`), and none is widened twice (`once`).
+//! - `successors_come_first`: a process goes on from another one once, before its first step
+//!   (`first`), and keeps the lines that were there (`on`). Where it has room it may (`each`), and
+//!   is then one process (`one`). Answers are added up (`answers`).
 //! - `quiet_runs_join`, `steps_are_quiet`, `last_step_ends`, `trap_ends`: steps after which nothing
 //!   is owed join. Rules that ask the host for nothing leave nothing owed, up to the end or a trap.
-//! - `worked_examples`, `worked_widenings`: what whole modules come to, under any configuration.
+//! - `worked_examples`, `worked_widenings`, `worked_successors`: what whole modules come to, under
+//!   any configuration.
 //!
 //! # Definitions to read
 //!
-//! In `specs/`: `ProcessState`, `Guest`, `IsStart` (`Processes.antt`); `Moves`, `Runs`, `Reaches`,
-//! `widened`, `version_after` (`Runs.antt`); `IsLine`, `AnswersBehindLine`, `AnswersBehindSync`,
-//! `IsNarrowTo` (`Behind.antt`); `IsOwing`, `RunsQuietly` (`Owing.antt`).
+//! In `specs/`: `ProcessState`, `Guest`, `IsStart` (`Processes.antt`); `Origin`, `IsSucceeding`
+//! (`Origins.antt`); `Moves`, `Runs`, `Reaches`, `widened`, `version_after` (`Runs.antt`);
+//! `IsLine`, `AnswersBehindLine`, `AnswersBehindSync`, `IsNarrowTo` (`Behind.antt`); `IsOwing`,
+//! `RunsQuietly` (`Owing.antt`).
 //!
 //! # Who may touch what
 //!
@@ -45,7 +50,8 @@
 //! # Choices
 //!
 //! - **Steps, answers and requests are in the process state.** The kept answers are a list of a
-//!   type of their own (`Kept`). A widening is among them, and counts as one.
+//!   type of their own (`Kept`). A widening is among them, and counts as one. What a process goes
+//!   on from is kept first, and counts as all that were taken before.
 //! - **Demands are by covering**: on so many answers, or fewer, a line is emitted. No minimum is
 //!   ever computed.
 #![tactic(auto)]

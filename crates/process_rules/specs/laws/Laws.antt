@@ -15,13 +15,16 @@ use Rattle.wasi_abi.specs.declared.call.Call.{Call}
 use Rattle.wasi_abi.specs.rules.Calls.{module_name, name_of, call_type_of}
 use Rattle.wasi_abi.specs.rules.Configs.{Settings}
 use Rattle.wasi_abi.specs.rules.Answers.{AreBytes}
-use Rattle.wasi_calls_rules.specs.WasiStates.{IsWasiState}
+use Rattle.wasi_calls_rules.specs.WasiStates.{Line, IsWasiState}
 use Rattle.wasi_calls_rules.specs.laws.Laws.{Emits, IsConfiguredAs, IsOfBytes}
-use Rattle.wasi_abi.specs.declared.version.Version.TheVariants.{One}
+use Rattle.wasi_abi.specs.declared.version.Version.{Version}
+use Rattle.wasi_abi.specs.declared.version.Version.TheVariants.{One, Two}
 use Rattle.wasi_abi.specs.rules.Versions.{text_limit, widenings}
 use Rattle.process_rules.specs.Processes.{Ending, ProcessState, Guest, Exited, Trapped, over}
-use Rattle.process_rules.specs.Processes.{host_of}
-use Rattle.process_rules.specs.Runs.{Kept, Wider, widened, Moves, Runs, version_after, Reaches}
+use Rattle.process_rules.specs.Processes.{host_of, IsStart}
+use Rattle.process_rules.specs.Origins.{Origin, IsOrigin, IsSucceeding, succeeding}
+use Rattle.process_rules.specs.Runs.{Kept, Wider, Succeeds, widened, Moves, Runs, version_after}
+use Rattle.process_rules.specs.Runs.{first_kept, answers_in, Reaches}
 use Rattle.process_rules.specs.Behind.{Syncs}
 use Rattle.process_rules.specs.Owing.{RunsQuietly}
 
@@ -74,6 +77,50 @@ WideningIsAll =
     (guest : Guest) (p q r : ProcessState) (kept : List Kept) (n steps : ℕ)
     → Runs guest p (kept ++ Wider steps ∷ []) n r → steps ≡ r.steps → Runs guest p kept n q
     → r ≡ widened q
+
+-- ---- processes that go on from others
+
+-- What goes on from another one does so once, before its first step.
+abbrev pub SucceedsFirst : Type 0
+SucceedsFirst =
+    (m : Module) (config : Settings) (front rest : List Kept) (o : Origin) (n : ℕ)
+    (p : ProcessState) → Reaches m config (front ++ Succeeds o ∷ rest) n p → front ≡ []
+
+-- what has come from there: no fewer steps, and lines after those that were there
+pub record HasComeFrom (o : Origin) (n : ℕ) (p : ProcessState) : Type 0 where
+  pub origin : IsOrigin p.host.room o
+  pub counts : o.steps ≤ n
+  pub lines : List Line
+  pub are : p.host.lines ≡ o.lines ++ lines
+
+abbrev pub SuccessorsHaveComeFrom : Type 0
+SuccessorsHaveComeFrom =
+    (m : Module) (config : Settings) (kept : List Kept) (o : Origin) (n : ℕ) (p : ProcessState)
+    → Reaches m config (Succeeds o ∷ kept) n p → HasComeFrom o n p
+
+-- a process in this version, which begins in version 1
+abbrev pub in_version : Version → ProcessState → ProcessState
+in_version One p = p
+in_version Two p = widened p
+
+-- Whatever has room for it may go on from an origin, in each version.
+abbrev pub EachMaySucceed : Type 0
+EachMaySucceed =
+    (m : Module) (config : Settings) (guest : Guest) (p : ProcessState) (v : Version) (o : Origin)
+    → IsStart m config guest p → IsOrigin (host_of config).room o
+    → Runs guest p (first_kept v o) o.steps (in_version v (succeeding o p))
+
+-- After the steps of the origin it is nothing else.
+abbrev pub OneSuccessor : Type 0
+OneSuccessor =
+    (guest : Guest) (p q : ProcessState) (v : Version) (o : Origin)
+    → Runs guest p (first_kept v o) o.steps q
+    → IsSucceeding o p × (q ≡ in_version v (succeeding o p))
+
+-- how many answers two lists have together
+abbrev pub AnswersJoin : Type 0
+AnswersJoin = (front rest : List Kept) → answers_in (front ++ rest)
+    ≡ answers_in front + answers_in rest
 
 -- ---- rules that ask the host for nothing
 
@@ -156,7 +203,7 @@ ReachedHaveWasiStates =
 -- so many steps, and these answers; of these are the requests and the end of input
 pub record HasCounted (kept : List Kept) (n : ℕ) (p : ProcessState) : Type 0 where
   pub steps : p.steps ≡ n
-  pub answers : p.answers ≡ length kept
+  pub answers : p.answers ≡ answers_in kept
   pub few_answers : p.answers ≤ p.steps + widenings p.host.version
   pub few_requests : p.requests ≤ p.answers
 
