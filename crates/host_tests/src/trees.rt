@@ -109,6 +109,7 @@ enum Step {
     Move(u64, u64),
     Remove(u64),
     Forget(u64),
+    ForgetRemoved,
     Resize(u64, u64),
     /// Bytes are written into a file, from here on.
     Put(u64, u64, &'static [u8]),
@@ -166,6 +167,11 @@ const CHANGES: &[Step] = &[
     Step::Used(4),
     Step::Forget(2),
     Step::Used(0),
+    // nor is the directory there any more, once all removed nodes are forgotten; its number stays
+    // its own
+    Step::ForgetRemoved,
+    Step::NumberAt(0, Some(1)),
+    Step::NumberAt(1, None),
     Step::Make(1, b"a", NodeType::File, 4),
 ];
 
@@ -256,6 +262,7 @@ fn is_done(tree: &mut Tree, step: &Step) -> bool {
     match step {
         Step::Remove(number) => remove_node(tree, *number),
         Step::Forget(number) => forget_node(tree, *number),
+        Step::ForgetRemoved => tree.forget_removed(),
         Step::Put(number, from, bytes) => put_bytes(tree, *number, *from, bytes),
         Step::RaiseNext(next) => raise_next(tree, *next),
         step => return is_seen(tree, step),

@@ -13,3 +13,5 @@ pub mod Waiting
 pub mod Giving
 pub mod PartsTested
 pub mod Widening
+pub mod Successions
+pub mod Legacies

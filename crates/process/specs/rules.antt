@@ -1,3 +1,4 @@
+pub mod Legacies
 pub mod Restored
 pub mod Stops
 pub mod Values

@@ -33,6 +33,9 @@
 //!   process of version 1 into version 2: it shows what it showed, widened.
 //! - `from_parts`: there is a process with these parts exactly where a process has them (`exact`,
 //!   `made`).
+//! - `into_legacy`: what another process goes on from, with other code: `left_by` of this one.
+//!   There is none only where no step more can be counted (`exact`). `start_from`: the process is
+//!   what the module comes to by going on from that, and by nothing else (`succeeded`).
 //! - `Process::close` lets a process go, and takes no memory.
 //! - `steps`, `answers`, `requests`, `lines` and the other getters say what it holds. Steps are
 //!   below 2^63, and lines below 2^63 - 2, unfinished ones counted. `P3 StepsSpent` is told where
@@ -42,7 +45,8 @@
 //!
 //! In `specs/rules/`: `ProcessValue`, `ShowsProcess`, `HasStarted` (`Values.antt`);
 //! `AdvancesProcess`, `StopsFor`, `FailsFor`, `GivesAnswer` (`Stops.antt`); `process_from`
-//! (`Restored.antt`). A process of the rules is `ProcessState` of `process_rules`.
+//! (`Restored.antt`); `LegacyValue`, `left_by`, `HasSucceeded` (`Legacies.antt`). A process of the
+//! rules is `ProcessState` of `process_rules`.
 //!
 //! # Who may touch what
 //!
@@ -56,8 +60,8 @@
 //!
 //! - What a process does is said of every process of the rules that it shows. Of the lines that
 //!   were released it keeps the number alone, so it shows one for each choice of their texts.
-//! - **A caller closes a process in place of dropping it.** A crate in which a process is dropped has
-//!   to prove again how each of its parts is: 22 functions. They are proved where it is closed.
+//! - **A caller closes a process in place of dropping it.** A crate in which a process is dropped
+//!   has to prove again how each of its parts is: 22 functions. They are proved where it is closed.
 #![tactic(auto)]
 
 mod answering;
@@ -65,13 +69,16 @@ mod calling;
 mod closing;
 mod fault;
 pub mod laws;
+mod legacy;
 mod process;
 mod restoring;
 mod running_process;
 mod stop;
 mod stretch;
+mod succeeding;
 
 pub use fault::ProcessFault;
+pub use legacy::Legacy;
 pub use process::Process;
 pub use restoring::ProcessParts;
 pub use stop::{ProcessEnd, Stop};

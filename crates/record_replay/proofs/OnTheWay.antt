@@ -2,8 +2,9 @@
 use Rattle.std.proofs.Common.{◌≡◌, ℕ, suc, ◌+◌, List, [], None, Some, refl, subst, arith}
 use Rattle.wasi_abi.specs.declared.answer.Answer.{Answer}
 use Rattle.process_rules.specs.Processes.{ProcessState, Guest}
-use Rattle.process_rules.specs.Runs.{Moves, Kept, widened, Runs, none, step, take, widen}
-use Rattle.process_rules.proofs.OneProcess.{runs_once, one_or_other, never_late}
+use Rattle.process_rules.specs.Origins.{succeeding}
+use Rattle.process_rules.specs.Runs.{Moves, Kept, widened, Runs, none, step, take, widen, succeed}
+use Rattle.process_rules.proofs.OneProcess.{runs_once, one_or_other, never_late, never_then}
 use Rattle.process_rules.proofs.Quiet.{runs_join, quiet_runs_are_runs}
 use Rattle.process.specs.rules.Values.{ProcessValue}
 use Rattle.process.specs.rules.Stops.{ComesQuietly, ComesOwing}
@@ -60,6 +61,14 @@ goes_on guest p q r kept n m k (widen at others)
     absurd (never_late guest p' r' r kept' m' b rest' at refl)
 goes_on guest p q r kept n m k (widen {p = p'} {kept = kept'} at rest) (widen at' rest') e =
     goes_on guest (widened p') q r kept' n m k rest rest' e
+goes_on guest p q r kept n m k (step {p = p'} {q = q'} {kept = kept'} {n = n'} a rest)
+    (succeed at sum others) e = absurd (never_then guest p' q' q kept' n' a rest refl)
+goes_on guest p q r kept n m k (succeed at sum others)
+    (step {p = p'} {q = r'} {kept = kept'} {n = m'} b rest') e =
+    absurd (never_then guest p' r' r kept' m' b rest' refl)
+goes_on guest p q r kept n m k (succeed {p = p'} {o = o} {kept = kept'} {k = n'} at sum rest)
+    (succeed {k = m'} at' sum' rest') e =
+    goes_on guest (succeeding o p') q r kept' n' m' k rest rest' (omega (arith, sum, sum', e))
 
 pub first_moves : (guest : Guest) (q r : ProcessState) (k : ℕ) → Runs guest q [] (suc k) r
     → (to : ProcessState) × Moves guest q None to

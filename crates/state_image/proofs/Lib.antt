@@ -21,7 +21,6 @@ mod RefusalsHold
 pub mod HelloWellTyped
 mod Children
 mod Room
-mod Texts
 mod Spelled
 mod WordLemmas
 mod Outermost

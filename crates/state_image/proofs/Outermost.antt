@@ -32,10 +32,11 @@ use Rattle.wasi_calls_rules.specs.WasiStates.{WasiState}
 use Rattle.wasi_calls_rules.specs.Checks.{Refuses, Ends, Asks as Inquires, Ruling}
 use Rattle.wasi_calls_rules.specs.CallRules.{call_rule}
 use Rattle.process_rules.specs.Processes.{ProcessState, Guest, IsStart, closed_at}
+use Rattle.process_rules.specs.Origins.{succeeding}
 use Rattle.process_rules.specs.Runs.{Next, On, Over, Wants, Nowhere, after_call_rule, after_call}
 use Rattle.process_rules.specs.Runs.{after_counted_step, next_of, stepped, LeadsTo, Moves, Kept}
 use Rattle.process_rules.specs.Runs.{Runs, none}
-use Rattle.process_rules.specs.Runs.{step, take, widen, widened, Reaches}
+use Rattle.process_rules.specs.Runs.{step, take, widen, succeed, widened, Reaches}
 use Rattle.process_rules.proofs.ReachedStates.{beginning}
 use Rattle.process_rules.proofs.MemoryKept.{reduced_store}
 use Rattle.state_image.specs.rules.WellTyped.{EntryPoints, IsCalled, IsOutermost}
@@ -339,6 +340,8 @@ module _ (b : EntryPoints) where
         runs_well guest next q kept' m rest (move_well guest p' next (Some a) moves k)
     runs_well guest p q kept n (widen {p = p'} {kept = kept'} {n = m} at rest) k =
         runs_well guest (widened p') q kept' m rest k
+    runs_well guest p q kept n (succeed {p = p'} {o = o} {kept = kept'} {k = m} at sum rest) k =
+        runs_well guest (succeeding o p') q kept' m rest k
 
   -- ---- places
 

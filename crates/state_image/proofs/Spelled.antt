@@ -15,6 +15,7 @@ use Rattle.file_tree.specs.rules.Files.{is_directory, path_of, entries_in, entri
 use Rattle.file_tree.specs.rules.Files.{entries_of, IsSmallContent, IsFiles}
 use Rattle.file_tree.proofs.Order.{all_sorted}
 use Rattle.wasi_calls_rules.specs.WasiStates.{Target, Stream, Node}
+use Rattle.wasi_calls_rules.proofs.FilesOfBytes.{text_of_bytes}
 use Rattle.machine_slots.specs.rules.Places.{ShownFrame, MachineState}
 use Rattle.state_image.specs.rules.ProcessImage.{Saved, ending_code, flag_of, text_bytes}
 use Rattle.state_image.specs.rules.ProcessImage.{items_bytes, place_bytes, entry_bytes}
@@ -31,7 +32,6 @@ use Rattle.state_image.proofs.Among.{among_all}
 use Rattle.state_image.proofs.Machines.{all_behind}
 use Rattle.state_image.proofs.Places.{IsNumberedIn, open_in}
 use Rattle.state_image.proofs.FilesWithin.{entry_name}
-use Rattle.state_image.proofs.Texts.{text_of_bytes}
 use Rattle.state_image.proofs.Whole.{is_within}
 use Rattle.state_image.proofs.PartReads.{phase_small}
 
