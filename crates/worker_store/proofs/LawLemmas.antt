@@ -17,6 +17,7 @@ pub mod Reopening
 pub mod Carrying
 pub mod Raising
 pub mod AtHand
+pub mod Succeeding
 pub mod Saving
 pub mod Anew
 pub mod Recovering

@@ -3,7 +3,11 @@ pub mod Widenings
 pub mod Promised
 pub mod ForGood
 pub mod Upgrading
+pub mod StaysForGood
 pub mod NextLives
+pub mod Successions
+pub mod SuccessionOrigins
+pub mod RefusingSuccessors
 pub mod FileLives
 pub mod NumbersKept
 pub mod Disks
@@ -17,7 +21,9 @@ pub mod HonestUpgrades
 pub mod RefusingBatches
 pub mod HonestBatches
 pub mod Examples
+pub mod SuccessionsHold
 pub mod HelloShown
 pub mod HelloLives
 pub mod HelloUpgrades
 pub mod EchoLives
+pub mod SuccessorLives

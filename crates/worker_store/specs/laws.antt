@@ -14,6 +14,7 @@ pub mod Reopening
 pub mod Carried
 pub mod Raised
 pub mod AtHand
+pub mod Succeeding
 pub mod Saves
 pub mod Anew
 pub mod Recovered

@@ -5,4 +5,5 @@ pub mod Promises
 pub mod Holds
 pub mod Exchanges
 pub mod Between
+pub mod Successions
 pub mod laws

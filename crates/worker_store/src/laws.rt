@@ -43,6 +43,7 @@ ghost use Rattle.worker_store.specs.laws.Raised.{ToldCarries, AskedCarries, Ende
 ghost use Rattle.worker_store.specs.laws.Raised.{MoreCarries, AppendCarries, CarriedIsReached};
 ghost use Rattle.worker_store.specs.laws.AtHand.{ShownIsSaved, ShownIsNumbered, NextIsAtHand};
 ghost use Rattle.worker_store.specs.laws.AtHand.{FirstIsAtHand, VersionStays};
+ghost use Rattle.worker_store.specs.laws.Succeeding.{SuccessorIsAtHand, SuccessorHoldsPromise};
 ghost use Rattle.worker_store.specs.laws.Acts.{CheckpointsSave, SavingEndsAlike, ActsMayFail};
 ghost use Rattle.worker_store.specs.laws.Acts.{UpgradesWiden, UpgradesSave};
 ghost use Rattle.worker_store.specs.laws.Saves.{SaveAtAnyMoment, SaveCarries, DoneSavesCarry};
@@ -212,6 +213,13 @@ pub fn processes_are_savepoints()
     ensures version { VersionStays }
     ensures next { NextIsAtHand }
     ensures first { FirstIsAtHand }
+{}
+
+/// A process that goes on from what another worker has left is a first savepoint. A disk that
+/// begins there holds all that is promised of its worker.
+pub fn successors_are_savepoints()
+    ensures first { SuccessorIsAtHand }
+    ensures holds { SuccessorHoldsPromise }
 {}
 
 /// A barrier and a commit, one after the other, save a worker. At each moment its disk keeps what

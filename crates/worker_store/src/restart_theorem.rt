@@ -29,11 +29,13 @@
 //! - From calls to lives: `calls_join`, `next_life_finds_it`, `lives_go_on`, and
 //!   `lives_on_files_go_on` for a disk in a file. In `worker` it is proved that the calls of the
 //!   code make such lives (`calls_make_lives`).
+//! - Of workers that go on from what another one has left, with other code: `successors_go_on`, and
+//!   that all of them, one after another, tell one history (`successors_tell_one_history`).
 //! - Of disks: what a disk stands for is reached by the module, by one generation alone
 //!   (`disks_stand_for_what_is_reached`, `disks_stand_by_one_generation`).
 //! - Of the text: workers that nobody wants are refused (`refused_workers`, `refused_events`,
-//!   `refused_upgrades`, `refused_batches`), and right ones are not (`honest_stories`,
-//!   `honest_upgrades`, `honest_batches`, `hello_goes_on`).
+//!   `refused_upgrades`, `refused_batches`, `refused_successors`), and right ones are not
+//!   (`honest_stories`, `honest_upgrades`, `honest_batches`, `hello_goes_on`).
 //!
 //! # Definitions to read
 //!
@@ -47,6 +49,8 @@
 //!   that tells lines ends; `GoesOn`.
 //! - `Holds.antt`: `DiskImageHolds`, what an image of the disk holds of a promise.
 //! - `Exchanges.antt`, `Between.antt`: which events calls are, and what the next life finds.
+//! - `Successions.antt`: what a worker leaves, what is promised of its successor, and when what
+//!   they told is one history.
 //!
 //! # Who may touch what
 //!
@@ -59,41 +63,66 @@
 //! - A widening is kept also where the upgrade has failed: its head may be on the disk.
 
 ghost use Rattle.wasm_syntax.specs.declared.module.Module.{Module};
+ghost use Rattle.wasi_abi.specs.declared.version.Version.{Version};
 ghost use Rattle.wasi_abi.specs.rules.Configs.{Settings};
-ghost use Rattle.worker_store.specs.restart_theorem.laws.Laws.{PromisesAreOfKept, NoNumberHasTwoTexts};
+ghost use Rattle.process_rules.specs.Origins.{Origin};
+ghost use Rattle.process_rules.specs.Processes.{ProcessState, Guest};
+ghost use Rattle.worker_store.specs.restart_theorem.laws.Laws.{PromisesAreOfKept};
+ghost use Rattle.worker_store.specs.restart_theorem.laws.Laws.{NoNumberHasTwoTexts};
 ghost use Rattle.worker_store.specs.restart_theorem.laws.Laws.{CallsJoin};
-ghost use Rattle.worker_store.specs.restart_theorem.laws.Laws.{OpeningsAreForGood, CheckpointsAreForGood};
+ghost use Rattle.worker_store.specs.restart_theorem.laws.Laws.{OpeningsAreForGood};
+ghost use Rattle.worker_store.specs.restart_theorem.laws.Laws.{CheckpointsAreForGood};
 ghost use Rattle.worker_store.specs.restart_theorem.laws.Laws.{SyncsAreForGood};
 ghost use Rattle.worker_store.specs.restart_theorem.laws.Laws.{OpenedLinesAreToldNoMore};
 ghost use Rattle.worker_store.specs.restart_theorem.laws.Laws.{SavedLinesAreToldNoMore};
-ghost use Rattle.worker_store.specs.restart_theorem.laws.Upgrades.{OnlyUpgradesWiden, EndsWidenOnce};
-ghost use Rattle.worker_store.specs.restart_theorem.laws.Upgrades.{UpgradesAreForGood, WideOpeningsAreForGood};
-ghost use Rattle.worker_store.specs.restart_theorem.laws.Upgrades.{UpgradedStayWide, UpgradedLinesAreToldNoMore};
+ghost use Rattle.worker_store.specs.restart_theorem.laws.ForGood.{WhatIsForGood};
+ghost use Rattle.worker_store.specs.restart_theorem.laws.Upgrades.{OnlyUpgradesWiden};
+ghost use Rattle.worker_store.specs.restart_theorem.laws.Upgrades.{EndsWidenOnce};
+ghost use Rattle.worker_store.specs.restart_theorem.laws.Upgrades.{UpgradesAreForGood};
+ghost use Rattle.worker_store.specs.restart_theorem.laws.Upgrades.{WideOpeningsAreForGood};
+ghost use Rattle.worker_store.specs.restart_theorem.laws.Upgrades.{UpgradedStayWide};
+ghost use Rattle.worker_store.specs.restart_theorem.laws.Upgrades.{UpgradedLinesAreToldNoMore};
 ghost use Rattle.worker_store.specs.restart_theorem.laws.Found.{FoundWasCrashImage, FoundIsAsLong};
 ghost use Rattle.worker_store.specs.restart_theorem.laws.Found.{FoundSyncedOrSame};
 ghost use Rattle.worker_store.specs.restart_theorem.laws.Found.{NoWorkerComes};
-ghost use Rattle.worker_store.specs.restart_theorem.laws.Found.{NextLifeFindsIt, NextLifeIsWithin, LivesGoOn};
+ghost use Rattle.worker_store.specs.restart_theorem.laws.Found.{NextLifeFindsIt, NextLifeIsWithin};
+ghost use Rattle.worker_store.specs.restart_theorem.laws.Found.{LivesGoOn};
 ghost use Rattle.worker_store.specs.restart_theorem.laws.Found.{PromisedLivesGoOn};
-ghost use Rattle.worker_store.specs.restart_theorem.laws.Files.{LivesOnFilesGoOn, PromisedLivesOnFilesGoOn};
+ghost use Rattle.worker_store.specs.restart_theorem.laws.Files.{LivesOnFilesGoOn};
+ghost use Rattle.worker_store.specs.restart_theorem.laws.Files.{PromisedLivesOnFilesGoOn};
 ghost use Rattle.worker_store.specs.restart_theorem.laws.Files.{OpenedAfterCut, ZerosAreBlank};
-ghost use Rattle.worker_store.specs.restart_theorem.laws.Disks.{StandsForWhatIsReached, RecordsAscend};
-ghost use Rattle.worker_store.specs.restart_theorem.laws.Disks.{StandsByItsParts, BlankStandsForNone};
+ghost use Rattle.worker_store.specs.restart_theorem.laws.Disks.{StandsForWhatIsReached};
+ghost use Rattle.worker_store.specs.restart_theorem.laws.Disks.{RecordsAscend};
+ghost use Rattle.worker_store.specs.restart_theorem.laws.Disks.{StandsByItsParts};
+ghost use Rattle.worker_store.specs.restart_theorem.laws.Disks.{BlankStandsForNone};
 ghost use Rattle.worker_store.specs.restart_theorem.laws.Disks.{HeadsTellWidenings};
-ghost use Rattle.worker_store.specs.restart_theorem.laws.Disks.{RunsKeepNumbers, RecordsKeepNumbers};
+ghost use Rattle.worker_store.specs.restart_theorem.laws.Disks.{RunsKeepNumbers};
+ghost use Rattle.worker_store.specs.restart_theorem.laws.Disks.{RecordsKeepNumbers};
 ghost use Rattle.worker_store.specs.restart_theorem.laws.Disks.{SavedAreNumbered};
 ghost use Rattle.worker_store.specs.restart_theorem.laws.Disks.{NoLaterProcessImage, NoLaterSector};
 ghost use Rattle.worker_store.specs.restart_theorem.laws.Disks.{NoLaterRecord};
 ghost use Rattle.worker_store.specs.restart_theorem.laws.Disks.{OneGeneration};
-ghost use Rattle.worker_store.specs.restart_theorem.laws.Disks.{OneSpelledWorker, StandsWithin, BlankIsWithin};
+ghost use Rattle.worker_store.specs.restart_theorem.laws.Disks.{OneSpelledWorker, StandsWithin};
+ghost use Rattle.worker_store.specs.restart_theorem.laws.Disks.{BlankIsWithin};
 ghost use Rattle.worker_store.specs.restart_theorem.laws.Disks.{DiskExamples};
 ghost use Rattle.worker_store.specs.restart_theorem.laws.Examples.{LivesExamples, PromiseExamples};
 ghost use Rattle.worker_store.specs.restart_theorem.laws.Examples.{CourseExamples, ReplyExamples};
 ghost use Rattle.worker_store.specs.restart_theorem.laws.Honest.{Teller, HonestStories};
 ghost use Rattle.worker_store.specs.restart_theorem.laws.Honest.{Upgraded, HonestUpgrades};
 ghost use Rattle.worker_store.specs.restart_theorem.laws.Refused.{RefusedEvents, RefusedWorkers};
-ghost use Rattle.worker_store.specs.restart_theorem.laws.Refused.{RefusedUpgrades, RefusedUpgraders};
-ghost use Rattle.worker_store.specs.restart_theorem.laws.Batches.{RefusedBatches, RefusedBatchLives};
+ghost use Rattle.worker_store.specs.restart_theorem.laws.Refused.{RefusedUpgrades};
+ghost use Rattle.worker_store.specs.restart_theorem.laws.Refused.{RefusedUpgraders};
+ghost use Rattle.worker_store.specs.restart_theorem.laws.Batches.{RefusedBatches};
+ghost use Rattle.worker_store.specs.restart_theorem.laws.Batches.{RefusedBatchLives};
 ghost use Rattle.worker_store.specs.restart_theorem.laws.Batches.{HonestBatches};
+ghost use Rattle.worker_store.specs.restart_theorem.laws.SuccessionExamples.{SuccessionExamples};
+ghost use Rattle.worker_store.specs.restart_theorem.laws.SuccessionExamples.{HistoryExamples};
+ghost use Rattle.worker_store.specs.restart_theorem.laws.SuccessionExamples.{RestExamples};
+ghost use Rattle.worker_store.specs.restart_theorem.laws.Successions.{SuccessorsGoOn, OriginsStay};
+ghost use Rattle.worker_store.specs.restart_theorem.laws.Successions.{PlainSucceedNone, Succession};
+ghost use Rattle.worker_store.specs.restart_theorem.laws.Successions.{SuccessiveTellAll};
+ghost use Rattle.worker_store.specs.restart_theorem.laws.Successions.{RefusedSuccessors};
+ghost use Rattle.worker_store.specs.restart_theorem.laws.SuccessorLives.{HelloSuccessors};
 ghost use Rattle.worker_store.specs.restart_theorem.laws.WholeLives.{HelloLives, HelloUpgrades};
 ghost use Rattle.worker_store.specs.restart_theorem.laws.WholeLives.{EchoRefusals};
 ghost use Rattle.worker_store.specs.restart_theorem.Promises.{Promise};
@@ -112,11 +141,13 @@ pub fn no_number_has_two_texts()
 {}
 
 /// Where it holds, each later life has at least what an earlier one opened with and what a
-/// checkpoint held. So it has the answers behind a guest sync that returned.
+/// checkpoint held. So it has the answers behind a guest sync that returned. The same, and what is
+/// said of lines and upgrades below, holds of lives from whatever was promised before.
 pub fn promises_are_for_good()
     ensures openings { OpeningsAreForGood }
     ensures checkpoints { CheckpointsAreForGood }
     ensures syncs { SyncsAreForGood }
+    ensures any { WhatIsForGood }
 {}
 
 /// Where it holds, no line is told again after which a life has opened or a checkpoint was done.
@@ -259,13 +290,43 @@ pub fn worked_examples()
 {}
 
 /// Lives of a module that writes a line go on, from its beginning to its end, and so do those that
-/// upgrade it before its first step, or after its last one. Others don't.
+/// upgrade it before its first step, or after its last one. Others don't. It also goes on from what
+/// another worker has left.
 pub fn hello_goes_on()
     ensures lives { (config : Settings) → HelloLives config }
     ensures upgrades { (config : Settings) → HelloUpgrades config }
+    ensures successors { (config : Settings) → HelloSuccessors config }
 {}
 
 /// Events that are none of a module that tells what it is asked.
 pub fn echo_is_held_to_its_answers()
     ensures { (config : Settings) → EchoRefusals config }
+{}
+
+/// Lives on a disk on which a successor was created go on from what the worker before it has left.
+/// That stays the first of its kept answers, and a worker that succeeds none has no such answer.
+pub fn successors_go_on<D: Disk>()
+    ensures lives { SuccessorsGoOn D.medium }
+    ensures origins { OriginsStay }
+    ensures plain { PlainSucceedNone }
+{}
+
+/// What a worker and its successor told is one history. So is what any number of them told, one
+/// after another: no number has two texts, and none is left out.
+pub fn successors_tell_one_history()
+    ensures two { Succession }
+    ensures all { SuccessiveTellAll }
+{}
+
+/// Events that are none of a successor are refused, wherever a life is.
+pub fn refused_successors()
+    ensures { (m : Module) (config : Settings) (v : Version) (o : Origin) (stage : Stage)
+        → RefusedSuccessors m config v o stage }
+{}
+
+/// What is promised of a successor, when a worker may have one, and what is one history.
+pub fn succession_examples()
+    ensures promises { SuccessionExamples }
+    ensures rest { (guest : Guest) (p : ProcessState) → RestExamples guest p }
+    ensures histories { HistoryExamples }
 {}

@@ -8,13 +8,16 @@ use Rattle.wasi_abi.specs.rules.Configs.{Settings}
 use Rattle.process_rules.specs.Runs.{Kept, Wider, version_after}
 use Rattle.process_rules.specs.Behind.{IsNarrowTo}
 use Rattle.state_image.specs.rules.ProcessImage.{Saved}
-use Rattle.worker_store.specs.restart_theorem.Lives.{Act, Slice, Batch, Checkpoint, Upgrade, Reply, Spent}
+use Rattle.worker_store.specs.restart_theorem.Lives.{Act, Slice, Batch, Checkpoint, Upgrade, Reply}
+use Rattle.worker_store.specs.restart_theorem.Lives.{Spent}
 use Rattle.worker_store.specs.restart_theorem.Lives.{Waits, Over}
-use Rattle.worker_store.specs.restart_theorem.Lives.{Done, Fails, Cause, OfDisk, OfSource, OfAnswer, OfOutlet}
+use Rattle.worker_store.specs.restart_theorem.Lives.{Done, Fails, Cause, OfDisk, OfSource, OfAnswer}
+use Rattle.worker_store.specs.restart_theorem.Lives.{OfOutlet}
 use Rattle.worker_store.specs.restart_theorem.Lives.{OfMemory, OfBounds, OfJournal, OfLines, Ended}
 use Rattle.worker_store.specs.restart_theorem.Lives.{kept_by_widening, kept_by_end}
 use Rattle.worker_store.specs.restart_theorem.Courses.{Phase, Stage, Open, MayFail}
-use Rattle.worker_store.specs.restart_theorem.Promises.{Promise, after, MayPlead, IsReply, IsCaughtUp, IsOneOf}
+use Rattle.worker_store.specs.restart_theorem.Promises.{Promise, after, MayPlead, IsReply}
+use Rattle.worker_store.specs.restart_theorem.Promises.{IsCaughtUp, IsOneOf}
 use Rattle.worker_store.proofs.RestartLemmas.Pleas.{batch_fails}
 use Rattle.worker_store.proofs.RestartLemmas.Widenings.{AddsWidening, end_keeps, wider_by}
 use Rattle.worker_store.specs.laws.Acts.{TakesSteps}

@@ -11,7 +11,7 @@ use Rattle.wasi_abi.specs.rules.Configs.{Settings}
 use Rattle.wasi_calls_rules.specs.WasiStates.{WasiState}
 use Rattle.process_rules.specs.Processes.{ProcessState, Guest}
 use Rattle.process.specs.rules.Values.{ProcessValue, ShowsProcess}
-use Rattle.process_rules.specs.Runs.{Kept, Given, Wider, Runs, none, version_after}
+use Rattle.process_rules.specs.Runs.{Kept, Given, Wider, Succeeds, Runs, none, version_after}
 use Rattle.process_rules.proofs.ReachedStates.{reached_versions}
 use Rattle.process_rules.proofs.Quiet.{runs_join}
 use Rattle.process.proofs.Lines.{all_shown}
@@ -58,6 +58,7 @@ version_behind [] [] = refl
 version_behind [] (r ∷ records) = version_behind [] records
 version_behind (Given a ∷ front) records = version_behind front records
 version_behind (Wider steps ∷ front) records = refl
+version_behind (Succeeds o ∷ front) records = version_behind front records
 
 pub version_of_point : (m : Module) (config : Settings) (point : Savepoint m config)
     → point.saved.version ≡ version_after point.front

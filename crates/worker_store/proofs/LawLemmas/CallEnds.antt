@@ -14,14 +14,19 @@ use Rattle.process_rules.proofs.Growing.{runs_count}
 use Rattle.process_rules.proofs.Quiet.{runs_join}
 use Rattle.process.specs.rules.Stops.{LacksNumbers}
 use Rattle.state_image.specs.rules.ProcessImage.{Saved}
-use Rattle.worker_store.specs.restart_theorem.Lives.{Act, Slice, Batch, Checkpoint, Upgrade, Spent, Waits, Over}
+use Rattle.worker_store.specs.restart_theorem.Lives.{Act, Slice, Batch, Checkpoint, Upgrade, Spent}
+use Rattle.worker_store.specs.restart_theorem.Lives.{Waits, Over}
 use Rattle.worker_store.specs.restart_theorem.Lives.{Done, Ended, Reply}
-use Rattle.worker_store.specs.restart_theorem.Lives.{Fails, Cause, OfDisk, OfSource, OfAnswer, OfOutlet}
-use Rattle.worker_store.specs.restart_theorem.Lives.{OfMemory, OfBounds, OfJournal, OfLines, kept_by_end}
+use Rattle.worker_store.specs.restart_theorem.Lives.{Fails, Cause, OfDisk, OfSource, OfAnswer}
+use Rattle.worker_store.specs.restart_theorem.Lives.{OfOutlet}
+use Rattle.worker_store.specs.restart_theorem.Lives.{OfMemory, OfBounds, OfJournal, OfLines}
+use Rattle.worker_store.specs.restart_theorem.Lives.{kept_by_end}
 use Rattle.worker_store.specs.restart_theorem.Courses.{Stage, Open, NoneThere, MayFail}
 use Rattle.worker_store.specs.restart_theorem.Courses.{IsNextAct, IsInBatch, HasLastAsked}
-use Rattle.worker_store.specs.restart_theorem.Promises.{Promise, after, IsAt, IsAtBound, HasLastLines}
-use Rattle.worker_store.specs.restart_theorem.Promises.{IsCaughtUp, IsOneOf, IsReply, MayPlead, MayWiden}
+use Rattle.worker_store.specs.restart_theorem.Promises.{Promise, after, IsAt, IsAtBound}
+use Rattle.worker_store.specs.restart_theorem.Promises.{HasLastLines}
+use Rattle.worker_store.specs.restart_theorem.Promises.{IsCaughtUp, IsOneOf, IsReply, MayPlead}
+use Rattle.worker_store.specs.restart_theorem.Promises.{MayWiden}
 use Rattle.worker_store.specs.restart_theorem.Promises.{fuel_of, IsEnding}
 use Rattle.worker_store.specs.laws.Acts.{TakesSteps}
 use Rattle.worker_store.proofs.RestartLemmas.Pleas.{batch_fails}

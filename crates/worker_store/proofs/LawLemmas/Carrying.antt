@@ -26,7 +26,8 @@ use Rattle.record_replay.proofs.OneRecording.{one_recorded}
 use Rattle.worker_store.proofs.RestartLemmas.Fronts.{none_widens, up_to_front}
 use Rattle.worker_store.specs.restart_theorem.Lives.{Checkpoint, Done, Ended}
 use Rattle.worker_store.specs.restart_theorem.Promises.{Promise, after, HoldsAll}
-use Rattle.worker_store.specs.restart_theorem.Holds.{HoldsPromise, IsUnopened, DiskImageHolds, CarriesPromise}
+use Rattle.worker_store.specs.restart_theorem.Holds.{HoldsPromise, IsUnopened, DiskImageHolds}
+use Rattle.worker_store.specs.restart_theorem.Holds.{CarriesPromise}
 use Rattle.worker_store.proofs.RestartLemmas.Disks.{blank_stands_for_none}
 use Rattle.worker_store.specs.rules.Savepoints.{Savepoint, IsAtSavepoint, IsAtFront, BeginsAtPoint}
 use Rattle.worker_store.specs.laws.Savepoints.{point_of, StandsBySaved}

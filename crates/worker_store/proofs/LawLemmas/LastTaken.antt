@@ -17,7 +17,8 @@ use Rattle.record_replay.specs.rules.Records.{Recorded, none, more, given_in}
 use Rattle.record_replay.specs.rules.Calls.{Exchange, Tells, all_taken}
 use Rattle.worker_store.specs.restart_theorem.Lives.{Event}
 use Rattle.worker_store.specs.restart_theorem.Courses.{Stage, stage_after}
-use Rattle.worker_store.specs.restart_theorem.Exchanges.{AreEvents, none as no_exchange, told, asked}
+use Rattle.worker_store.specs.restart_theorem.Exchanges.{AreEvents, none as no_exchange, told}
+use Rattle.worker_store.specs.restart_theorem.Exchanges.{asked}
 use Rattle.worker_store.specs.restart_theorem.Promises.{Promise, TakesLast}
 use Rattle.worker_store.proofs.RestartLemmas.Fronts.{reached_counts}
 use Rattle.worker_store.specs.rules.Savepoints.{Savepoint}

@@ -15,10 +15,11 @@ use Rattle.wasi_abi.specs.declared.call.Call.{Call}
 use Rattle.wasi_abi.specs.rules.Configs.{Settings}
 use Rattle.wasi_calls_rules.specs.Checks.{Ruling}
 use Rattle.process_rules.specs.Processes.{ProcessState, Guest}
-use Rattle.process_rules.specs.Runs.{Kept, Given, Wider, Next, Wants, On, after_call_rule}
+use Rattle.process_rules.specs.Runs.{Kept, Given, Wider, Succeeds, Next, Wants, On}
+use Rattle.process_rules.specs.Runs.{after_call_rule}
 use Rattle.process_rules.specs.Runs.{after_call}
 use Rattle.process_rules.specs.Runs.{after_counted_step, next_of, Runs, Reaches}
-use Rattle.process_rules.specs.Runs.{none as no_step, step, take as takes, widen}
+use Rattle.process_rules.specs.Runs.{none as no_step, step, take as takes, widen, succeed}
 use Rattle.process_rules.specs.Behind.{IsNarrowTo, AnswersBehindLine, AnswersBehindSync, Syncs}
 use Rattle.process_rules.specs.Owing.{RunsQuietly, none, more}
 use Rattle.process_rules.proofs.Growing.{move_counts, runs_count, start_counts}
@@ -32,7 +33,8 @@ use Rattle.record_replay.specs.rules.Records.{given_in}
 use Rattle.record_replay.proofs.Recordings.{recorded_runs, recorded_join}
 use Rattle.worker_store.specs.restart_theorem.Lives.{Act, Reply, Ended, kept_of_said}
 use Rattle.worker_store.specs.restart_theorem.Promises.{Promise, after, saved_by, synced_by}
-use Rattle.worker_store.proofs.RestartLemmas.Fronts.{LeadsOn, fronts_lead_on, reached_counts, none_widens}
+use Rattle.worker_store.proofs.RestartLemmas.Fronts.{LeadsOn, fronts_lead_on, reached_counts}
+use Rattle.worker_store.proofs.RestartLemmas.Fronts.{none_widens}
 use Rattle.worker_store.proofs.RestartLemmas.Fronts.{up_to_behind, said_widens_none}
 use Rattle.worker_store.specs.rules.Carried.{answers_at, count_at, IsCarried, SyncsAreHeld}
 use Rattle.worker_store.specs.rules.Savepoints.{Savepoint}
@@ -52,12 +54,14 @@ pub up_to_before : (kept : List Kept) (n k : ℕ) → k ≤ n → IsNarrowTo kep
 up_to_before [] n k le up = tt
 up_to_before (Given x ∷ kept) n k le up = tt
 up_to_before (Wider s ∷ kept) n k le up = omega (arith, le, up)
+up_to_before (Succeeds o ∷ kept) n k le up = omega (arith, le, up)
 
 up_to_part : (kept more_kept : List Kept) (n : ℕ) → IsNarrowTo (kept ++ more_kept) n
     → IsNarrowTo kept n
 up_to_part [] more_kept n up = tt
 up_to_part (Given x ∷ kept) more_kept n up = tt
 up_to_part (Wider s ∷ kept) more_kept n up = up
+up_to_part (Succeeds o ∷ kept) more_kept n up = up
 
 pub up_to_rest : (kept more_kept : List Kept) (n : ℕ) → IsNarrowTo more_kept n
     → IsNarrowTo (drop (length kept) (kept ++ more_kept)) n
@@ -79,6 +83,7 @@ up_to_less : (a : ℕ) (kept more_kept : List Kept) (n : ℕ)
 up_to_less a [] more_kept n up = none_widens a n
 up_to_less zero (Given x ∷ kept) more_kept n up = tt
 up_to_less zero (Wider s ∷ kept) more_kept n up = up
+up_to_less zero (Succeeds o ∷ kept) more_kept n up = up
 up_to_less (suc a) (x ∷ kept) more_kept n up = up_to_less a kept more_kept n up
 
 -- what leads on from a front widens what is kept next
@@ -110,6 +115,7 @@ no_run guest p q kept n e up
     absurd (omega (arith, e))
 no_run guest p q kept n e up (widen {p = p'} at rest) =
     let here = at.at in absurd (omega (arith, up, here))
+no_run guest p q kept n e up (succeed at sum rest) = absurd (omega (arith, up))
 
 -- Of two processes that fronts of the same answers lead to in as many steps there is one, with
 -- one guest, where the shorter front is widened later.

@@ -19,7 +19,8 @@ use Rattle.record_replay.specs.rules.Calls.{Tells, all_taken}
 use Rattle.worker_store.specs.restart_theorem.Lives.{Release, Told}
 use Rattle.worker_store.specs.restart_theorem.Courses.{Stage, Unheard, first_taken, next_stage}
 use Rattle.worker_store.specs.restart_theorem.Courses.{IsLast, IsToldIn, ComesAfter, phase_refused}
-use Rattle.worker_store.specs.restart_theorem.Promises.{Promise, after, HoldsAll, IsTelling, TakesLast}
+use Rattle.worker_store.specs.restart_theorem.Promises.{Promise, after, HoldsAll, IsTelling}
+use Rattle.worker_store.specs.restart_theorem.Promises.{TakesLast}
 use Rattle.worker_store.specs.rules.BetweenCalls.{IsForetold}
 use Rattle.worker_store.specs.laws.Telling.{ArePerformed}
 use Rattle.worker_store.specs.laws.Reopening.{IsReviving, LinesAreRetold, LinesAreRetoldInVain}

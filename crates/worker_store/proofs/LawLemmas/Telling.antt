@@ -12,7 +12,8 @@ use Rattle.wasi_calls_rules.specs.WasiStates.{Line}
 use Rattle.process_rules.specs.Processes.{ProcessState, Guest}
 use Rattle.record_replay.specs.rules.Calls.{Exchange, Begun, Tells, all_taken}
 use Rattle.worker_store.specs.restart_theorem.Lives.{Act, Release, Told, OfOutlet}
-use Rattle.worker_store.specs.restart_theorem.Courses.{Stage, Phase, Broken, first_taken, next_stage}
+use Rattle.worker_store.specs.restart_theorem.Courses.{Stage, Phase, Broken, first_taken}
+use Rattle.worker_store.specs.restart_theorem.Courses.{next_stage}
 use Rattle.worker_store.specs.restart_theorem.Promises.{Promise, heard_by, after, IsTelling}
 use Rattle.worker_store.specs.restart_theorem.Exchanges.{was_taken, release_of, none, told}
 use Rattle.worker_store.specs.laws.Underway.{IsUnderWay, IsBroken, HasLinesLeft}

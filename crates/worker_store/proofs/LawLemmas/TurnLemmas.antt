@@ -25,7 +25,8 @@ use Rattle.worker_store.specs.restart_theorem.Promises.{Promise, after, promised
 use Rattle.worker_store.specs.restart_theorem.Holds.{HoldsPromise, IsUnopened, DiskImageHolds}
 use Rattle.record_replay.proofs.Recordings.{recorded_count}
 use Rattle.worker_store.proofs.RestartLemmas.Fronts.{reached_counts, up_to_behind, said_widens_none}
-use Rattle.worker_store.specs.restart_theorem.Exchanges.{was_taken, release_of, AreEvents, none, told, asked}
+use Rattle.worker_store.specs.restart_theorem.Exchanges.{was_taken, release_of, AreEvents, none}
+use Rattle.worker_store.specs.restart_theorem.Exchanges.{told, asked}
 use Rattle.worker_store.specs.rules.Carried.{answers_at, count_at, SyncsAreHeld}
 use Rattle.worker_store.specs.laws.Carried.{PromisesNoMore}
 use Rattle.worker_store.specs.laws.Raised.{MoreCarries}

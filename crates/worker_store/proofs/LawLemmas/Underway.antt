@@ -16,11 +16,14 @@ use Rattle.process_rules.specs.Processes.{ProcessState, Guest}
 use Rattle.process_rules.specs.Runs.{Kept, Given, Runs, none, take as takes, Reaches}
 use Rattle.process_rules.proofs.Quiet.{runs_join}
 use Rattle.process_rules.proofs.Growing.{runs_count, runs_emit, move_counts, move_emits}
-use Rattle.worker_store.specs.restart_theorem.Lives.{Act, Slice, Batch, Checkpoint, Upgrade, SourceSaid}
+use Rattle.worker_store.specs.restart_theorem.Lives.{Act, Slice, Batch, Checkpoint, Upgrade}
+use Rattle.worker_store.specs.restart_theorem.Lives.{SourceSaid}
 use Rattle.worker_store.specs.restart_theorem.Lives.{Release, Told, Asked}
 use Rattle.worker_store.specs.restart_theorem.Lives.{OfOutlet, kept_of_said}
-use Rattle.worker_store.specs.restart_theorem.Courses.{Phase, Shut, Unheard, Open, NoneThere, Broken, Closed}
-use Rattle.worker_store.specs.restart_theorem.Courses.{Stage, next_stage, first_taken, phase_asked, HasLastAsked}
+use Rattle.worker_store.specs.restart_theorem.Courses.{Phase, Shut, Unheard, Open, NoneThere}
+use Rattle.worker_store.specs.restart_theorem.Courses.{Broken, Closed}
+use Rattle.worker_store.specs.restart_theorem.Courses.{Stage, next_stage, first_taken, phase_asked}
+use Rattle.worker_store.specs.restart_theorem.Courses.{HasLastAsked}
 use Rattle.worker_store.specs.restart_theorem.Courses.{phase_refused, IsToldIn, IsAskedIn}
 use Rattle.worker_store.specs.restart_theorem.Courses.{ComesAfter, AreToldBy}
 use Rattle.worker_store.specs.restart_theorem.Courses.{IsWithinSlice}

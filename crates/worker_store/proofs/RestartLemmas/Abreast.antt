@@ -8,12 +8,14 @@ use Rattle.wasi_abi.specs.declared.answer.Answer.{Answer}
 use Rattle.wasi_abi.specs.rules.Configs.{Settings}
 use Rattle.process_rules.specs.Processes.{Ending, ProcessState, Guest}
 use Rattle.process_rules.specs.Runs.{Kept, Given, Next, Wants, next_of, LeadsTo, Moves, Runs}
-use Rattle.process_rules.specs.Runs.{Reaches, none, step, take as takes, widen}
+use Rattle.process_rules.specs.Runs.{Reaches, none, step, take as takes, widen, succeed}
 use Rattle.process_rules.proofs.Growing.{runs_count}
-use Rattle.worker_store.specs.restart_theorem.Lives.{Reply, Over, Spent, Waits, Done, Fails, Event, Told, Asked}
+use Rattle.worker_store.specs.restart_theorem.Lives.{Reply, Over, Spent, Waits, Done, Fails, Event}
+use Rattle.worker_store.specs.restart_theorem.Lives.{Told, Asked}
 use Rattle.worker_store.specs.restart_theorem.Lives.{Opened, Ended}
 use Rattle.worker_store.specs.restart_theorem.Courses.{Stage, abreast_by, next_stage, stage_after}
-use Rattle.worker_store.specs.restart_theorem.Promises.{Promise, promised, after, AreKept, TakesLast}
+use Rattle.worker_store.specs.restart_theorem.Promises.{Promise, promised, after, AreKept}
+use Rattle.worker_store.specs.restart_theorem.Promises.{TakesLast}
 use Rattle.worker_store.proofs.RestartLemmas.Fronts.{LeadsOn, fronts_lead_on, reached_counts}
 
 -- ---- it stays abreast
@@ -58,7 +60,7 @@ kept_behind m config so_far stage (e ∷ first) rest kept =
 
 -- ---- a process that asks
 
-wants_no_step : (guest : Guest) (p q : ProcessState) (question : Question)
+pub wants_no_step : (guest : Guest) (p q : ProcessState) (question : Question)
     → next_of guest p None ≡ Wants question → Moves guest p None q → ⊥
 wants_no_step guest p q question wants moves =
     leads_nowhere (next_of guest p None) wants moves.leads
@@ -75,6 +77,7 @@ stays_there guest p q kept n question (step {q = next} moves rest) e wants =
     absurd (wants_no_step guest p next question wants moves)
 stays_there guest p q kept n question (takes moves rest) e wants = absurd (cc)
 stays_there guest p q kept n question (widen at rest) e wants = absurd (cc)
+stays_there guest p q kept n question (succeed at sum rest) e wants = absurd (cc)
 
 -- so where it asks before any answer, no other process is reached later without one
 none_later : (m : Module) (config : Settings) (n k : ℕ) (p q : ProcessState)

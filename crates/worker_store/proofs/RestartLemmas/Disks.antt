@@ -39,8 +39,10 @@ use Rattle.worker_store.specs.restart_theorem.laws.Disks.{StandsForWhatIsReached
 use Rattle.worker_store.specs.restart_theorem.laws.Disks.{StandsByItsParts}
 use Rattle.worker_store.specs.restart_theorem.laws.Disks.{BlankStandsForNone, NoLaterProcessImage}
 use Rattle.worker_store.specs.restart_theorem.laws.Disks.{NoLaterSector, NoLaterRecord}
-use Rattle.worker_store.specs.restart_theorem.laws.Disks.{OneGeneration, tiny, tiny_disk, DiskExamples}
-use Rattle.worker_store.specs.restart_theorem.laws.Disks.{OneSpelledWorker, StandsWithin, BlankIsWithin}
+use Rattle.worker_store.specs.restart_theorem.laws.Disks.{OneGeneration, tiny, tiny_disk}
+use Rattle.worker_store.specs.restart_theorem.laws.Disks.{DiskExamples}
+use Rattle.worker_store.specs.restart_theorem.laws.Disks.{OneSpelledWorker, StandsWithin}
+use Rattle.worker_store.specs.restart_theorem.laws.Disks.{BlankIsWithin}
 use Rattle.worker_store.specs.restart_theorem.laws.Disks.{HeadsTellWidenings}
 
 -- ---- what is reached

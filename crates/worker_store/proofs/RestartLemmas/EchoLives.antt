@@ -9,7 +9,7 @@ use Rattle.wasi_abi.specs.declared.answer.Question.TheVariants as questions
 use Rattle.wasi_calls_rules.specs.WasiStates.{Line}
 use Rattle.process_rules.specs.Processes.{ProcessState, Guest}
 use Rattle.process_rules.specs.Runs.{Kept, Wants, Runs, Reaches, next_of, LeadsTo, none, step}
-use Rattle.process_rules.specs.Runs.{take, widen}
+use Rattle.process_rules.specs.Runs.{take, widen, succeed}
 use Rattle.process_rules.specs.Behind.{AnswersBehindLine, IsLine}
 use Rattle.process_rules.proofs.EchoValid.{echo_is_valid}
 use Rattle.process_rules.proofs.EchoHolds.{EchoAsks, echo_asks}
@@ -38,6 +38,8 @@ stays_asking guest p q question kept n (step {p = p'} {q = q'} m rest) e asks =
 stays_asking guest p q question kept n (take {p = p'} m rest) e asks =
     absurd (let none_taken = e in cc)
 stays_asking guest p q question kept n (widen at rest) e asks = absurd (let none_taken = e in cc)
+stays_asking guest p q question kept n (succeed at sum rest) e asks =
+    absurd (let none_taken = e in cc)
 
 -- so before its first answer `echo` tells nothing
 no_line_unasked : (config : Settings) (n : ℕ) (p : ProcessState) → Reaches echo config [] n p

@@ -10,7 +10,8 @@ use Rattle.disk_layout.specs.rules.Sectors.{IsMarked}
 use Rattle.worker_store.specs.restart_theorem.Stands.{IsBlank}
 use Rattle.worker_store.specs.restart_theorem.Holds.{DiskImageHolds, IsBounded}
 use Rattle.worker_store.specs.restart_theorem.Between.{IsFresh}
-use Rattle.worker_store.specs.restart_theorem.laws.Files.{IsJustOpened, OpenedAfterCut, LivesOnFilesGoOn}
+use Rattle.worker_store.specs.restart_theorem.laws.Files.{IsJustOpened, OpenedAfterCut}
+use Rattle.worker_store.specs.restart_theorem.laws.Files.{LivesOnFilesGoOn}
 use Rattle.worker_store.specs.restart_theorem.laws.Files.{PromisedLivesOnFilesGoOn, ZerosAreBlank}
 use Rattle.worker_store.proofs.RestartLemmas.NextLives.{lives_go_on, lives_on}
 

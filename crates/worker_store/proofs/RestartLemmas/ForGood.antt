@@ -1,22 +1,23 @@
 -- What a restart has at least stays so in all later lives.
-use Rattle.std.proofs.Common.{◌⊎◌, inl, inr, ℕ, ◌<◌, ◌≤◌, List, [], ◌∷◌, ◌++◌, sym, subst, arith}
+use Rattle.std.proofs.Common.{◌⊎◌, inl, inr, ℕ, ◌<◌, ◌≤◌, List, [], ◌∷◌, ◌++◌, arith}
 use Rattle.std.specs.Prelude.{max}
 use Rattle.wasm_syntax.specs.declared.module.Module.{Module}
 use Rattle.wasi_abi.specs.rules.Configs.{Settings}
 use Rattle.process_rules.specs.Behind.{AnswersBehindSync}
-use Rattle.worker_store.specs.restart_theorem.Lives.{Checkpoint, Reply, Spent, Waits, Over, Done, Fails}
-use Rattle.worker_store.specs.restart_theorem.Lives.{Event, Told, Asked, Opened, Ended, kept_of_said}
-use Rattle.worker_store.specs.restart_theorem.Promises.{Promise, nothing_yet, after, promised, synced_by}
-use Rattle.worker_store.specs.restart_theorem.laws.Laws.{OpenWith, OpeningsAreForGood, CheckpointsAreForGood}
-use Rattle.worker_store.specs.restart_theorem.laws.Laws.{HasReturned, SyncsAreForGood, TellBeyond}
-use Rattle.worker_store.specs.restart_theorem.laws.Laws.{OpenedLinesAreToldNoMore, SavedLinesAreToldNoMore}
+use Rattle.worker_store.specs.restart_theorem.Lives.{Reply, Spent, Waits, Over, Done}
+use Rattle.worker_store.specs.restart_theorem.Lives.{Fails}
+use Rattle.worker_store.specs.restart_theorem.Lives.{Event, Told, Asked, Opened, Ended}
+use Rattle.worker_store.specs.restart_theorem.Lives.{kept_of_said}
+use Rattle.worker_store.specs.restart_theorem.Promises.{Promise, after, promised}
+use Rattle.worker_store.specs.restart_theorem.Promises.{synced_by}
+use Rattle.worker_store.specs.restart_theorem.laws.Laws.{OpenWith, HasReturned, TellBeyond}
 use Rattle.worker_store.proofs.RestartLemmas.Fronts.{said_widens_none}
 use Rattle.worker_store.proofs.RestartLemmas.Widenings.{behind_more, sync_at_end}
-use Rattle.worker_store.proofs.RestartLemmas.Promised.{kept_of_promised, AreKeptSomewhere, all_kept}
+use Rattle.worker_store.proofs.RestartLemmas.Promised.{AreKeptSomewhere}
 
 -- ---- answers and steps
 
-opens_with : (m : Module) (config : Settings) (so_far : Promise) (a n : ℕ) (events : List Event)
+pub opens_with : (m : Module) (config : Settings) (so_far : Promise) (a n : ℕ) (events : List Event)
     → AreKeptSomewhere m config so_far events → a ≤ so_far.answers → n ≤ so_far.steps
     → OpenWith a n events
 opens_with m config so_far a n [] kept h k = tt
@@ -61,7 +62,7 @@ abbrev IsHeld : Module → Settings → Promise → ℕ → ℕ → Type 0
 IsHeld m config so_far k a = ((k ≤ so_far.synced) × AnswersBehindSync m config so_far.kept k a)
     ⊎ (a ≤ so_far.answers)
 
-syncs_held : (m : Module) (config : Settings) (so_far : Promise) (k a : ℕ) (events : List Event)
+pub syncs_held : (m : Module) (config : Settings) (so_far : Promise) (k a : ℕ) (events : List Event)
     → AreKeptSomewhere m config so_far events → IsHeld m config so_far k a → OpenWith a 0 events
 syncs_held m config so_far k a [] kept held = tt
 syncs_held m config so_far k a (Told r t ∷ events) kept held =
@@ -114,43 +115,7 @@ later_kept m config so_far [] e later kept = kept.1
 later_kept m config so_far (d ∷ earlier) e later kept =
     later_kept m config (after so_far d) earlier e later kept.1
 
-pub openings_for_good : OpeningsAreForGood
-openings_for_good m config inputs lives earlier later held shown goes split =
-    opens_with m config (after (promised nothing_yet earlier) (Opened held shown)) held shown.steps
-    later
-    (later_kept m config nothing_yet earlier (Opened held shown) later
-    (subst (λ z. AreKeptSomewhere m config nothing_yet z) split
-    (all_kept m config inputs lives goes)))
-    (omega arith) (omega arith)
-
-pub checkpoints_for_good : CheckpointsAreForGood
-checkpoints_for_good m config inputs lives earlier later held shown goes split =
-    opens_with m config (after (promised nothing_yet earlier) (Ended Checkpoint Done held shown))
-    held shown.steps later
-    (later_kept m config nothing_yet earlier (Ended Checkpoint Done held shown) later
-    (subst (λ z. AreKeptSomewhere m config nothing_yet z) split
-    (all_kept m config inputs lives goes)))
-    (omega arith) (omega arith)
-
-pub opened_lines : OpenedLinesAreToldNoMore
-opened_lines m config inputs lives earlier later held shown goes split =
-    tells_beyond m config (after (promised nothing_yet earlier) (Opened held shown)) shown.lines
-    later
-    (later_kept m config nothing_yet earlier (Opened held shown) later
-    (subst (λ z. AreKeptSomewhere m config nothing_yet z) split
-    (all_kept m config inputs lives goes)))
-    (omega arith)
-
-pub saved_lines : SavedLinesAreToldNoMore
-saved_lines m config inputs lives earlier later held shown goes split =
-    tells_beyond m config (after (promised nothing_yet earlier) (Ended Checkpoint Done held shown))
-    shown.lines later
-    (later_kept m config nothing_yet earlier (Ended Checkpoint Done held shown) later
-    (subst (λ z. AreKeptSomewhere m config nothing_yet z) split
-    (all_kept m config inputs lives goes)))
-    (omega arith)
-
-returned_by : (reply : Reply) (k steps synced : ℕ) → HasReturned reply k steps
+pub returned_by : (reply : Reply) (k steps synced : ℕ) → HasReturned reply k steps
     → k ≤ max (synced_by reply steps) synced
 returned_by Spent k steps synced h = omega (arith, h)
 returned_by Waits k steps synced h = omega (arith, h)
@@ -158,26 +123,9 @@ returned_by (Over why) k steps synced h = omega (arith, h)
 returned_by Done k steps synced h = omega (arith, h)
 returned_by (Fails cause) k steps synced h = omega (arith, h)
 
-returned_within : (reply : Reply) (k steps : ℕ) → HasReturned reply k steps → k ≤ steps
+pub returned_within : (reply : Reply) (k steps : ℕ) → HasReturned reply k steps → k ≤ steps
 returned_within Spent k steps h = h
 returned_within Waits k steps h = h
 returned_within (Over why) k steps h = h
 returned_within Done k steps h = h
 returned_within (Fails cause) k steps h = omega (arith, h)
-
-pub syncs_for_good : SyncsAreForGood
-syncs_for_good m config inputs lives earlier later act reply held shown k a goes split returned
-    behind =
-    let so_far : Promise = promised nothing_yet earlier in
-    let there : AnswersBehindSync m config so_far.kept k a =
-    subst (λ z. AnswersBehindSync m config z k a)
-    (sym (kept_of_promised nothing_yet earlier)) behind in
-    syncs_held m config (after so_far (Ended act reply held shown)) k a later
-    (later_kept m config nothing_yet earlier (Ended act reply held shown) later
-    (subst (λ z. AreKeptSomewhere m config nothing_yet z) split
-    (all_kept m config inputs lives goes)))
-    (inl (
-      returned_by reply k shown.steps so_far.synced returned,
-      sync_at_end m config so_far.kept act shown k a
-          (λ differs. returned_within reply k shown.steps returned) there,
-    ))

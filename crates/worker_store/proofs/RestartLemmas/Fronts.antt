@@ -11,12 +11,13 @@ use Rattle.wasi_abi.specs.declared.answer.Answer.{Answer}
 use Rattle.wasi_abi.specs.rules.Configs.{Settings}
 use Rattle.wasi_calls_rules.specs.WasiStates.{Line}
 use Rattle.process_rules.specs.Processes.{ProcessState, Guest}
-use Rattle.process_rules.specs.Runs.{Kept, Given, Wider, widened, IsWidening, Moves, Runs, Reaches}
-use Rattle.process_rules.specs.Runs.{none, step, take as takes, widen}
+use Rattle.process_rules.specs.Origins.{Origin, succeeding}
+use Rattle.process_rules.specs.Runs.{Kept, Given, Wider, Succeeds, widened, IsWidening, Moves, Runs}
+use Rattle.process_rules.specs.Runs.{Reaches, none, step, take as takes, widen, succeed}
 use Rattle.process_rules.specs.Behind.{IsNarrowTo, AnswersBehindLine, IsLine}
 use Rattle.worker_store.specs.restart_theorem.Lives.{SourceSaid, kept_of_said}
 use Rattle.process_rules.proofs.OneStart.{start_once}
-use Rattle.process_rules.proofs.OneProcess.{moves_once, one_or_other, never_late}
+use Rattle.process_rules.proofs.OneProcess.{moves_once, one_or_other, never_late, never_then}
 use Rattle.process_rules.proofs.Growing.{move_counts, runs_count, runs_emit, start_counts}
 
 -- ---- runs
@@ -63,6 +64,9 @@ same_answer a b e = cc
 same_widening : (x y : ℕ) → Wider x ≡ Wider y → x ≡ y
 same_widening x y e = cc
 
+same_origin : (x y : Origin) → Succeeds x ≡ Succeeds y → x ≡ y
+same_origin x y e = cc
+
 -- Where one run widens a process, no front takes a step there that widens it next at its end, or
 -- never.
 no_step_there : (guest : Guest) (s p q : ProcessState) (a c others : List Kept) (n steps : ℕ)
@@ -70,6 +74,7 @@ no_step_there : (guest : Guest) (s p q : ProcessState) (a c others : List Kept) 
     → IsNarrowTo c p.steps → ⊥
 no_step_there guest s p q [] [] others n steps m rest at e up = cc
 no_step_there guest s p q [] (Given x ∷ c) others n steps m rest at e up = cc
+no_step_there guest s p q [] (Succeeds x ∷ c) others n steps m rest at e up = cc
 no_step_there guest s p q [] (Wider t ∷ c) others n steps m rest at e up =
     let same : t ≡ steps = cc in
     let here = at.at in
@@ -77,9 +82,26 @@ no_step_there guest s p q [] (Wider t ∷ c) others n steps m rest at e up =
     let counted = runs_count guest q p [] n rest in
     omega (arith, same, here, first, counted, up)
 no_step_there guest s p q (Given x ∷ a) c others n steps m rest at e up = cc
+no_step_there guest s p q (Succeeds x ∷ a) c others n steps m rest at e up = cc
 no_step_there guest s p q (Wider t ∷ a) c others n steps m rest at e up =
     let same : t ≡ steps = cc in
     never_late guest s q p (Wider t ∷ a) n m rest at (ap (λ z. Wider z ∷ a) same)
+
+-- Where one run goes on from another process, no front takes a step first.
+none_before : (guest : Guest) (s p q : ProcessState) (a c others : List Kept) (n : ℕ) (o : Origin)
+    → Moves guest s None q → Runs guest q a n p → a ++ c ≡ Succeeds o ∷ others
+    → IsNarrowTo c p.steps → ⊥
+none_before guest s p q [] [] others n o m rest e up = cc
+none_before guest s p q [] (Given x ∷ c) others n o m rest e up = cc
+none_before guest s p q [] (Wider x ∷ c) others n o m rest e up = cc
+none_before guest s p q [] (Succeeds x ∷ c) others n o m rest e up =
+    let first = move_counts guest s q None m in
+    let counted = runs_count guest q p [] n rest in
+    omega (arith, first, counted, up)
+none_before guest s p q (Given x ∷ a) c others n o m rest e up = cc
+none_before guest s p q (Wider x ∷ a) c others n o m rest e up = cc
+none_before guest s p q (Succeeds x ∷ a) c others n o m rest e up =
+    never_then guest s q p (Succeeds x ∷ a) n m rest refl
 
 one_leads_on : (guest : Guest) (s p q : ProcessState) (a b c d : List Kept) (n k : ℕ)
     → Runs guest s a n p → Runs guest s b k q → a ++ c ≡ b ++ d → IsNarrowTo c p.steps
@@ -94,6 +116,8 @@ one_leads_on guest s p q a b c d n k (takes {p = p'} {q = p''} {a = x} {kept = a
     inr (record { kept = a; steps = n; runs = takes m rest; front = refl })
 one_leads_on guest s p q a b c d n k (widen at rest) (none {p = q'}) e up up' =
     inr (record { kept = a; steps = n; runs = widen at rest; front = refl })
+one_leads_on guest s p q a b c d n k (succeed at sum rest) (none {p = q'}) e up up' =
+    inr (record { kept = a; steps = n; runs = succeed at sum rest; front = refl })
 one_leads_on guest s p q a b c d n k (step {p = s'} {q = p'} {kept = a'} {n = n'} m rest)
     (step {q = q'} {kept = b'} {n = k'} m' rest') e up up' =
     let same : q' ≡ p' = moves_once guest s' q' p' None m' m in
@@ -104,6 +128,9 @@ one_leads_on guest s p q a b c d n k (step {p = s'} {q = p'} m rest)
 one_leads_on guest s p q a b c d n k (step {p = s'} {q = p'} {kept = a'} {n = n'} m rest)
     (widen {steps = t} {kept = b'} at rest') e up up' =
     absurd (no_step_there guest s' p p' a' c (b' ++ d) n' t m rest at e up)
+one_leads_on guest s p q a b c d n k (step {p = s'} {q = p'} {kept = a'} {n = n'} m rest)
+    (succeed {o = o} {kept = b'} at sum rest') e up up' =
+    absurd (none_before guest s' p p' a' c (b' ++ d) n' o m rest e up)
 one_leads_on guest s p q a b c d n k (takes {p = s'} {q = p'} {a = x} m rest)
     (step {q = q'} m' rest') e up up' = absurd (one_or_other guest s' q' p' x m' m)
 one_leads_on guest s p q a b c d n k (takes {p = s'} {q = p'} {a = x} {kept = a'} {n = n'} m rest)
@@ -115,14 +142,30 @@ one_leads_on guest s p q a b c d n k (takes {p = s'} {q = p'} {a = x} {kept = a'
     (one_leads_on guest p' p q a' b' c d n' k' rest (subst (λ z. Runs guest z b' k' q) same rest')
     (ap others e) up up')
 one_leads_on guest s p q a b c d n k (takes m rest) (widen at rest') e up up' = absurd (cc)
+one_leads_on guest s p q a b c d n k (takes m rest) (succeed at sum rest') e up up' = absurd (cc)
 one_leads_on guest s p q a b c d n k (widen {steps = t} {kept = a'} at rest)
     (step {p = s'} {q = q'} {kept = b'} {n = k'} m' rest') e up up' =
     absurd (no_step_there guest s' q q' b' d (a' ++ c) k' t m' rest' at (sym e) up')
 one_leads_on guest s p q a b c d n k (widen at rest) (takes m' rest') e up up' = absurd (cc)
+one_leads_on guest s p q a b c d n k (widen at rest) (succeed at' sum rest') e up up' =
+    absurd (cc)
 one_leads_on guest s p q a b c d n k (widen {p = s'} {steps = t} {kept = a'} {n = n'} at rest)
     (widen {steps = t'} {kept = b'} {n = k'} at' rest') e up up' =
     one_before guest p q (Wider t) (Wider t') a' b' (ap Wider (at.at ∙ sym at'.at))
     (one_leads_on guest (widened s') p q a' b' c d n' k' rest rest' (ap others e) up up')
+one_leads_on guest s p q a b c d n k (succeed {o = o} {kept = a'} at sum rest)
+    (step {p = s'} {q = q'} {kept = b'} {n = k'} m' rest') e up up' =
+    absurd (none_before guest s' q q' b' d (a' ++ c) k' o m' rest' (sym e) up')
+one_leads_on guest s p q a b c d n k (succeed at sum rest) (takes m' rest') e up up' = absurd (cc)
+one_leads_on guest s p q a b c d n k (succeed at sum rest) (widen at' rest') e up up' =
+    absurd (cc)
+one_leads_on guest s p q a b c d n k
+    (succeed {p = s'} {o = o} {kept = a'} {k = n'} at sum rest)
+    (succeed {o = o'} {kept = b'} {k = k'} at' sum' rest') e up up' =
+    let origins : o' ≡ o = sym (same_origin o o' (ap (first_or (Succeeds o)) e)) in
+    one_before guest p q (Succeeds o) (Succeeds o') a' b' (ap Succeeds (sym origins))
+    (one_leads_on guest (succeeding o s') p q a' b' c d n' k' rest
+    (subst (λ z. Runs guest (succeeding z s') b' k' q) origins rest') (ap others e) up up')
 
 -- what is reached counts its steps
 pub reached_counts : (m : Module) (config : Settings) (kept : List Kept) (n : ℕ) (p : ProcessState)
@@ -218,6 +261,7 @@ up_to_front (suc a) zero k kept up = tt
 up_to_front zero (suc n) k [] up = tt
 up_to_front zero (suc n) k (Given x ∷ kept) up = tt
 up_to_front zero (suc n) k (Wider s ∷ kept) up = up
+up_to_front zero (suc n) k (Succeeds o ∷ kept) up = up
 up_to_front (suc a) (suc n) k [] up = tt
 up_to_front (suc a) (suc n) k (x ∷ kept) up = up_to_front a n k kept up
 
@@ -228,6 +272,7 @@ up_to_more a zero k [] more e up up' = up'
 up_to_more a (suc b) k [] more e up up' = absurd (omega (arith, e))
 up_to_more zero zero k (Given x ∷ kept) more e up up' = tt
 up_to_more zero zero k (Wider s ∷ kept) more e up up' = up
+up_to_more zero zero k (Succeeds o ∷ kept) more e up up' = up
 up_to_more zero (suc b) k (x ∷ kept) more e up up' = absurd (omega (arith, e))
 up_to_more (suc a) zero k (x ∷ kept) more e up up' = absurd (omega (arith, e))
 up_to_more (suc a) (suc b) k (x ∷ kept) more e up up' =

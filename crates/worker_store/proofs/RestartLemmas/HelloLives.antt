@@ -11,24 +11,30 @@ use Rattle.wasi_calls_rules.specs.WasiStates.{Line}
 use Rattle.wasi_calls_rules.specs.declared.output_stream.OutputStream.TheVariants.{Stdout, Stderr}
 use Rattle.process_rules.specs.Processes.{ProcessState, Guest, Exited}
 use Rattle.process_rules.specs.Runs.{Kept, Wants, Runs, Reaches, next_of, LeadsTo, none, step, take}
-use Rattle.process_rules.specs.Runs.{widen}
+use Rattle.process_rules.specs.Runs.{widen, succeed}
 use Rattle.process_rules.specs.Behind.{IsNarrowTo, AnswersBehindLine, IsLine}
 use Rattle.process_rules.specs.laws.Examples.{hello_end}
 use Rattle.process_rules.proofs.ExamplesValid.{hello_is_valid}
 use Rattle.process_rules.proofs.ExamplesHold.{hello_ends}
 use Rattle.process_rules.proofs.Quiet.{none_counted}
 use Rattle.process_rules.proofs.Growing.{runs_emit}
-use Rattle.worker_store.specs.restart_theorem.Lives.{Act, Slice, Checkpoint, Inputs, Over, Event, Told, Opened}
+use Rattle.worker_store.specs.restart_theorem.Lives.{Act, Slice, Checkpoint, Inputs, Over, Event}
+use Rattle.worker_store.specs.restart_theorem.Lives.{Told, Opened}
 use Rattle.worker_store.specs.restart_theorem.Lives.{Ended, Beginning, Recovers, Creates}
-use Rattle.worker_store.specs.restart_theorem.Courses.{Stage, Open, at_first, at_beginning, next_stage}
+use Rattle.worker_store.specs.restart_theorem.Courses.{Stage, Open, at_first, at_beginning}
+use Rattle.worker_store.specs.restart_theorem.Courses.{next_stage}
 use Rattle.worker_store.specs.restart_theorem.Courses.{IsNextAct}
-use Rattle.worker_store.specs.restart_theorem.Promises.{Promise, nothing_yet, after, promised_by, HoldsAll}
+use Rattle.worker_store.specs.restart_theorem.Promises.{Promise, nothing_yet, after, promised_by}
+use Rattle.worker_store.specs.restart_theorem.Promises.{HoldsAll}
 use Rattle.worker_store.specs.restart_theorem.Promises.{IsKept, IsLived}
 use Rattle.worker_store.specs.restart_theorem.laws.Refused.{in_peace, creation_begun}
-use Rattle.worker_store.specs.restart_theorem.laws.WholeLives.{hi_told, hello_first, hello_last, cut_inputs}
-use Rattle.worker_store.specs.restart_theorem.laws.WholeLives.{cut_life, last_inputs, last_life, ended_inputs}
+use Rattle.worker_store.specs.restart_theorem.laws.WholeLives.{hi_told, hello_first, hello_last}
+use Rattle.worker_store.specs.restart_theorem.laws.WholeLives.{cut_inputs}
+use Rattle.worker_store.specs.restart_theorem.laws.WholeLives.{cut_life, last_inputs, last_life}
+use Rattle.worker_store.specs.restart_theorem.laws.WholeLives.{ended_inputs}
 use Rattle.worker_store.specs.restart_theorem.laws.WholeLives.{ended_life, HelloLives}
-use Rattle.worker_store.proofs.RestartLemmas.Fronts.{OneLeadsOn, fronts_lead_on, one_line, front_of_none}
+use Rattle.worker_store.proofs.RestartLemmas.Fronts.{OneLeadsOn, fronts_lead_on, one_line}
+use Rattle.worker_store.proofs.RestartLemmas.Fronts.{front_of_none}
 use Rattle.worker_store.proofs.RestartLemmas.Fronts.{none_widens}
 use Rattle.worker_store.proofs.RestartLemmas.Honesty.{never}
 use Rattle.worker_store.proofs.RestartLemmas.HelloShown.{at_first_step, at_last_step}
@@ -91,6 +97,7 @@ end_stays guest p q kept n (none {p = p'}) e over = refl
 end_stays guest p q kept n (step {p = p'} m rest) e over = absurd (let running = m.running in cc)
 end_stays guest p q kept n (take {p = p'} m rest) e over = absurd (let running = m.running in cc)
 end_stays guest p q kept n (widen at rest) e over = absurd (let nothing = e in cc)
+end_stays guest p q kept n (succeed at sum rest) e over = absurd (let nothing = e in cc)
 
 wants_nothing : (guest : Guest) (p : ProcessState) (question : Question) → IsEnded p.configuration
     → next_of guest p None ≡ Wants question → ⊥
@@ -111,6 +118,7 @@ wants_none guest p q question kept n (step {p = p'} {q = q'} m rest) e rests wan
     (rw wants at stopped)
 wants_none guest p q question kept n (take {p = p'} m rest) e rests wants = cc
 wants_none guest p q question kept n (widen at rest) e rests wants = cc
+wants_none guest p q question kept n (succeed at sum rest) e rests wants = cc
 
 asks_nothing : (config : Settings) (n : ℕ) (p : ProcessState) (question : Question)
     → (reached : Reaches hello config [] n p) → next_of reached.guest p None ≡ Wants question → ⊥

@@ -9,17 +9,23 @@ use Rattle.process_rules.specs.Behind.{IsNarrowTo, AnswersBehindLine}
 use Rattle.record_replay.specs.declared.fault.SourceFault.{SourceFault}
 use Rattle.worker_store.specs.restart_theorem.Lives.{Batch, SourceSaid, Inputs, Spent, Creates}
 use Rattle.worker_store.specs.restart_theorem.Lives.{Event, Told, Asked, Ended, kept_of_said}
-use Rattle.worker_store.specs.restart_theorem.Courses.{Stage, NoneThere, at_beginning, next_stage, first_said}
+use Rattle.worker_store.specs.restart_theorem.Courses.{Stage, NoneThere, at_beginning, next_stage}
+use Rattle.worker_store.specs.restart_theorem.Courses.{first_said}
 use Rattle.worker_store.specs.restart_theorem.Courses.{phase_asked, HasLastAsked}
-use Rattle.worker_store.specs.restart_theorem.Promises.{Promise, nothing_yet, after, promised_by, IsAt, HoldsAll}
+use Rattle.worker_store.specs.restart_theorem.Promises.{Promise, nothing_yet, after, promised_by}
+use Rattle.worker_store.specs.restart_theorem.Promises.{IsAt, HoldsAll}
 use Rattle.worker_store.specs.restart_theorem.Promises.{IsFitting, IsKept, IsLived, GoesOn}
 use Rattle.worker_store.specs.restart_theorem.laws.Refused.{creation_begun}
-use Rattle.worker_store.specs.restart_theorem.laws.Honest.{Teller, line_one, line_two, both_requests}
-use Rattle.worker_store.specs.restart_theorem.laws.Honest.{asked_first, asked_second, replaying_life}
+use Rattle.worker_store.specs.restart_theorem.laws.Honest.{Teller, line_one, line_two}
+use Rattle.worker_store.specs.restart_theorem.laws.Honest.{both_requests}
+use Rattle.worker_store.specs.restart_theorem.laws.Honest.{asked_first, asked_second}
+use Rattle.worker_store.specs.restart_theorem.laws.Honest.{replaying_life}
 use Rattle.worker_store.specs.restart_theorem.laws.Honest.{nothing_to_do}
 use Rattle.worker_store.specs.restart_theorem.laws.Batches.{SyncsNothing, batch_life, cut_batch}
-use Rattle.worker_store.specs.restart_theorem.laws.Batches.{fresh_life, answered_life, waiting_batch}
-use Rattle.worker_store.specs.restart_theorem.laws.Batches.{failing_batch, cut_behind, batch_42, first_request}
+use Rattle.worker_store.specs.restart_theorem.laws.Batches.{fresh_life, answered_life}
+use Rattle.worker_store.specs.restart_theorem.laws.Batches.{waiting_batch}
+use Rattle.worker_store.specs.restart_theorem.laws.Batches.{failing_batch, cut_behind, batch_42}
+use Rattle.worker_store.specs.restart_theorem.laws.Batches.{first_request}
 use Rattle.worker_store.specs.restart_theorem.laws.Batches.{HonestBatches}
 use Rattle.worker_store.proofs.RestartLemmas.LastQuestions.{told_late}
 use Rattle.worker_store.proofs.RestartLemmas.Honesty.{never, behind, some, opened_first, opens}

@@ -1,8 +1,10 @@
 -- What comes behind the last question of a call.
 use Rattle.std.proofs.Common.{ℕ, List}
 use Rattle.worker_store.specs.restart_theorem.Lives.{Act}
-use Rattle.worker_store.specs.restart_theorem.Courses.{Phase, Shut, Unheard, Open, NoneThere, Broken, Closed}
-use Rattle.worker_store.specs.restart_theorem.Courses.{HasLastAsked, IsInBatch, IsWithinSlice, IsToldIn}
+use Rattle.worker_store.specs.restart_theorem.Courses.{Phase, Shut, Unheard, Open, NoneThere}
+use Rattle.worker_store.specs.restart_theorem.Courses.{Broken, Closed}
+use Rattle.worker_store.specs.restart_theorem.Courses.{HasLastAsked, IsInBatch, IsWithinSlice}
+use Rattle.worker_store.specs.restart_theorem.Courses.{IsToldIn}
 use Rattle.worker_store.specs.restart_theorem.Courses.{IsAskedIn}
 
 -- no question,

@@ -1,6 +1,6 @@
 -- Steps and lines only grow: where a process comes to numbers below their ends, it had them before.
 use Rattle.std.proofs.Common.{◌≡◌, ℕ, ◌^◌, ◌<◌, ◌≤◌, List, [], ◌∷◌, length, Option, Some, None}
-use Rattle.std.proofs.Common.{refl, arith, length-append}
+use Rattle.std.proofs.Common.{◌++◌, refl, ap, arith, length-append}
 use Rattle.std.specs.Prelude.{Ok, Err, reverse, map, slice_get}
 use Rattle.wasm_syntax.specs.declared.value.Value.{Value}
 use Rattle.wasm_semantics.specs.Types.{number_in}
@@ -9,22 +9,25 @@ use Rattle.wasm_semantics.specs.Configuration.{Stuck}
 use Rattle.wasm_semantics.specs.Steps.{counted_step}
 use Rattle.wasi_abi.specs.declared.answer.Answer.{Answer}
 use Rattle.wasi_abi.specs.declared.call.Call.{Call}
-use Rattle.wasi_calls_rules.specs.WasiStates.{WasiState}
+use Rattle.wasi_calls_rules.specs.WasiStates.{Line, WasiState}
+use Rattle.wasi_calls_rules.specs.declared.output_stream.OutputStream.TheVariants.{Stdout, Stderr}
 use Rattle.wasi_calls_rules.specs.Checks.{Refuses, Ends, Asks as Inquires, Done, Ruling}
-use Rattle.wasi_calls_rules.specs.Lines.{lines_ended}
+use Rattle.wasi_calls_rules.specs.Lines.{rest_of, lines_ended}
 use Rattle.wasi_calls_rules.specs.CallRules.{call_rule}
 use Rattle.wasi_calls_rules.proofs.EmitsLines.{WritesFew, keeps, writes, call_rules_write_few}
 use Rattle.wasi_calls.proofs.Begun.{stream_begins}
 use Rattle.wasi_calls.proofs.FewLines.{ended_kept}
 use Rattle.process_rules.specs.Processes.{ProcessState, Guest, HasLineNumbers, closed_at}
+use Rattle.process_rules.specs.Origins.{Origin, succeeding}
 use Rattle.process_rules.specs.Runs.{Next, On, Over, Wants, Nowhere, after_call_rule, after_call}
 use Rattle.process_rules.specs.Runs.{after_counted_step, next_of, stepped, LeadsTo, Moves, none}
 use Rattle.process_rules.specs.Runs.{step, take}
-use Rattle.process_rules.specs.Runs.{widened, widen}
+use Rattle.process_rules.specs.Runs.{widened, widen, succeed}
 use Rattle.process_rules.proofs.Growing.{move_counts}
 use Rattle.record_replay.specs.rules.Records.{none as no_record, more as more_records}
 use Rattle.worker_store.specs.restart_theorem.Stands.{IsNumbered}
-use Rattle.worker_store.specs.restart_theorem.laws.Disks.{RunsKeepNumbers, RecordsKeepNumbers, SavedAreNumbered}
+use Rattle.worker_store.specs.restart_theorem.laws.Disks.{RunsKeepNumbers, RecordsKeepNumbers}
+use Rattle.worker_store.specs.restart_theorem.laws.Disks.{SavedAreNumbered}
 
 -- the lines of a host, with those that an end would emit
 abbrev all_lines : WasiState → ℕ
@@ -112,6 +115,14 @@ move_keeps_numbers guest p q given moves has =
 
 -- ---- runs
 
+-- a process without lines has no more of them than with those of another one
+succeeding_lines : (o : Origin) (p : ProcessState) → p.host.lines ≡ []
+    → all_lines p.host ≤ all_lines (succeeding o p).host
+succeeding_lines o p empty =
+    let begun : List Line = rest_of Stdout p.host.first ++ rest_of Stderr p.host.second in
+    let few : length p.host.lines ≡ 0 = ap (λ (l : List Line). length l) empty in
+    omega (arith, few, length-append p.host.lines begun, length-append o.lines begun)
+
 pub runs_keep_numbers : RunsKeepNumbers
 runs_keep_numbers guest p q kept n (none {p = p'}) has = has
 runs_keep_numbers guest p q kept n
@@ -126,6 +137,16 @@ runs_keep_numbers guest p q kept n (widen {p = p'} {kept = kept'} {n = k} at res
     let before : IsNumbered (widened p') =
     runs_keep_numbers guest (widened p') q kept' k rest has in
     record { steps = before.steps; lines = before.lines }
+runs_keep_numbers guest p q kept n
+    (succeed {p = p'} {o = o} {kept = kept'} {k = k} at sum rest) has =
+    let before : IsNumbered (succeeding o p') =
+    runs_keep_numbers guest (succeeding o p') q kept' k rest has in
+    let steps : p'.steps ≡ 0 = at.no_steps in
+    let lines : HasLineNumbers (succeeding o p').host = before.lines in
+    record {
+      steps = omega (arith, steps);
+      lines = omega (arith, lines, succeeding_lines o p' at.no_lines);
+    }
 
 pub records_keep_numbers : RecordsKeepNumbers
 records_keep_numbers guest p q records (no_record {p = p'}) has = has

@@ -2,9 +2,11 @@
 use Rattle.std.proofs.Common.{◌≡◌, ◌⊎◌, inl, inr, List}
 use Rattle.wasi_abi.specs.rules.Configs.{Settings}
 use Rattle.process_rules.specs.Runs.{Kept}
-use Rattle.worker_store.specs.restart_theorem.Lives.{Upgrade, Cause, OfDisk, OfSource, OfAnswer, OfOutlet}
+use Rattle.worker_store.specs.restart_theorem.Lives.{Upgrade, Cause, OfDisk, OfSource, OfAnswer}
+use Rattle.worker_store.specs.restart_theorem.Lives.{OfOutlet}
 use Rattle.worker_store.specs.restart_theorem.Lives.{OfMemory, OfBounds, OfJournal, OfLines}
-use Rattle.worker_store.specs.restart_theorem.Courses.{Phase, Stage, Open, HasLastAsked, MayFail, MayFailBatch}
+use Rattle.worker_store.specs.restart_theorem.Courses.{Phase, Stage, Open, HasLastAsked, MayFail}
+use Rattle.worker_store.specs.restart_theorem.Courses.{MayFailBatch}
 use Rattle.worker_store.specs.restart_theorem.Promises.{MayPlead}
 
 -- Any call might have failed so, or an upgrade has something of its own to say, in an open life.

@@ -1,18 +1,21 @@
 -- What events promise, read off their list.
-use Rattle.std.proofs.Common.{◌≡◌, ℕ, ◌+◌, ◌≤◌, Bool, false, List, [], ◌∷◌, ◌++◌, refl, ap, subst}
+use Rattle.std.proofs.Common.{◌≡◌, ℕ, ◌+◌, ◌≤◌, Bool, List, [], ◌∷◌, ◌++◌, refl, ap, subst}
 use Rattle.std.proofs.Common.{arith}
 use Rattle.wasm_syntax.specs.declared.module.Module.{Module}
 use Rattle.wasm_semantics.specs.Validity.{IsValid}
 use Rattle.wasi_abi.specs.rules.Configs.{Settings}
 use Rattle.process_rules.specs.Behind.{IsLine}
-use Rattle.worker_store.specs.restart_theorem.Lives.{Inputs, Life, Release, Event, Told, Asked, Opened, Ended}
+use Rattle.worker_store.specs.restart_theorem.Lives.{Inputs, Life, Release, Event, Told, Asked}
+use Rattle.worker_store.specs.restart_theorem.Lives.{Opened, Ended}
 use Rattle.worker_store.specs.restart_theorem.Lives.{events_of, kept_after, told_in, kept_of_said}
 use Rattle.worker_store.specs.restart_theorem.Courses.{Stage, at_beginning, next_stage}
-use Rattle.worker_store.specs.restart_theorem.Promises.{Promise, nothing_yet, after, promised, created_by}
+use Rattle.worker_store.specs.restart_theorem.Promises.{Promise, nothing_yet, after, promised}
+use Rattle.worker_store.specs.restart_theorem.Promises.{created_by}
 use Rattle.worker_store.specs.restart_theorem.Promises.{promised_by, IsKept, AreKept, GoOn}
 use Rattle.worker_store.specs.restart_theorem.laws.Laws.{HasOneText, HaveOneText, PromisesAreOfKept}
 use Rattle.worker_store.specs.restart_theorem.laws.Laws.{NoNumberHasTwoTexts, CallsJoin}
-use Rattle.worker_store.proofs.RestartLemmas.Fronts.{one_line, line_of_front, line_of_more, said_widens_none}
+use Rattle.worker_store.proofs.RestartLemmas.Fronts.{one_line, line_of_front, line_of_more}
+use Rattle.worker_store.proofs.RestartLemmas.Fronts.{said_widens_none}
 use Rattle.worker_store.proofs.RestartLemmas.Widenings.{line_at_end}
 
 pub kept_of_promised : (so_far : Promise) (events : List Event)
@@ -53,7 +56,7 @@ AreKeptSomewhere m config so_far (e ∷ events) =
     IsKeptSomewhere m config so_far e × AreKeptSomewhere m config (after so_far e) events
 
 -- what is promised but for the count of what has happened, and whether a creation was begun
-but_for_count : (so_far : Promise) (b : Bool) (n : ℕ) (events : List Event)
+pub but_for_count : (so_far : Promise) (b : Bool) (n : ℕ) (events : List Event)
     → promised (record so_far { was_created = b; events = n }) events
     ≡ record (promised so_far events) {
       was_created = (promised (record so_far { was_created = b; events = n }) events).was_created;
@@ -117,9 +120,10 @@ module _ (m : Module) (config : Settings) where
       (lives_kept (promised so_far life.events) then.was_created (then.events + 1) inputs lives
       (subst (λ z. GoOn m config z inputs lives) same goes.1))
 
-  pub all_kept : (inputs : List Inputs) (lives : List Life) → GoOn m config nothing_yet inputs lives
-      → AreKeptSomewhere m config nothing_yet (events_of lives)
-  all_kept inputs lives goes = lives_kept nothing_yet false 0 inputs lives goes
+  pub lives_kept_from : (so_far : Promise) (inputs : List Inputs) (lives : List Life)
+      → GoOn m config so_far inputs lives → AreKeptSomewhere m config so_far (events_of lives)
+  lives_kept_from so_far inputs lives goes =
+      lives_kept so_far so_far.was_created so_far.events inputs lives goes
 
   -- ---- one text for each number
 
@@ -147,7 +151,7 @@ module _ (m : Module) (config : Settings) where
       (record so_far { was_created = kept.0.was_created; events = kept.0.events }) kept.0.stage act
       reply held shown r.number r.line valid kept.0.kept was is)
 
-  one_text : (so_far : Promise) (events : List Event) → IsValid m
+  pub one_text : (so_far : Promise) (events : List Event) → IsValid m
       → AreKeptSomewhere m config so_far events → HaveOneText (told_in events)
   one_text so_far [] valid kept = tt
   one_text so_far (Told r t ∷ events) valid kept = (
@@ -163,4 +167,5 @@ module _ (m : Module) (config : Settings) where
 
 pub no_two_texts : NoNumberHasTwoTexts
 no_two_texts m config inputs lives valid goes =
-    one_text m config nothing_yet (events_of lives) valid (all_kept m config inputs lives goes)
+    one_text m config nothing_yet (events_of lives) valid
+    (lives_kept_from m config nothing_yet inputs lives goes)

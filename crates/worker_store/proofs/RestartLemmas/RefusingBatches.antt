@@ -11,11 +11,14 @@ use Rattle.process_rules.specs.Processes.{ProcessState}
 use Rattle.process_rules.specs.Runs.{Reaches}
 use Rattle.process_rules.proofs.OneProcess.{one_process}
 use Rattle.state_image.specs.rules.ProcessImage.{Saved}
-use Rattle.worker_store.specs.restart_theorem.Lives.{Act, Batch, SourceSaid, Cause, OfDisk, OfSource}
-use Rattle.worker_store.specs.restart_theorem.Lives.{OfAnswer, OfOutlet, OfMemory, OfBounds, OfJournal, OfLines}
+use Rattle.worker_store.specs.restart_theorem.Lives.{Act, Batch, SourceSaid, Cause, OfDisk}
+use Rattle.worker_store.specs.restart_theorem.Lives.{OfSource}
+use Rattle.worker_store.specs.restart_theorem.Lives.{OfAnswer, OfOutlet, OfMemory, OfBounds}
+use Rattle.worker_store.specs.restart_theorem.Lives.{OfJournal, OfLines}
 use Rattle.worker_store.specs.restart_theorem.Lives.{Reply, Asked, Ended}
 use Rattle.worker_store.specs.restart_theorem.Courses.{Phase, Open, NoneThere, Broken}
-use Rattle.worker_store.specs.restart_theorem.Courses.{Stage, IsInBatch, IsToldIn, AreToldBy, MayFailBatch}
+use Rattle.worker_store.specs.restart_theorem.Courses.{Stage, IsInBatch, IsToldIn, AreToldBy}
+use Rattle.worker_store.specs.restart_theorem.Courses.{MayFailBatch}
 use Rattle.worker_store.specs.restart_theorem.Courses.{phase_ended}
 use Rattle.worker_store.specs.restart_theorem.Promises.{Promise, IsKept, IsCaughtUp}
 use Rattle.worker_store.specs.restart_theorem.laws.Refused.{IsOfUpgrades, journal, lines}

@@ -8,20 +8,22 @@ use Rattle.wasi_abi.specs.declared.version.Version.TheVariants.{One, Two}
 use Rattle.wasi_abi.specs.rules.Configs.{Settings}
 use Rattle.process_rules.specs.Runs.{Kept, version_after}
 use Rattle.state_image.specs.rules.ProcessImage.{Saved}
-use Rattle.worker_store.specs.restart_theorem.Lives.{Act, Slice, Batch, Checkpoint, Upgrade, SourceSaid, Reply}
-use Rattle.worker_store.specs.restart_theorem.Lives.{Spent, Waits, Over, Done, Fails, Cause, Event, Told, Asked}
+use Rattle.worker_store.specs.restart_theorem.Lives.{Act, Slice, Batch, Checkpoint, Upgrade}
+use Rattle.worker_store.specs.restart_theorem.Lives.{SourceSaid, Reply}
+use Rattle.worker_store.specs.restart_theorem.Lives.{Spent, Waits, Over, Done, Fails, Cause, Event}
+use Rattle.worker_store.specs.restart_theorem.Lives.{Told, Asked}
 use Rattle.worker_store.specs.restart_theorem.Lives.{Opened, Ended, kept_of_said, kept_by_end}
 use Rattle.worker_store.specs.restart_theorem.Courses.{Stage, Open, Closed, phase_ended}
-use Rattle.worker_store.specs.restart_theorem.Promises.{Promise, nothing_yet, after, promised, saved_by, IsAt}
+use Rattle.worker_store.specs.restart_theorem.Promises.{Promise, after, promised}
+use Rattle.worker_store.specs.restart_theorem.Promises.{saved_by, IsAt}
 use Rattle.worker_store.specs.restart_theorem.Promises.{IsReply, IsCaughtUp}
-use Rattle.worker_store.specs.restart_theorem.laws.Upgrades.{UpgradeNone, ShowOne, OnlyUpgradesWiden, OpenInTwo}
-use Rattle.worker_store.specs.restart_theorem.laws.Upgrades.{UpgradesAreForGood, WideOpeningsAreForGood}
-use Rattle.worker_store.specs.restart_theorem.laws.Upgrades.{EndInTwo}
-use Rattle.worker_store.specs.restart_theorem.laws.Upgrades.{UpgradedStayWide, UpgradedLinesAreToldNoMore}
-use Rattle.worker_store.proofs.RestartLemmas.Promised.{IsKeptSomewhere, AreKeptSomewhere, all_kept}
-use Rattle.worker_store.proofs.RestartLemmas.ForGood.{tells_beyond, later_kept}
-use Rattle.worker_store.proofs.RestartLemmas.Widenings.{wide_cut, wide_longer, wide_whole, wide_more}
-use Rattle.worker_store.proofs.RestartLemmas.Widenings.{narrow_front, narrow_more, at_version, AddsWidening}
+use Rattle.worker_store.specs.restart_theorem.laws.Upgrades.{UpgradeNone, ShowOne}
+use Rattle.worker_store.specs.restart_theorem.laws.Upgrades.{OpenInTwo, EndInTwo}
+use Rattle.worker_store.proofs.RestartLemmas.Promised.{IsKeptSomewhere, AreKeptSomewhere}
+use Rattle.worker_store.proofs.RestartLemmas.Widenings.{wide_cut, wide_longer, wide_whole}
+use Rattle.worker_store.proofs.RestartLemmas.Widenings.{wide_more}
+use Rattle.worker_store.proofs.RestartLemmas.Widenings.{narrow_front, narrow_more, at_version}
+use Rattle.worker_store.proofs.RestartLemmas.Widenings.{AddsWidening}
 use Rattle.worker_store.proofs.RestartLemmas.Widenings.{end_keeps, one_is_not_two}
 
 -- ---- until an upgrade ends
@@ -39,7 +41,7 @@ module _ (m : Module) (config : Settings) where
   shows_one kept held shown narrow at =
       at_version m config (take held kept) shown.steps shown at ∙ narrow_front held kept narrow
 
-  show_one : (so_far : Promise) (earlier later : List Event) → version_after so_far.kept ≡ One
+  pub show_one : (so_far : Promise) (earlier later : List Event) → version_after so_far.kept ≡ One
       → AreKeptSomewhere m config so_far (earlier ++ later) → UpgradeNone earlier → ShowOne earlier
   show_one so_far [] later narrow kept no_upgrade = tt
   show_one so_far (Told r t ∷ earlier) later narrow kept no_upgrade =
@@ -71,16 +73,10 @@ module _ (m : Module) (config : Settings) where
   show_one so_far (Ended Upgrade reply held shown ∷ earlier) later narrow kept no_upgrade =
       absurd no_upgrade
 
-pub only_upgrades_widen : OnlyUpgradesWiden
-only_upgrades_widen m config inputs lives earlier later goes split =
-    show_one m config nothing_yet earlier later refl
-    (subst (λ z. AreKeptSomewhere m config nothing_yet z) split
-    (all_kept m config inputs lives goes))
-
 -- ---- once one is done
 
 -- the answers that each later life has lead to version 2
-abbrev IsWide : Promise → Type 0
+abbrev pub IsWide : Promise → Type 0
 IsWide so_far = version_after (take so_far.answers so_far.kept) ≡ Two
 
 -- it stays so where a call ends
@@ -98,7 +94,7 @@ wide_at_end so_far act reply held shown wide =
     (end_keeps act shown so_far.kept))
 
 module _ (m : Module) (config : Settings) where
-  open_in_two : (so_far : Promise) (a n : ℕ) (events : List Event)
+  pub open_in_two : (so_far : Promise) (a n : ℕ) (events : List Event)
       → AreKeptSomewhere m config so_far events → a ≤ so_far.answers → n ≤ so_far.steps
       → IsWide so_far → OpenInTwo a n events
   open_in_two so_far a n [] kept h k wide = tt
@@ -163,8 +159,8 @@ module _ (m : Module) (config : Settings) where
       ∙ ap (λ l. version_after l) (take-length kept)
       ∙ wide_whole then.answers kept (wide_at_end so_far act reply held shown wide)
 
-  end_in_two : (so_far : Promise) (events : List Event) → AreKeptSomewhere m config so_far events
-      → IsWide so_far → EndInTwo events
+  pub end_in_two : (so_far : Promise) (events : List Event)
+      → AreKeptSomewhere m config so_far events → IsWide so_far → EndInTwo events
   end_in_two so_far [] kept wide = tt
   end_in_two so_far (Told r t ∷ events) kept wide =
       end_in_two (after so_far (Told r t)) events kept.1 wide
@@ -183,14 +179,14 @@ module _ (m : Module) (config : Settings) where
 
   -- ---- in the middle of the lives
 
-  this_kept : (so_far : Promise) (earlier : List Event) (e : Event) (later : List Event)
+  pub this_kept : (so_far : Promise) (earlier : List Event) (e : Event) (later : List Event)
       → AreKeptSomewhere m config so_far (earlier ++ e ∷ later)
       → IsKeptSomewhere m config (promised so_far earlier) e
   this_kept so_far [] e later kept = kept.0
   this_kept so_far (d ∷ earlier) e later kept = this_kept (after so_far d) earlier e later kept.1
 
   -- where an upgrade is done
-  done_is_wide : (so_far : Promise) (held : ℕ) (shown : Saved)
+  pub done_is_wide : (so_far : Promise) (held : ℕ) (shown : Saved)
       → IsKeptSomewhere m config so_far (Ended Upgrade Done held shown)
       → IsWide (after so_far (Ended Upgrade Done held shown))
   done_is_wide so_far held shown somewhere =
@@ -200,55 +196,9 @@ module _ (m : Module) (config : Settings) where
       ∙ somewhere.kept.reply.2)
 
   -- and where a life opens in version 2
-  opened_is_wide : (so_far : Promise) (held : ℕ) (shown : Saved)
+  pub opened_is_wide : (so_far : Promise) (held : ℕ) (shown : Saved)
       → IsKeptSomewhere m config so_far (Opened held shown) → shown.version ≡ Two
       → IsWide (after so_far (Opened held shown))
   opened_is_wide so_far held shown somewhere two =
       wide_cut held (max held so_far.answers) held so_far.kept (omega arith) (omega arith)
       (sym (at_version m config (take held so_far.kept) shown.steps shown somewhere.kept.at) ∙ two)
-
-pub upgrades_for_good : UpgradesAreForGood
-upgrades_for_good m config inputs lives earlier later held shown goes split =
-    let kept : AreKeptSomewhere m config nothing_yet
-    (earlier ++ Ended Upgrade Done held shown ∷ later) =
-    subst (λ z. AreKeptSomewhere m config nothing_yet z) split
-    (all_kept m config inputs lives goes) in
-    let so_far : Promise = promised nothing_yet earlier in
-    open_in_two m config (after so_far (Ended Upgrade Done held shown)) held shown.steps later
-    (later_kept m config nothing_yet earlier (Ended Upgrade Done held shown) later kept)
-    (omega arith) (omega arith)
-    (done_is_wide m config so_far held shown
-    (this_kept m config nothing_yet earlier (Ended Upgrade Done held shown) later kept))
-
-pub wide_openings_for_good : WideOpeningsAreForGood
-wide_openings_for_good m config inputs lives earlier later held shown goes split two =
-    let kept : AreKeptSomewhere m config nothing_yet (earlier ++ Opened held shown ∷ later) =
-    subst (λ z. AreKeptSomewhere m config nothing_yet z) split
-    (all_kept m config inputs lives goes) in
-    let so_far : Promise = promised nothing_yet earlier in
-    open_in_two m config (after so_far (Opened held shown)) held shown.steps later
-    (later_kept m config nothing_yet earlier (Opened held shown) later kept)
-    (omega arith) (omega arith)
-    (opened_is_wide m config so_far held shown
-    (this_kept m config nothing_yet earlier (Opened held shown) later kept) two)
-
-pub upgraded_stay_wide : UpgradedStayWide
-upgraded_stay_wide m config inputs lives earlier later held shown goes split =
-    let kept : AreKeptSomewhere m config nothing_yet
-    (earlier ++ Ended Upgrade Done held shown ∷ later) =
-    subst (λ z. AreKeptSomewhere m config nothing_yet z) split
-    (all_kept m config inputs lives goes) in
-    let so_far : Promise = promised nothing_yet earlier in
-    end_in_two m config (after so_far (Ended Upgrade Done held shown)) later
-    (later_kept m config nothing_yet earlier (Ended Upgrade Done held shown) later kept)
-    (done_is_wide m config so_far held shown
-    (this_kept m config nothing_yet earlier (Ended Upgrade Done held shown) later kept))
-
-pub upgraded_lines : UpgradedLinesAreToldNoMore
-upgraded_lines m config inputs lives earlier later held shown goes split =
-    tells_beyond m config (after (promised nothing_yet earlier) (Ended Upgrade Done held shown))
-    shown.lines later
-    (later_kept m config nothing_yet earlier (Ended Upgrade Done held shown) later
-    (subst (λ z. AreKeptSomewhere m config nothing_yet z) split
-    (all_kept m config inputs lives goes)))
-    (omega arith)

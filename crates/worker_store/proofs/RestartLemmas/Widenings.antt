@@ -12,8 +12,10 @@ use Rattle.wasi_abi.specs.declared.version.Version.TheVariants.{One, Two}
 use Rattle.wasi_abi.specs.rules.Configs.{Settings}
 use Rattle.wasi_calls_rules.specs.WasiStates.{Line}
 use Rattle.process_rules.specs.Processes.{ProcessState, Guest}
-use Rattle.process_rules.specs.Runs.{Kept, Given, Wider, widened, version_after, IsWidening, Moves}
-use Rattle.process_rules.specs.Runs.{Runs, Reaches, none, step, take as takes, widen}
+use Rattle.process_rules.specs.Origins.{succeeding}
+use Rattle.process_rules.specs.Runs.{Kept, Given, Wider, Succeeds, widened, version_after}
+use Rattle.process_rules.specs.Runs.{IsWidening, Moves, Runs, Reaches, none, step, take as takes}
+use Rattle.process_rules.specs.Runs.{widen, succeed}
 use Rattle.process_rules.specs.Behind.{IsNarrowTo, AnswersBehindSync, IsLine}
 use Rattle.process_rules.proofs.Growing.{runs_count}
 use Rattle.process_rules.proofs.ReachedStates.{reached_versions}
@@ -25,7 +27,8 @@ use Rattle.worker_store.specs.restart_theorem.Lives.{kept_by_end}
 use Rattle.worker_store.specs.restart_theorem.Courses.{Stage}
 use Rattle.worker_store.specs.restart_theorem.Promises.{Promise, IsAt, MayWiden, IsEnding}
 use Rattle.worker_store.specs.restart_theorem.laws.Upgrades.{IsWidened, EndsWidenOnce}
-use Rattle.worker_store.proofs.RestartLemmas.Fronts.{fronts_lead_on, reached_counts, line_stays, line_of_more}
+use Rattle.worker_store.proofs.RestartLemmas.Fronts.{fronts_lead_on, reached_counts, line_stays}
+use Rattle.worker_store.proofs.RestartLemmas.Fronts.{line_of_more}
 use Rattle.worker_store.proofs.RestartLemmas.Fronts.{up_to_behind}
 
 -- ---- versions of what is kept
@@ -44,6 +47,8 @@ wide_cut (suc a) (suc b) zero kept h k wide = absurd (omega (arith, k))
 wide_cut (suc a) (suc b) (suc c) [] h k wide = absurd (one_is_not_two One refl wide)
 wide_cut (suc a) (suc b) (suc c) (Given x ∷ kept) h k wide =
     wide_cut a b c kept (omega (arith, h)) (omega (arith, k)) wide
+wide_cut (suc a) (suc b) (suc c) (Succeeds o ∷ kept) h k wide =
+    wide_cut a b c kept (omega (arith, h)) (omega (arith, k)) wide
 wide_cut (suc a) (suc b) (suc c) (Wider s ∷ kept) h k wide = refl
 
 pub wide_longer : (a b : ℕ) (kept : List Kept) → a ≤ b → version_after (take a kept) ≡ Two
@@ -53,6 +58,8 @@ wide_longer zero b (x ∷ kept) h wide = absurd (one_is_not_two One refl wide)
 wide_longer (suc a) zero kept h wide = absurd (omega (arith, h))
 wide_longer (suc a) (suc b) [] h wide = absurd (one_is_not_two One refl wide)
 wide_longer (suc a) (suc b) (Given x ∷ kept) h wide = wide_longer a b kept (omega (arith, h)) wide
+wide_longer (suc a) (suc b) (Succeeds o ∷ kept) h wide =
+    wide_longer a b kept (omega (arith, h)) wide
 wide_longer (suc a) (suc b) (Wider s ∷ kept) h wide = refl
 
 -- so are all of them, and those with more
@@ -62,6 +69,7 @@ wide_whole zero [] wide = absurd (one_is_not_two One refl wide)
 wide_whole zero (x ∷ kept) wide = absurd (one_is_not_two One refl wide)
 wide_whole (suc a) [] wide = absurd (one_is_not_two One refl wide)
 wide_whole (suc a) (Given x ∷ kept) wide = wide_whole a kept wide
+wide_whole (suc a) (Succeeds o ∷ kept) wide = wide_whole a kept wide
 wide_whole (suc a) (Wider s ∷ kept) wide = refl
 
 pub wide_more : (a : ℕ) (kept more : List Kept) → version_after (take a kept) ≡ Two
@@ -70,6 +78,7 @@ wide_more zero [] more wide = absurd (one_is_not_two One refl wide)
 wide_more zero (x ∷ kept) more wide = absurd (one_is_not_two One refl wide)
 wide_more (suc a) [] more wide = absurd (one_is_not_two One refl wide)
 wide_more (suc a) (Given x ∷ kept) more wide = wide_more a kept more wide
+wide_more (suc a) (Succeeds o ∷ kept) more wide = wide_more a kept more wide
 wide_more (suc a) (Wider s ∷ kept) more wide = refl
 
 -- a prefix of what doesn't widen doesn't, nor do two such
@@ -79,12 +88,14 @@ narrow_front zero [] narrow = refl
 narrow_front zero (x ∷ kept) narrow = refl
 narrow_front (suc a) [] narrow = refl
 narrow_front (suc a) (Given x ∷ kept) narrow = narrow_front a kept narrow
+narrow_front (suc a) (Succeeds o ∷ kept) narrow = narrow_front a kept narrow
 narrow_front (suc a) (Wider s ∷ kept) narrow = absurd (one_is_not_two Two narrow refl)
 
 pub narrow_more : (kept more : List Kept) → version_after kept ≡ One → version_after more ≡ One
     → version_after (kept ++ more) ≡ One
 narrow_more [] more narrow behind = behind
 narrow_more (Given x ∷ kept) more narrow behind = narrow_more kept more narrow behind
+narrow_more (Succeeds o ∷ kept) more narrow behind = narrow_more kept more narrow behind
 narrow_more (Wider s ∷ kept) more narrow behind = absurd (one_is_not_two Two narrow refl)
 
 -- what is shown has the version to which its answers lead
@@ -102,12 +113,13 @@ record WasWidened (guest : Guest) (s : ProcessState) (kept : List Kept) (n : ℕ
   runs : Runs guest s kept n before
   is : r ≡ widened before
 
-nowhere : (guest : Guest) (p q : ProcessState) (kept : List Kept) (n : ℕ) → n ≡ 0 → kept ≡ []
+pub nowhere : (guest : Guest) (p q : ProcessState) (kept : List Kept) (n : ℕ) → n ≡ 0 → kept ≡ []
     → Runs guest p kept n q → q ≡ p
 nowhere guest p q kept n e f none = refl
 nowhere guest p q kept n e f (step moves rest) = absurd (omega (arith, e))
 nowhere guest p q kept n e f (takes moves rest) = absurd (omega (arith, e))
 nowhere guest p q kept n e f (widen at rest) = absurd (cc)
+nowhere guest p q kept n e f (succeed at sum rest) = absurd (cc)
 
 was_widened : (guest : Guest) (s r : ProcessState) (whole kept : List Kept) (n steps : ℕ)
     → Runs guest s whole n r → whole ≡ kept ++ Wider steps ∷ [] → steps ≡ r.steps
@@ -120,6 +132,7 @@ was_widened guest s r whole kept n steps
     record { before = was.before; runs = step moves was.runs; is = was.is }
 was_widened guest s r whole [] n steps (takes moves rest) e at = absurd (cc)
 was_widened guest s r whole (Wider t ∷ kept) n steps (takes moves rest) e at = absurd (cc)
+was_widened guest s r whole (Succeeds o ∷ kept) n steps (takes moves rest) e at = absurd (cc)
 was_widened guest s r whole (Given b ∷ kept) n steps
     (takes {p = s'} {q = next} {a = a} {kept = whole'} {n = m} moves rest) e at =
     let same : a ≡ b = cc in
@@ -143,6 +156,7 @@ was_widened guest s r whole [] n steps
       is = nowhere guest (widened s') r whole' m none_left nothing rest;
     }
 was_widened guest s r whole (Given b ∷ kept) n steps (widen here rest) e at = absurd (cc)
+was_widened guest s r whole (Succeeds o ∷ kept) n steps (widen here rest) e at = absurd (cc)
 was_widened guest s r whole (Wider u ∷ kept) n steps
     (widen {p = s'} {steps = t} {kept = whole'} {n = m} here rest) e at =
     let same : t ≡ u = cc in
@@ -151,6 +165,20 @@ was_widened guest s r whole (Wider u ∷ kept) n steps
     record {
       before = was.before;
       runs = widen (subst (λ z. IsWidening s' z) same here) was.runs;
+      is = was.is;
+    }
+was_widened guest s r whole [] n steps (succeed here sum rest) e at = absurd (cc)
+was_widened guest s r whole (Given b ∷ kept) n steps (succeed here sum rest) e at = absurd (cc)
+was_widened guest s r whole (Wider u ∷ kept) n steps (succeed here sum rest) e at = absurd (cc)
+was_widened guest s r whole (Succeeds from ∷ kept) n steps
+    (succeed {p = s'} {o = o} {kept = whole'} {n = n'} {k = m} here sum rest) e at =
+    let same : o ≡ from = cc in
+    let others : whole' ≡ kept ++ Wider steps ∷ [] = cc in
+    let was = was_widened guest (succeeding o s') r whole' kept m steps rest others at in
+    record {
+      before = was.before;
+      runs = subst (λ z. Runs guest s' (Succeeds z ∷ kept) n' was.before) same
+          (succeed here sum was.runs);
       is = was.is;
     }
 
@@ -223,6 +251,11 @@ past_widening guest s p whole (x ∷ front) rest n w
     (widen {p = s'} {kept = whole'} {n = m} here others) e =
     let behind : whole' ≡ front ++ Wider w ∷ rest = cc in
     past_widening guest (widened s') p whole' front rest m w others behind
+past_widening guest s p whole [] rest n w (succeed here sum others) e = absurd (cc)
+past_widening guest s p whole (x ∷ front) rest n w
+    (succeed {p = s'} {o = o} {kept = whole'} {k = m} here sum others) e =
+    let behind : whole' ≡ front ++ Wider w ∷ rest = cc in
+    past_widening guest (succeeding o s') p whole' front rest m w others behind
 
 -- ---- the end of a call
 
@@ -286,6 +319,9 @@ all_taken [] steps zero narrow wide = absurd (one_is_not_two One refl wide)
 all_taken [] steps (suc held) narrow wide = omega arith
 all_taken (x ∷ kept) steps zero narrow wide = absurd (one_is_not_two One refl wide)
 all_taken (Given a ∷ kept) steps (suc held) narrow wide =
+    let less = all_taken kept steps held narrow wide in
+    omega (arith, less)
+all_taken (Succeeds o ∷ kept) steps (suc held) narrow wide =
     let less = all_taken kept steps held narrow wide in
     omega (arith, less)
 all_taken (Wider s ∷ kept) steps (suc held) narrow wide =

@@ -14,8 +14,10 @@ use Rattle.process.specs.rules.Stops.{IsBeyond}
 use Rattle.disk_layout.specs.rules.Journal.{TakesRecords}
 use Rattle.state_image.specs.rules.ProcessImage.{Saved, SavedShowsProcess}
 use Rattle.worker_store.specs.restart_theorem.Lives.{Act, Reply, Spent, Waits, Over, Done}
-use Rattle.worker_store.specs.restart_theorem.Lives.{Fails, Cause, OfDisk, OfBounds, Ended, kept_by_end}
-use Rattle.worker_store.specs.restart_theorem.Courses.{Stage, Phase, Open, NoneThere, MayFail, next_stage}
+use Rattle.worker_store.specs.restart_theorem.Lives.{Fails, Cause, OfDisk, OfBounds, Ended}
+use Rattle.worker_store.specs.restart_theorem.Lives.{kept_by_end}
+use Rattle.worker_store.specs.restart_theorem.Courses.{Stage, Phase, Open, NoneThere, MayFail}
+use Rattle.worker_store.specs.restart_theorem.Courses.{next_stage}
 use Rattle.worker_store.specs.restart_theorem.Courses.{IsInBatch, HasLastAsked, phase_ended}
 use Rattle.worker_store.specs.restart_theorem.Promises.{Promise, after, fuel_of, MayPlead, IsEnding}
 use Rattle.worker_store.specs.laws.Acts.{TakesSteps, SavesWith, ShowsItsVersion}

@@ -14,7 +14,8 @@ use Rattle.state_image.specs.rules.ProcessImage.{Saved}
 use Rattle.sector_disk.specs.rules.Medium.{Medium}
 use Rattle.disk_layout.specs.rules.Journal.{Record}
 use Rattle.journal.specs.rules.State.{JournalState}
-use Rattle.worker_store.specs.restart_theorem.Lives.{Act, Reply, Release, SourceSaid, Told, Asked, Ended}
+use Rattle.worker_store.specs.restart_theorem.Lives.{Act, Reply, Release, SourceSaid, Told, Asked}
+use Rattle.worker_store.specs.restart_theorem.Lives.{Ended}
 use Rattle.worker_store.specs.restart_theorem.Lives.{kept_of_said, kept_by_end}
 use Rattle.worker_store.specs.restart_theorem.Promises.{Promise, after, saved_by, synced_by}
 use Rattle.worker_store.specs.rules.Savepoints.{Savepoint, IsJournaled}

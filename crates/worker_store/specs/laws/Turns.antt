@@ -12,7 +12,8 @@ use Rattle.disk_layout.specs.rules.Journal.{Record}
 use Rattle.journal.specs.rules.State.{JournalState}
 use Rattle.state_image.specs.rules.ProcessImage.{Saved}
 use Rattle.record_replay.specs.rules.Calls.{Exchange}
-use Rattle.worker_store.specs.restart_theorem.Lives.{Act, Reply, SourceSaid, Asked, Ended, kept_by_end}
+use Rattle.worker_store.specs.restart_theorem.Lives.{Act, Reply, SourceSaid, Asked, Ended}
+use Rattle.worker_store.specs.restart_theorem.Lives.{kept_by_end}
 use Rattle.worker_store.specs.restart_theorem.Courses.{Stage}
 use Rattle.worker_store.specs.restart_theorem.Promises.{Promise, after}
 use Rattle.worker_store.specs.restart_theorem.Holds.{DiskImageHolds, KeepsPromise, CarriesPromise}

@@ -13,10 +13,13 @@ use Rattle.process_rules.specs.Runs.{Runs, Moves, Wants, next_of}
 use Rattle.record_replay.specs.declared.fault.SourceFault.{SourceFault}
 use Rattle.worker_store.specs.restart_theorem.Lives.{Act, SourceSaid, Release, Told, Asked}
 use Rattle.worker_store.specs.restart_theorem.Lives.{OfSource, OfAnswer, OfOutlet}
-use Rattle.worker_store.specs.restart_theorem.Courses.{Stage, Phase, Open, NoneThere, Broken, next_stage}
-use Rattle.worker_store.specs.restart_theorem.Courses.{first_said, first_taken, phase_asked, HasLastAsked}
+use Rattle.worker_store.specs.restart_theorem.Courses.{Stage, Phase, Open, NoneThere, Broken}
+use Rattle.worker_store.specs.restart_theorem.Courses.{next_stage}
+use Rattle.worker_store.specs.restart_theorem.Courses.{first_said, first_taken, phase_asked}
+use Rattle.worker_store.specs.restart_theorem.Courses.{HasLastAsked}
 use Rattle.worker_store.specs.restart_theorem.Courses.{IsInBatch}
-use Rattle.worker_store.specs.restart_theorem.Promises.{Promise, after, IsTelling, IsInquiring, IsFitting}
+use Rattle.worker_store.specs.restart_theorem.Promises.{Promise, after, IsTelling, IsInquiring}
+use Rattle.worker_store.specs.restart_theorem.Promises.{IsFitting}
 use Rattle.worker_store.specs.restart_theorem.Promises.{IsOneOf, fuel_of}
 use Rattle.worker_store.specs.laws.Acts.{TakesSteps, most_held}
 

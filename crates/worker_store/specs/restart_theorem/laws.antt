@@ -2,9 +2,13 @@ pub mod Batches
 pub mod Disks
 pub mod Examples
 pub mod Files
+pub mod ForGood
 pub mod Found
 pub mod Honest
 pub mod Laws
 pub mod Refused
+pub mod SuccessionExamples
+pub mod Successions
+pub mod SuccessorLives
 pub mod Upgrades
 pub mod WholeLives

@@ -7,7 +7,8 @@ use Rattle.process_rules.specs.Processes.{ProcessState, Guest, IsStart}
 use Rattle.process_rules.specs.Runs.{Runs}
 use Rattle.record_replay.specs.rules.Calls.{Exchange, Asks, Tells}
 use Rattle.worker_store.specs.restart_theorem.Lives.{SourceSaid}
-use Rattle.worker_store.specs.restart_theorem.Courses.{Stage, first_said, first_taken, without_first, Open}
+use Rattle.worker_store.specs.restart_theorem.Courses.{Stage, first_said, first_taken}
+use Rattle.worker_store.specs.restart_theorem.Courses.{without_first, Open}
 use Rattle.worker_store.specs.restart_theorem.Promises.{Promise}
 use Rattle.worker_store.specs.restart_theorem.Exchanges.{was_taken}
 

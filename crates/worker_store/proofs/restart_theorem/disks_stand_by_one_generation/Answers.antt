@@ -1,7 +1,8 @@
 use Rattle.worker_store.proofs.RestartLemmas.Disks.{blank_stands_for_none, no_later_process_image}
 use Rattle.worker_store.proofs.RestartLemmas.Disks.{no_later_sector, no_later_record}
 use Rattle.worker_store.proofs.RestartLemmas.Disks.{one_generation, disk_examples}
-use Rattle.worker_store.proofs.RestartLemmas.Disks.{one_spelled_worker, stands_within, blank_is_within}
+use Rattle.worker_store.proofs.RestartLemmas.Disks.{one_spelled_worker, stands_within}
+use Rattle.worker_store.proofs.RestartLemmas.Disks.{blank_is_within}
 use Rattle.worker_store.proofs.restart_theorem.disks_stand_by_one_generation.Goals as goal
 
 pub returns-clause-blank : goal.returns-clause-blank

@@ -1,4 +1,4 @@
-use Rattle.worker_store.proofs.RestartLemmas.Upgrading.{only_upgrades_widen}
+use Rattle.worker_store.proofs.RestartLemmas.StaysForGood.{only_upgrades_widen}
 use Rattle.worker_store.proofs.RestartLemmas.Widenings.{ends_widen_once}
 use Rattle.worker_store.proofs.restart_theorem.only_upgrades_widen.Goals as goal
 

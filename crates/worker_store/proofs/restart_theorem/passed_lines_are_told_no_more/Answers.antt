@@ -1,4 +1,4 @@
-use Rattle.worker_store.proofs.RestartLemmas.ForGood.{opened_lines, saved_lines}
+use Rattle.worker_store.proofs.RestartLemmas.StaysForGood.{opened_lines, saved_lines}
 use Rattle.worker_store.proofs.restart_theorem.passed_lines_are_told_no_more.Goals as goal
 
 pub returns-clause-openings : goal.returns-clause-openings

@@ -1,4 +1,6 @@
-use Rattle.worker_store.proofs.RestartLemmas.ForGood.{openings_for_good, checkpoints_for_good, syncs_for_good}
+use Rattle.worker_store.proofs.RestartLemmas.StaysForGood.{openings_for_good, checkpoints_for_good}
+use Rattle.worker_store.proofs.RestartLemmas.StaysForGood.{syncs_for_good}
+use Rattle.worker_store.proofs.RestartLemmas.StaysForGood.{what_is_for_good}
 use Rattle.worker_store.proofs.restart_theorem.promises_are_for_good.Goals as goal
 
 pub returns-clause-openings : goal.returns-clause-openings
@@ -9,3 +11,6 @@ returns-clause-checkpoints c = checkpoints_for_good
 
 pub returns-clause-syncs : goal.returns-clause-syncs
 returns-clause-syncs c = syncs_for_good
+
+pub returns-clause-any : goal.returns-clause-any
+returns-clause-any c = what_is_for_good

@@ -1,5 +1,6 @@
-use Rattle.worker_store.proofs.RestartLemmas.Upgrading.{upgrades_for_good, wide_openings_for_good}
-use Rattle.worker_store.proofs.RestartLemmas.Upgrading.{upgraded_stay_wide, upgraded_lines}
+use Rattle.worker_store.proofs.RestartLemmas.StaysForGood.{upgrades_for_good}
+use Rattle.worker_store.proofs.RestartLemmas.StaysForGood.{wide_openings_for_good}
+use Rattle.worker_store.proofs.RestartLemmas.StaysForGood.{upgraded_stay_wide, upgraded_lines}
 use Rattle.worker_store.proofs.restart_theorem.upgrades_are_for_good.Goals as goal
 
 pub returns-clause-done : goal.returns-clause-done

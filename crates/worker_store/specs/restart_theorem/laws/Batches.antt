@@ -13,15 +13,21 @@ use Rattle.process_rules.specs.Runs.{Given, version_after, Reaches}
 use Rattle.process_rules.specs.Behind.{AnswersBehindSync}
 use Rattle.record_replay.specs.declared.fault.SourceFault.{SourceFault}
 use Rattle.state_image.specs.rules.ProcessImage.{Saved}
-use Rattle.worker_store.specs.restart_theorem.Lives.{Act, Slice, Batch, SourceSaid, Inputs, Release, Cause}
-use Rattle.worker_store.specs.restart_theorem.Lives.{OfDisk, OfSource, OfOutlet, Reply, Spent, Waits, Fails}
+use Rattle.worker_store.specs.restart_theorem.Lives.{Act, Slice, Batch, SourceSaid, Inputs, Release}
+use Rattle.worker_store.specs.restart_theorem.Lives.{Cause}
+use Rattle.worker_store.specs.restart_theorem.Lives.{OfDisk, OfSource, OfOutlet, Reply, Spent}
+use Rattle.worker_store.specs.restart_theorem.Lives.{Waits, Fails}
 use Rattle.worker_store.specs.restart_theorem.Lives.{Event, Told, Asked, Opened, Ended}
 use Rattle.worker_store.specs.restart_theorem.Lives.{End, Finished, Stopped, Failed, Life}
-use Rattle.worker_store.specs.restart_theorem.Courses.{Stage, Open, NoneThere, Broken, HasLastAsked, phase_ended}
+use Rattle.worker_store.specs.restart_theorem.Courses.{Stage, Open, NoneThere, Broken, HasLastAsked}
+use Rattle.worker_store.specs.restart_theorem.Courses.{phase_ended}
 use Rattle.worker_store.specs.restart_theorem.Promises.{Promise, IsKept, GoesOn}
-use Rattle.worker_store.specs.restart_theorem.laws.Refused.{in_peace, created_life, recovered_life, IsOfUpgrades}
-use Rattle.worker_store.specs.restart_theorem.laws.Honest.{Teller, line_one, line_two, both_requests}
-use Rattle.worker_store.specs.restart_theorem.laws.Honest.{asked_first, asked_second, replaying_life}
+use Rattle.worker_store.specs.restart_theorem.laws.Refused.{in_peace, created_life, recovered_life}
+use Rattle.worker_store.specs.restart_theorem.laws.Refused.{IsOfUpgrades}
+use Rattle.worker_store.specs.restart_theorem.laws.Honest.{Teller, line_one, line_two}
+use Rattle.worker_store.specs.restart_theorem.laws.Honest.{both_requests}
+use Rattle.worker_store.specs.restart_theorem.laws.Honest.{asked_first, asked_second}
+use Rattle.worker_store.specs.restart_theorem.laws.Honest.{replaying_life}
 use Rattle.worker_store.specs.restart_theorem.laws.Honest.{nothing_to_do}
 
 -- ---- events
@@ -128,7 +134,8 @@ module _ {m : Module} {config : Settings} (t : Teller m config) where
 
   -- a batch that asks for the second request while a line waits, to which the source says this
   abbrev pub asking_twice : SourceSaid → List Event → List Event
-  asking_twice said more = Opened 0 t.fresh.saved ∷ asked_first t ∷ Asked 27 t.question said true ∷ more
+  asking_twice said more =
+      Opened 0 t.fresh.saved ∷ asked_first t ∷ Asked 27 t.question said true ∷ more
 
   -- it has none, and the line is told then
   abbrev pub waiting_batch : Life

@@ -17,7 +17,8 @@ use Rattle.disk_layout.specs.rules.Sectors.{super_bytes, head_bytes, HasWorker, 
 use Rattle.disk_layout.specs.rules.Journal.{Record, journal_sector, is_of}
 use Rattle.journal.specs.rules.Steps.{JournalHolds}
 use Rattle.record_replay.specs.rules.Records.{Recorded, given_in}
-use Rattle.worker_store.specs.restart_theorem.Stands.{ShowsNoneLater, IsNumbered, StandsFor, IsBlank}
+use Rattle.worker_store.specs.restart_theorem.Stands.{ShowsNoneLater, IsNumbered, StandsFor}
+use Rattle.worker_store.specs.restart_theorem.Stands.{IsBlank}
 use Rattle.worker_store.specs.restart_theorem.Holds.{IsBounded}
 use Rattle.sector_disk.specs.declared.sector.TheConstants.{SECTOR_SIZE}
 use Rattle.disk_layout.specs.declared.superblock.TheConstants.{END_MARK_AT}

@@ -15,8 +15,10 @@ use Rattle.process_rules.specs.Processes.{ProcessState}
 use Rattle.process_rules.specs.Runs.{Kept, Given, Wider, Wants, next_of, Reaches}
 use Rattle.disk_layout.specs.rules.Journal.{TakesRecords}
 use Rattle.state_image.specs.rules.ProcessImage.{Saved}
-use Rattle.worker_store.specs.restart_theorem.Lives.{Slice, Checkpoint, Upgrade, SourceSaid, Inputs, Release}
-use Rattle.worker_store.specs.restart_theorem.Lives.{OfDisk, OfOutlet, OfMemory, Spent, Waits, Done, Fails}
+use Rattle.worker_store.specs.restart_theorem.Lives.{Slice, Checkpoint, Upgrade, SourceSaid, Inputs}
+use Rattle.worker_store.specs.restart_theorem.Lives.{Release}
+use Rattle.worker_store.specs.restart_theorem.Lives.{OfDisk, OfOutlet, OfMemory, Spent, Waits, Done}
+use Rattle.worker_store.specs.restart_theorem.Lives.{Fails}
 use Rattle.worker_store.specs.restart_theorem.Lives.{Event, Told, Asked}
 use Rattle.worker_store.specs.restart_theorem.Lives.{Opened}
 use Rattle.worker_store.specs.restart_theorem.Lives.{Ended, Finished, Stopped, Failed, Life}

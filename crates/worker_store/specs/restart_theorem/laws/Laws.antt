@@ -5,11 +5,14 @@ use Rattle.wasm_semantics.specs.Validity.{IsValid}
 use Rattle.wasi_abi.specs.rules.Configs.{Settings}
 use Rattle.process_rules.specs.Behind.{AnswersBehindSync}
 use Rattle.state_image.specs.rules.ProcessImage.{Saved}
-use Rattle.worker_store.specs.restart_theorem.Lives.{Act, Checkpoint, Inputs, Release, Reply, Done, Fails}
+use Rattle.worker_store.specs.restart_theorem.Lives.{Act, Checkpoint, Inputs, Release, Reply, Done}
+use Rattle.worker_store.specs.restart_theorem.Lives.{Fails}
 use Rattle.worker_store.specs.restart_theorem.Lives.{Event, Told, Asked, Opened, Ended, Life}
-use Rattle.worker_store.specs.restart_theorem.Lives.{events_of, kept_after, kept_answers, told_lines}
+use Rattle.worker_store.specs.restart_theorem.Lives.{events_of, kept_after, kept_answers}
+use Rattle.worker_store.specs.restart_theorem.Lives.{told_lines}
 use Rattle.worker_store.specs.restart_theorem.Courses.{Stage, stage_after}
-use Rattle.worker_store.specs.restart_theorem.Promises.{Promise, nothing_yet, promised, AreKept, GoesOn}
+use Rattle.worker_store.specs.restart_theorem.Promises.{Promise, nothing_yet, promised, AreKept}
+use Rattle.worker_store.specs.restart_theorem.Promises.{GoesOn}
 
 -- each of these releases that has the number of this one is the same line
 abbrev pub HasOneText : List Release → Release → Type 0

@@ -16,15 +16,20 @@ use Rattle.process_rules.specs.Processes.{Ending, ProcessState}
 use Rattle.process_rules.specs.Runs.{Given, version_after, Reaches}
 use Rattle.process_rules.specs.Behind.{AnswersBehindSync}
 use Rattle.state_image.specs.rules.ProcessImage.{Saved}
-use Rattle.worker_store.specs.restart_theorem.Lives.{Act, Slice, Checkpoint, Upgrade, SourceSaid, Inputs}
+use Rattle.worker_store.specs.restart_theorem.Lives.{Act, Slice, Checkpoint, Upgrade, SourceSaid}
+use Rattle.worker_store.specs.restart_theorem.Lives.{Inputs}
 use Rattle.worker_store.specs.restart_theorem.Lives.{Release, Cause, OfJournal, OfLines}
-use Rattle.worker_store.specs.restart_theorem.Lives.{OfDisk, OfSource, OfAnswer, OfOutlet, OfMemory, Reply}
-use Rattle.worker_store.specs.restart_theorem.Lives.{Spent, Waits, Done, Fails, Event, Told, Asked, Opened}
+use Rattle.worker_store.specs.restart_theorem.Lives.{OfDisk, OfSource, OfAnswer, OfOutlet, OfMemory}
+use Rattle.worker_store.specs.restart_theorem.Lives.{Reply}
+use Rattle.worker_store.specs.restart_theorem.Lives.{Spent, Waits, Done, Fails, Event, Told, Asked}
+use Rattle.worker_store.specs.restart_theorem.Lives.{Opened}
 use Rattle.worker_store.specs.restart_theorem.Lives.{Ended}
-use Rattle.worker_store.specs.restart_theorem.Lives.{Beginning, Recovers, Creates, End, Stopped, Failed, Life}
+use Rattle.worker_store.specs.restart_theorem.Lives.{Beginning, Recovers, Creates, End, Stopped}
+use Rattle.worker_store.specs.restart_theorem.Lives.{Failed, Life}
 use Rattle.worker_store.specs.restart_theorem.Lives.{kept_by_end}
 use Rattle.worker_store.specs.restart_theorem.Courses.{Stage, Shut, Open, Closed}
-use Rattle.worker_store.specs.restart_theorem.Promises.{Promise, nothing_yet, as_begun, fuel_of, IsKept}
+use Rattle.worker_store.specs.restart_theorem.Promises.{Promise, nothing_yet, as_begun, fuel_of}
+use Rattle.worker_store.specs.restart_theorem.Promises.{IsKept}
 use Rattle.worker_store.specs.restart_theorem.Promises.{IsLived, GoesOn}
 
 -- ---- words

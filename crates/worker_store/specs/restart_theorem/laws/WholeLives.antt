@@ -15,10 +15,12 @@ use Rattle.state_image.specs.rules.ProcessImage.{Saved}
 use Rattle.state_image.specs.laws.Examples.{fresh_process}
 use Rattle.state_image.specs.laws.WellTypedExamples.{hello_first_memory}
 use Rattle.disk_layout.specs.rules.Journal.{TakesRecords}
-use Rattle.worker_store.specs.restart_theorem.Lives.{Slice, Checkpoint, Upgrade, SourceSaid, Inputs, Release}
+use Rattle.worker_store.specs.restart_theorem.Lives.{Slice, Checkpoint, Upgrade, SourceSaid, Inputs}
+use Rattle.worker_store.specs.restart_theorem.Lives.{Release}
 use Rattle.worker_store.specs.restart_theorem.Lives.{Over}
 use Rattle.worker_store.specs.restart_theorem.Lives.{Done}
-use Rattle.worker_store.specs.restart_theorem.Lives.{Told, Asked, Opened, Ended, Creates, Finished, Stopped}
+use Rattle.worker_store.specs.restart_theorem.Lives.{Told, Asked, Opened, Ended, Creates, Finished}
+use Rattle.worker_store.specs.restart_theorem.Lives.{Stopped}
 use Rattle.worker_store.specs.restart_theorem.Lives.{Life}
 use Rattle.worker_store.specs.restart_theorem.Courses.{Stage, at_beginning}
 use Rattle.worker_store.specs.restart_theorem.Promises.{Promise, IsKept, AreKept, GoesOn}
