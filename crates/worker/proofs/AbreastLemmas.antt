@@ -12,14 +12,15 @@ use Rattle.wasi_abi.specs.rules.Configs.{Settings}
 use Rattle.process_rules.specs.Processes.{Ending, ProcessState, Guest}
 use Rattle.process_rules.specs.Behind.{IsNarrowTo, AnswersBehindLine}
 use Rattle.process_rules.specs.Runs.{Kept, Next, Wants, next_of, LeadsTo, Moves, Runs, Reaches}
-use Rattle.process_rules.specs.Runs.{none, step, take as takes, widen}
+use Rattle.process_rules.specs.Runs.{none, step, take as takes, widen, succeed}
 use Rattle.process_rules.proofs.Growing.{runs_emit}
 use Rattle.sector_disk.specs.rules.Medium.{Medium}
 use Rattle.record_replay.specs.rules.Calls.{Begun, Exchange, Tells}
 use Rattle.worker_store.specs.restart_theorem.Lives.{Event}
 use Rattle.worker_store.specs.restart_theorem.Courses.{Stage, stage_after}
 use Rattle.worker_store.specs.restart_theorem.Promises.{Promise}
-use Rattle.worker_store.specs.restart_theorem.Exchanges.{AreEvents, none as no_exchange, told, asked}
+use Rattle.worker_store.specs.restart_theorem.Exchanges.{AreEvents, none as no_exchange, told}
+use Rattle.worker_store.specs.restart_theorem.Exchanges.{asked}
 use Rattle.worker_store.proofs.RestartLemmas.Fronts.{LeadsOn, fronts_lead_on}
 use Rattle.worker_store.specs.declared.store.WorkerStore.{WorkerStore}
 use Rattle.worker_store.proofs.LawLemmas.Carrying.{more_lines}
@@ -53,6 +54,7 @@ stays_still guest p q kept n none e still = refl
 stays_still guest p q kept n (step {q = next} moves rest) e still = absurd (still next moves)
 stays_still guest p q kept n (takes moves rest) e still = absurd (cc)
 stays_still guest p q kept n (widen at rest) e still = absurd (cc)
+stays_still guest p q kept n (succeed is counted rest) e still = absurd (cc)
 
 -- ---- no line is beyond it
 

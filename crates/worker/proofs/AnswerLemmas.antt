@@ -63,7 +63,7 @@ module _ (sectors : ℕ) (disk : DiskImage) (found : Found) (at : IsFoundIn sect
   }
 
   -- the process that was found is the saved one
-  shows_saved : ShowsProcess found.process held_in.well_typed.guest held_in.well_typed.process
+  pub shows_saved : ShowsProcess found.process held_in.well_typed.guest held_in.well_typed.process
   shows_saved =
       let restored = at.process.restored in
       let typed = restored.well_typed in

@@ -35,9 +35,10 @@ use Rattle.worker_store.specs.restart_theorem.Between.{FindsNoWorker}
 use Rattle.worker_store.specs.restart_theorem.Lives.{Inputs, Opened, Creates}
 use Rattle.worker_store.specs.restart_theorem.Courses.{at_beginning}
 use Rattle.worker_store.specs.restart_theorem.Promises.{Promise, after}
-use Rattle.worker_store.specs.restart_theorem.Holds.{IsNothingYet, DiskImageHolds, IsBounded, StaysWithin}
+use Rattle.worker_store.specs.restart_theorem.Holds.{IsNothingYet, DiskImageHolds, IsBounded}
+use Rattle.worker_store.specs.restart_theorem.Holds.{StaysWithin}
 use Rattle.worker_store.proofs.RestartLemmas.Disks.{blank_is_within, stands_within}
-use Rattle.worker_store.specs.rules.Savepoints.{Savepoint, places, BeginsAtPoint}
+use Rattle.worker_store.specs.rules.Savepoints.{Savepoint, BeginsAtPoint, IsAtSavepoint}
 use Rattle.worker_store.specs.rules.Carried.{IsHeldAt}
 use Rattle.worker_store.specs.laws.CallEnds.{IsSavedAs}
 use Rattle.worker_store.specs.laws.AtHand.{IsFirstOf}
@@ -118,6 +119,84 @@ take_none (given ∷ kept) = refl
 none_within : (n k : ℕ) → n ≡ 0 → n ≤ k
 none_within n k e = omega (arith, e)
 
+-- ---- errors
+
+-- where the image of the process fits into its area
+module _ {D : Type 0} (medium : D → Medium) (bytes : List ℕ) (config : Settings)
+    (v : ProcessValue) (fits : length (process_image (saved_of v))
+    ≤ SECTOR_SIZE * (places_for config bytes).area_sectors) where
+  pub creation_faults : (old new : Medium) (fault : StoreFault)
+      → CreationFails (places_for config bytes) v old new fault
+      → IsNotCreatedOn bytes config old new (fault_of_store fault)
+  creation_faults old new store.TooBig long = absurd (omega (arith, long, fits))
+  creation_faults old new (store.Layout layout.TooSmall) small = small
+  creation_faults old new (store.Layout layout.NotAWorker) h = absurd h
+  creation_faults old new (store.Layout layout.Version) h = absurd h
+  creation_faults old new (store.Layout (layout.Damaged why)) h = absurd h
+  creation_faults old new (store.Layout layout.Memory) h = absurd h
+  creation_faults old new (store.Layout (layout.Disk why)) h = absurd h
+  creation_faults old new (store.Disk why) h = h
+  creation_faults old new store.Memory h = tt
+  creation_faults old new store.Full h = absurd h
+  creation_faults old new store.TooLong h = absurd h
+  creation_faults old new store.Damaged h = absurd h
+  creation_faults old new store.Failed h = absurd h
+
+  pub faults_at_first : (old new : D) (fault : StoreFault)
+      → CreationFails (places_for config bytes) v (medium old) (medium new) fault
+      → ((medium old).sectors < total_sectors (places_for config bytes) → new ≡ old)
+      → (fault ≡ store.Memory → new ≡ old) → IsRefusedAtFirst (fault_of_store fault) → new ≡ old
+  faults_at_first old new (store.Layout layout.TooSmall) small same stays refused = same small
+  faults_at_first old new (store.Layout layout.NotAWorker) h same stays refused = absurd h
+  faults_at_first old new (store.Layout layout.Version) h same stays refused = absurd h
+  faults_at_first old new (store.Layout (layout.Damaged why)) h same stays refused = absurd h
+  faults_at_first old new (store.Layout layout.Memory) h same stays refused = absurd h
+  faults_at_first old new (store.Layout (layout.Disk why)) h same stays refused = absurd h
+  faults_at_first old new store.TooBig long same stays refused =
+      absurd (omega (arith, long, fits))
+  faults_at_first old new (store.Disk why) h same stays refused = absurd refused
+  faults_at_first old new store.Memory h same stays refused = stays refl
+  faults_at_first old new store.Full h same stays refused = absurd h
+  faults_at_first old new store.TooLong h same stays refused = absurd h
+  faults_at_first old new store.Damaged h same stays refused = absurd h
+  faults_at_first old new store.Failed h same stays refused = absurd h
+
+-- ---- the first savepoint
+
+-- the bytes spell one module
+pub one_module : (bytes : List ℕ) (config : Settings) (m other : Module)
+    → IsAccepted offer config.pages bytes m → IsAccepted offer config.pages bytes other
+    → m ≡ other
+one_module bytes config m other accepted again = some_is m other
+    (sym (module_complete bytes m accepted.spelled)
+    ∙ module_complete bytes other again.spelled)
+
+module _ {D : Type 0} (medium : D → Medium) (bytes : List ℕ) (m : Module) (config : Settings)
+    (v : ProcessValue) (point : Savepoint m config) (first : IsFirstPoint bytes v point) where
+  pub first_is_within : (latest sectors : ℕ) (image : DiskImage) → 1 ≤ latest
+      → total_sectors (places_for config bytes) ≤ sectors
+      → IsAtSavepoint point [] point.process image → IsBounded latest sectors image
+  first_is_within latest sectors image counted room at =
+      let here = point_stands_alone m config point image at in
+      let generation : here.stands.generation ≡ 1 = here.generation ∙ first.generation in
+      stands_within image m config point.front point.steps latest sectors here.stands
+      (same_within here.stands.generation 1 latest generation counted)
+      (subst (λ (wasm : List ℕ). total_sectors (geometry_of config (length wasm)) ≤ sectors)
+      (sym (here.wasm ∙ first.wasm)) room)
+
+  pub stays_within : (latest : ℕ) (old new : D) → 1 ≤ latest
+      → total_sectors (places_for config bytes) ≤ (medium old).sectors
+      → LeavesOnly (medium old) (medium new) (λ image. IsBlank image ⊎ BeginsAtPoint point image)
+      → StaysWithin latest (medium old) (medium new)
+  stays_within latest old new counted room leaves =
+      leaves_weaker (medium old) (medium new)
+      (λ image. IsBlank image ⊎ BeginsAtPoint point image)
+      (IsBounded latest (medium old).sectors) leaves
+      (λ image either. ⊎_elim
+      (λ (blank : IsBlank image). blank_is_within image latest (medium old).sectors blank)
+      (λ (there : BeginsAtPoint point image).
+      first_is_within latest (medium old).sectors image counted room there.at) either)
+
 -- ---- a process that has begun
 
 pub short_enough : (bytes : List ℕ) (config : Settings) (v : ProcessValue)
@@ -164,47 +243,12 @@ module _ {D : Type 0} (medium : D → Medium) (bytes : List ℕ) (config : Setti
 
   -- ---- errors
 
-  creation_faults : (old new : Medium) (fault : StoreFault)
-      → CreationFails (places_for config bytes) v old new fault
-      → IsNotCreatedOn bytes config old new (fault_of_store fault)
-  creation_faults old new store.TooBig long = let few = fits in absurd (omega (arith, long, few))
-  creation_faults old new (store.Layout layout.TooSmall) small = small
-  creation_faults old new (store.Layout layout.NotAWorker) h = absurd h
-  creation_faults old new (store.Layout layout.Version) h = absurd h
-  creation_faults old new (store.Layout (layout.Damaged why)) h = absurd h
-  creation_faults old new (store.Layout layout.Memory) h = absurd h
-  creation_faults old new (store.Layout (layout.Disk why)) h = absurd h
-  creation_faults old new (store.Disk why) h = h
-  creation_faults old new store.Memory h = tt
-  creation_faults old new store.Full h = absurd h
-  creation_faults old new store.TooLong h = absurd h
-  creation_faults old new store.Damaged h = absurd h
-  creation_faults old new store.Failed h = absurd h
-
   pub laid_refused : (laid : Result WorkerStore StoreFault) (old new : D)
       → IfErr laid (CreationFails (places_for config bytes) v (medium old) (medium new))
       → IfErr (worker_laid v laid) (IsNotCreatedOn bytes config (medium old) (medium new))
   laid_refused (Ok made) old new fails = tt
-  laid_refused (Err why) old new fails = creation_faults (medium old) (medium new) why fails
-
-  faults_at_first : (old new : D) (fault : StoreFault)
-      → CreationFails (places_for config bytes) v (medium old) (medium new) fault
-      → ((medium old).sectors < total_sectors (places_for config bytes) → new ≡ old)
-      → (fault ≡ store.Memory → new ≡ old) → IsRefusedAtFirst (fault_of_store fault) → new ≡ old
-  faults_at_first old new (store.Layout layout.TooSmall) small same stays refused = same small
-  faults_at_first old new (store.Layout layout.NotAWorker) h same stays refused = absurd h
-  faults_at_first old new (store.Layout layout.Version) h same stays refused = absurd h
-  faults_at_first old new (store.Layout (layout.Damaged why)) h same stays refused = absurd h
-  faults_at_first old new (store.Layout layout.Memory) h same stays refused = absurd h
-  faults_at_first old new (store.Layout (layout.Disk why)) h same stays refused = absurd h
-  faults_at_first old new store.TooBig long same stays refused =
-      let few = fits in absurd (omega (arith, long, few))
-  faults_at_first old new (store.Disk why) h same stays refused = absurd refused
-  faults_at_first old new store.Memory h same stays refused = stays refl
-  faults_at_first old new store.Full h same stays refused = absurd h
-  faults_at_first old new store.TooLong h same stays refused = absurd h
-  faults_at_first old new store.Damaged h same stays refused = absurd h
-  faults_at_first old new store.Failed h same stays refused = absurd h
+  laid_refused (Err why) old new fails =
+      creation_faults medium bytes config v fits (medium old) (medium new) why fails
 
   pub laid_untouched : (laid : Result WorkerStore StoreFault) (old new : D)
       → IfErr laid (CreationFails (places_for config bytes) v (medium old) (medium new))
@@ -212,7 +256,8 @@ module _ {D : Type 0} (medium : D → Medium) (bytes : List ℕ) (config : Setti
       → IfErr laid (λ why. why ≡ store.Memory → new ≡ old)
       → IfErr (worker_laid v laid) (λ why. IsRefusedAtFirst why → new ≡ old)
   laid_untouched (Ok made) old new fails same stays = tt
-  laid_untouched (Err why) old new fails same stays = faults_at_first old new why fails same stays
+  laid_untouched (Err why) old new fails same stays =
+      faults_at_first medium bytes config v fits old new why fails same stays
 
   pub laid_calls : (laid : Result WorkerStore StoreFault) (old new : Medium)
       → PerformsCalls (creation_calls (places_for config bytes)
@@ -222,44 +267,6 @@ module _ {D : Type 0} (medium : D → Medium) (bytes : List ℕ) (config : Setti
   laid_calls (Err why) old new makes = (length (process_image (saved_of v)), fits, makes.begun)
 
   -- ---- the disk at any moment
-
-  -- the bytes spell one module
-  one_module : (other : Module) → IsAccepted offer config.pages bytes other
-      → begun.spelled ≡ other
-  one_module other accepted = some_is begun.spelled other
-      (sym (module_complete bytes begun.spelled begun.accepted.spelled)
-      ∙ module_complete bytes other accepted.spelled)
-
-  room_at_first : (sectors : ℕ) → total_sectors (places_for config bytes) ≤ sectors
-      → total_sectors (places found.0) ≤ sectors
-  room_at_first sectors room = let of_first = found.1 in
-      subst (λ (wasm : List ℕ). total_sectors (geometry_of config (length wasm)) ≤ sectors)
-      (sym of_first.wasm) room
-
-  first_is_within : (latest sectors : ℕ) (image : DiskImage) → 1 ≤ latest
-      → total_sectors (places_for config bytes) ≤ sectors → BeginsAtPoint found.0 image
-      → IsBounded latest sectors image
-  first_is_within latest sectors image counted room begins_there =
-      let of_first = found.1 in
-      let here = point_stands_alone begun.spelled config found.0 image begins_there.at in
-      let generation : here.stands.generation ≡ 1 = here.generation ∙ of_first.generation in
-      stands_within image begun.spelled config found.0.front found.0.steps latest sectors
-      here.stands (same_within here.stands.generation 1 latest generation counted)
-      (subst (λ (wasm : List ℕ). total_sectors (geometry_of config (length wasm)) ≤ sectors)
-      (sym (here.wasm ∙ of_first.wasm)) room)
-
-  stays_within : (latest : ℕ) (old new : D) → 1 ≤ latest
-      → total_sectors (places_for config bytes) ≤ (medium old).sectors
-      → LeavesOnly (medium old) (medium new) (λ image. IsBlank image ⊎ BeginsAtPoint found.0 image)
-      → StaysWithin latest (medium old) (medium new)
-  stays_within latest old new counted room leaves =
-      leaves_weaker (medium old) (medium new)
-      (λ image. IsBlank image ⊎ BeginsAtPoint found.0 image)
-      (IsBounded latest (medium old).sectors) leaves
-      (λ image either. ⊎_elim
-      (λ (blank : IsBlank image). blank_is_within image latest (medium old).sectors blank)
-      (λ (there : BeginsAtPoint found.0 image).
-      first_is_within latest (medium old).sectors image counted room there) either)
 
   -- an error
   failed_leaves : (promise : Promise) (old new : D) → IsNothingYet promise
@@ -283,7 +290,8 @@ module _ {D : Type 0} (medium : D → Medium) (bytes : List ℕ) (config : Setti
       written only room = let of_first = found.1 in record {
         carried = creation_carries medium begun.spelled config promise found.0 old new nothing
             created of_first.front of_first.no_lines only;
-        bounded = stays_within (promise.events + 1) old new (omega arith) room only;
+        bounded = stays_within medium bytes begun.spelled config v found.0 is_first_point
+            (promise.events + 1) old new (omega arith) room only;
         counted = few;
       }
 
@@ -351,7 +359,8 @@ module _ {D : Type 0} (medium : D → Medium) (bytes : List ℕ) (config : Setti
         is_stored.sectors) in
         record {
           carried = opens.carries;
-          bounded = stays_within (promise.events + 1) old new (omega arith) places_fit only;
+          bounded = stays_within medium bytes begun.spelled config v found.0 is_first_point
+              (promise.events + 1) old new (omega arith) places_fit only;
           counted = few;
         }
 
@@ -443,10 +452,12 @@ module _ {D : Type 0} (medium : D → Medium) (bytes : List ℕ) (config : Setti
   laid_keeps (Ok made) old new leaves stores same few other promise inputs accepted nothing
       created =
       subst (λ (z : Module). OpensOn z config promise inputs (fresh_of v made) (medium old)
-      (medium new)) (one_module other accepted)
+      (medium new)) (one_module bytes config begun.spelled other
+      begun.accepted accepted)
       (opens_on made new stores old promise inputs nothing created leaves few)
   laid_keeps (Err why) old new leaves stores same few other promise inputs accepted nothing
       created =
       λ blank. subst (λ (z : Module). LeavesCreation z config promise promise (medium old)
-      (medium new)) (one_module other accepted)
+      (medium new)) (one_module bytes config begun.spelled other
+      begun.accepted accepted)
       (failed_leaves promise old new nothing created blank leaves same few)

@@ -92,6 +92,7 @@ searches_on first second most old mid new result few reads asked searches = reco
   reads = reads_then old mid new reads searches.reads;
   room = searches.room;
   shows = searches.shows;
+  next = searches.next;
   cause = later_so old mid new reads result searches.cause;
   asks = let more = searches.asks in omega (arith, few, asked, more);
 }
@@ -99,14 +100,16 @@ searches_on first second most old mid new result few reads asked searches = reco
 -- all was read
 pub searched : (most : ℕ) (old new : Medium) (found : Found)
     → total_sectors found.geometry ≤ old.sectors → OnlyReads old new → CallsUpTo most old new
-    → IsProcess found.process → Searches most (Ok found) old new
-searched most old new found room reads asked shows =
+    → IsProcess found.process → found.process.host.host.files.next ≤ found.process.steps + 2
+    → Searches most (Ok found) old new
+searched most old new found room reads asked shows next =
     let leaves = reads.leaves in
     let same = leaves.passes.sectors in
     record {
       reads = reads;
       room = omega (arith, room, same);
       shows = shows;
+      next = next;
       cause = tt;
       asks = asked;
     }
@@ -119,6 +122,7 @@ searches_in_vain first most old new fault few reads asked cause = record {
   reads = reads;
   room = tt;
   shows = tt;
+  next = tt;
   cause = read_cause old new fault cause;
   asks = omega (arith, few, asked);
 }
@@ -130,6 +134,7 @@ searches_no_more most m e cause = record {
   reads = no_reads m;
   room = tt;
   shows = tt;
+  next = tt;
   cause = cause;
   asks = omega arith;
 }

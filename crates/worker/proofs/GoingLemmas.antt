@@ -25,7 +25,8 @@ use Rattle.record_replay.specs.declared.line_list.NumberedLine.{NumberedLine}
 use Rattle.record_replay.specs.rules.Calls.{Exchange, Exchanges}
 use Rattle.worker_store.specs.restart_theorem.Stands.{IsBlank}
 use Rattle.worker_store.specs.restart_theorem.Lives.{Inputs, Life, Beginning, Release}
-use Rattle.worker_store.specs.restart_theorem.Promises.{Promise, nothing_yet, promised_by, IsLived, GoOn}
+use Rattle.worker_store.specs.restart_theorem.Promises.{Promise, nothing_yet, promised_by, IsLived}
+use Rattle.worker_store.specs.restart_theorem.Promises.{GoOn}
 use Rattle.worker_store.specs.restart_theorem.Holds.{KeepsPromise, KeepsBounds}
 use Rattle.worker_store.specs.restart_theorem.Between.{IsLivedOn}
 use Rattle.worker_store.proofs.RestartLemmas.Disks.{blank_is_within}
@@ -60,7 +61,7 @@ use Rattle.worker.specs.rules.Told.{told_line}
 use Rattle.worker.specs.LifeCalls.{LivesOnce, LeavesSome}
 use Rattle.worker.specs.Endings.{EndsLife}
 use Rattle.worker.specs.Going.{HasAllRoom, IsKeptOn, IsReportedOn, LivesOn}
-use Rattle.worker.specs.Going.{promised_by_all}
+use Rattle.worker_store.specs.restart_theorem.Successions.{promised_by_all}
 use Rattle.worker.specs.Going.{GoneOn}
 use Rattle.worker.specs.Hearing.{hands_out, hears}
 use Rattle.worker_store.proofs.RestartLemmas.FileLives.{zeros_are_blank}

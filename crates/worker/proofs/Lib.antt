@@ -18,6 +18,7 @@ mod UpgradeLemmas
 mod MigrationLemmas
 mod RecoveryLemmas
 mod CreationLemmas
+mod SuccessionLemmas
 mod FindingLemmas
 pub mod LifeLemmas
 mod RestoringLemmas
@@ -36,6 +37,8 @@ pub mod StopLemmas
 mod FoundDiskLemmas
 pub mod WantLemmas
 mod AnswerLemmas
+mod FollowingLemmas
+mod HandoverLemmas
 mod InspectionLemmas
 mod QuestionLemmas
 mod RefusedLemmas

@@ -7,7 +7,7 @@ use Rattle.wasm_syntax.specs.declared.module.Module.{Module}
 use Rattle.wasi_abi.specs.declared.version.Version.TheVariants.{One, Two}
 use Rattle.wasi_abi.specs.rules.Configs.{Settings}
 use Rattle.process_rules.specs.Processes.{ProcessState, Guest}
-use Rattle.process_rules.specs.Runs.{Kept, Given, Wider, widened, version_after}
+use Rattle.process_rules.specs.Runs.{Kept, Given, Wider, Succeeds, widened, version_after}
 use Rattle.process_rules.specs.Runs.{none as no_step, widen}
 use Rattle.process_rules.proofs.ReachedStates.{reached_versions}
 use Rattle.process.specs.rules.Values.{ProcessValue, IsProcess}
@@ -48,12 +48,14 @@ narrow_front zero kept narrow = refl
 narrow_front (suc n) [] narrow = refl
 narrow_front (suc n) (Given a ∷ kept) narrow = narrow_front n kept narrow
 narrow_front (suc n) (Wider steps ∷ kept) narrow = absurd (cc)
+narrow_front (suc n) (Succeeds o ∷ kept) narrow = narrow_front n kept narrow
 
 narrow_first : (front rest : List Kept) → version_after (front ++ rest) ≡ One
     → version_after front ≡ One
 narrow_first [] rest narrow = refl
 narrow_first (Given a ∷ front) rest narrow = narrow_first front rest narrow
 narrow_first (Wider steps ∷ front) rest narrow = absurd (cc)
+narrow_first (Succeeds o ∷ front) rest narrow = narrow_first front rest narrow
 
 -- what stands for such answers is of version 1
 stands_narrow : (m : Module) (config : Settings) (kept : List Kept) (n : ℕ) (image : DiskImage)

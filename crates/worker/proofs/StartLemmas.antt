@@ -20,7 +20,8 @@ use Rattle.worker.specs.rules.StoryDisks.{IsEmptyDisk, IsEmptyDiskFor, IsRunOn, 
 use Rattle.worker.specs.rules.StoryDisks.{copied}
 use Rattle.worker.specs.Going.{GoOnBehind, GoneOn, HasSize, HaveStarted, IsKeptOn, LivesOn}
 use Rattle.worker.specs.Going.{AddsReports}
-use Rattle.worker.specs.Going.{kept_at, promised_by_all}
+use Rattle.worker_store.specs.restart_theorem.Successions.{promised_by_all}
+use Rattle.worker.specs.Going.{kept_at}
 use Rattle.worker.proofs.GoingLemmas.{no_life_so_far, one_more_has_gone}
 
 abbrev empty_state : ℕ → ℕ → MemoryState
@@ -175,8 +176,8 @@ pub halted_are_told : (bytes : List ℕ) (config : Settings)
     → (length bytes < 2 ^ 32 → IsEmptyDiskFor bytes config first)
     → GoOnBehind bytes config earlier first told left mid
     → GoOnBehind bytes config later left' mid last reports → TellsLives bytes config all reports
-halted_are_told bytes config all earlier later told mid reports first left left' last none same whole
-    made before after =
+halted_are_told bytes config all earlier later told mid reports first left left' last none same
+    whole made before after =
     subst (λ (p : List PlannedLife). TellsLives bytes config p reports) whole
     (lives_are_told bytes config (earlier ++ later) reports last (after earlier []
     (subst (λ (d : MemDisk). GoneOn bytes config earlier mid d) (sym same)

@@ -1,5 +1,6 @@
 -- What is found on a disk, before anything is told or written.
-use Rattle.std.specs.Prelude.{◌≡◌, ℕ, ◌<◌, ◌≤◌, List, [], length, Result, Ok, Err, IfErr, IfOk}
+use Rattle.std.specs.Prelude.{◌≡◌, ℕ, ◌+◌, ◌<◌, ◌≤◌, List, [], length, Result, Ok, Err, IfErr}
+use Rattle.std.specs.Prelude.{IfOk}
 use Rattle.wasm_syntax.specs.declared.module.Module.{Module}
 use Rattle.wasi_abi.specs.rules.Configs.{Settings}
 use Rattle.wasi_calls_rules.specs.laws.Laws.{IsOfBytes}
@@ -80,6 +81,8 @@ pub record Searches (most : ℕ) (result : Result Found RecoverFault) (old new :
     -- the disk has room for the places of what is found
     pub room : IfOk result (λ found. total_sectors found.geometry ≤ new.sectors)
     pub shows : IfOk result (λ found. IsProcess found.process)
+    -- its nodes have numbers that its steps can have given
+    pub next : IfOk result (λ found. found.process.host.host.files.next ≤ found.process.steps + 2)
     pub cause : IfErr result (HasSearchCause old new)
     pub asks : CallsUpTo most old new
 

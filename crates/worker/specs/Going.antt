@@ -10,8 +10,10 @@ use Rattle.sector_disk.specs.rules.Memory.{memory_medium, memory_state_of, Memor
 use Rattle.disk_layout.specs.rules.Places.{geometry_of, total_sectors}
 use Rattle.disk_layout.specs.rules.Unsynced.{most_unsynced}
 use Rattle.worker_store.specs.restart_theorem.Lives.{Life}
-use Rattle.worker_store.specs.restart_theorem.Promises.{Promise, nothing_yet, promised_by, IsLived, GoOn}
+use Rattle.worker_store.specs.restart_theorem.Promises.{Promise, nothing_yet, promised_by, IsLived}
+use Rattle.worker_store.specs.restart_theorem.Promises.{GoOn}
 use Rattle.worker_store.specs.restart_theorem.Holds.{KeepsPromise, KeepsBounds}
+use Rattle.worker_store.specs.restart_theorem.Successions.{promised_by_all}
 use Rattle.worker.specs.declared.story.life.PlannedLife.{PlannedLife}
 use Rattle.worker.specs.declared.story.report.LifeReport.{LifeReport}
 use Rattle.worker.specs.declared.story.starting.StoryStart.{StoryStart}
@@ -50,11 +52,6 @@ LivesOn bytes config planned found report next =
     (m : Module) (so_far : Promise) → IsAccepted offer config.pages bytes m
     → IsKeptOn m bytes config so_far found
     → IsReportedOn m bytes config planned so_far report next
-
--- what is promised after these lives
-abbrev pub promised_by_all : Promise → List Life → Promise
-promised_by_all so_far [] = so_far
-promised_by_all so_far (life ∷ lives) = promised_by_all (promised_by so_far life) lives
 
 -- The lives so far go on, and are told. They were run on a disk that was empty at first, and the
 -- disk now keeps what they promised.

@@ -14,3 +14,4 @@ pub mod Going
 pub mod Inspecting
 pub mod Upgrading
 pub mod Savings
+pub mod Succeeding

@@ -18,7 +18,9 @@ pub mod RecoverFaults
 pub mod Recoveries
 pub mod ShownDisks
 pub mod SliceCalls
+pub mod Positions
 pub mod StoryDisks
+pub mod Successions
 pub mod Surveys
 pub mod Told
 pub mod Unsynced

@@ -20,6 +20,7 @@ ghost use Rattle.sector_disk.specs.rules.Medium.{CallsUpTo};
 
 use crate::durable::Worker;
 use crate::fault::WorkFault;
+use crate::position::{Onlooker, Unseen, Watched};
 use crate::running_worker::RunningWorker;
 use disk_layout::longest_record;
 use process::Stop;
@@ -233,11 +234,12 @@ impl RunningWorker {
         }
     }
 
-    /// Takes at most `fuel` steps, as a slice does. Lines may wait in the queue.
-    fn work_in_batch<D: Disk, S: Source + Readiness, O: Outlet>(
+    /// Takes at most so many steps, as a slice does. Lines may wait in the queue. Before the source
+    /// is asked the onlooker is told where the worker is.
+    fn work_in_batch<D: Disk, S: Source + Readiness, O: Outlet, T: Onlooker<S>>(
         &mut self,
         disk: &mut D,
-        fuel: u64,
+        watched: Watched<'_, T>,
         queue: &mut Queue,
         source: &mut S,
         outlet: &mut O,
@@ -245,13 +247,15 @@ impl RunningWorker {
         requires none_waits { waiting_in self.old.process ≡ [] }
         requires none_held { queue.old.lines ≡ [] }
         requires sectors { total_sectors self.old.store.geometry ≤ (D.medium disk.old).sectors }
-        ensures works { WorksInBatch D.medium S.gives O.takes self.old fuel queue.old.most result
-            self.new queue.new.lines disk.old disk.new source.old source.new outlet.old outlet.new }
+        ensures works { WorksInBatch D.medium S.gives O.takes self.old watched.entry.fuel
+            queue.old.most result self.new queue.new.lines disk.old disk.new source.old source.new
+            outlet.old outlet.new }
         ensures abreast { IfOk result (λ now. now ≢ Now.Spent → self.new.is_abreast ≡ true) }
         ensures shows { OnOk result (IsProcess self.new.process) }
         ensures places { self.new.store.geometry ≡ self.old.store.geometry }
         ensures sectors { (D.medium disk.new).sectors ≡ (D.medium disk.old).sectors }
     {
+        let Watched { fuel, onlooker } = watched;
         let first = self.process.steps();
         loop {
             let fuel_left = fuel - (self.process.steps() - first);
@@ -264,6 +268,7 @@ impl RunningWorker {
                 Stop::Spent => return Ok(Now::Spent),
                 Stop::Asks(question) => {
                     self.flush_unless_ready(question, queue, disk, &*source, outlet)?;
+                    onlooker.see(&*source, question, self.position());
                     if !self.ask_in_batch(question, disk, source)? {
                         return Ok(Now::Waiting);
                     }
@@ -342,30 +347,53 @@ impl Worker {
             → (result ≡ Err (WorkFault.Work SliceFault.Failed)) × (self.new ≡ self.old)
             × (disk.new ≡ disk.old) × (source.new ≡ source.old) × (outlet.new ≡ outlet.old) }
     {
+        let onlooker = &Unseen;
+        self.watched_batch(disk, Watched { fuel, onlooker }, most, source, outlet)
+    }
+
+    /// Such a batch, of which an onlooker is told before each question where the worker is.
+    pub fn watched_batch<D: Disk, S: Source + Readiness, O: Outlet, T: Onlooker<S>>(
+        &mut self,
+        disk: &mut D,
+        watched: Watched<'_, T>,
+        most: u64,
+        source: &mut S,
+        outlet: &mut O,
+    ) -> Result<Now, WorkFault>
+        ensures runs { total_sectors self.old.store.geometry ≤ (D.medium disk.old).sectors
+            → RunsBatch S.gives O.takes watched.entry.fuel most self.old self.new result
+            (D.medium disk.old) (D.medium disk.new) source.old source.new outlet.old outlet.new }
+        ensures small { self.old.has_failed ≡ false → IsTooSmallFor self.old (D.medium disk.old)
+            → (result ≡ Err (WorkFault.Disk DiskFault.Range)) × (self.new ≡ failed_worker self.old)
+            × (disk.new ≡ disk.old) × (source.new ≡ source.old) × (outlet.new ≡ outlet.old) }
+        ensures refused { self.old.has_failed ≡ true
+            → (result ≡ Err (WorkFault.Work SliceFault.Failed)) × (self.new ≡ self.old)
+            × (disk.new ≡ disk.old) × (source.new ≡ source.old) × (outlet.new ≡ outlet.old) }
+    {
         if let Err(fault) = self.test_disk(disk) {
             return Err(fault);
         }
-        self.batch_within(disk, fuel, most, source, outlet)
+        self.batch_within(disk, watched, most, source, outlet)
     }
 
     /// A batch of a worker that hasn't failed, on a disk that has all its sectors.
-    fn batch_within<D: Disk, S: Source + Readiness, O: Outlet>(
+    fn batch_within<D: Disk, S: Source + Readiness, O: Outlet, T: Onlooker<S>>(
         &mut self,
         disk: &mut D,
-        fuel: u64,
+        watched: Watched<'_, T>,
         most: u64,
         source: &mut S,
         outlet: &mut O,
     ) -> Result<Now, WorkFault>
         requires works { self.old.has_failed ≡ false }
         requires sectors { total_sectors self.old.store.geometry ≤ (D.medium disk.old).sectors }
-        ensures { RunsBatch S.gives O.takes fuel most self.old self.new result
+        ensures { RunsBatch S.gives O.takes watched.entry.fuel most self.old self.new result
             (D.medium disk.old) (D.medium disk.new) source.old source.new outlet.old outlet.new }
     {
         let mut queue = Queue::new(self.running.alloc, most);
         let worked = self
             .running
-            .work_in_batch(disk, fuel, &mut queue, source, outlet);
+            .work_in_batch(disk, watched, &mut queue, source, outlet);
         match self.running.tell_rest(worked, &queue, disk, outlet) {
             Ok(now) => Ok(now),
             Err(fault) => {

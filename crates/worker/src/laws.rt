@@ -7,6 +7,7 @@
 ghost use Rattle.worker.specs.laws.Adding.{SlicesOnDiskAdd};
 ghost use Rattle.worker.specs.laws.Bounds.{OpenWorkersKeepBounds, StayingKeepsBounds};
 ghost use Rattle.worker.specs.laws.Bounds.{OpenWorkersHaveOneVersion};
+ghost use Rattle.worker.specs.laws.Followings.{SuccessorsFollow};
 ghost use Rattle.worker.specs.laws.OneLife.{CallsMakeLives, AnythingComesTrue};
 ghost use Rattle.worker.specs.laws.Replies.{LivesEndAsSaid};
 ghost use Rattle.worker.specs.laws.Uncut.{LivesGoOnUncut};
@@ -49,4 +50,11 @@ pub fn lives_end_as_said<D: Disk, S: Source, O: Outlet>()
 /// none.
 pub fn slices_on_disk_add<S: Source, O: Outlet>()
     ensures { SlicesOnDiskAdd S.gives O.takes }
+{}
+
+/// Take a disk that was read for what its worker leaves, and one on which a worker was created from
+/// that. The first worker is left at rest, with all that was promised of it. The second disk keeps
+/// what is promised of a worker that goes on from there.
+pub fn successors_follow<D: Disk, N: Disk>()
+    ensures { SuccessorsFollow D.medium N.medium }
 {}

@@ -37,9 +37,15 @@
 //! - `Worker::batch` is a slice in which lines may wait, until one barrier serves them all (`done`,
 //!   `carries`). Where it fails, it has run so far as one whose lines go to a list, and `ToldUpTo`
 //!   says how many were told (`failed`).
+//! - `Worker::position` has the worker's numbers (`position_of`). `watched_slice` and
+//!   `watched_batch` are a slice and a batch, of which an onlooker is told them before each
+//!   question.
 //! - `Worker::checkpoint` is a barrier and a commit: no later life opens before it (`saved`).
 //!   `Worker::upgrade` is the same, and saves the process in version 2 (`done`).
 //! - `read_survey`, `inspect`: what a disk shows, in numbers or whole. Nothing is written.
+//! - `read_legacy`: what a worker leaves that is parked, and that it isn't, exactly (`HandsOver`).
+//!   Nothing is written. `create_from`: a worker with other code goes on from there. A cut leaves
+//!   none, or one that holds all that is promised of it (`keeps`).
 //! - After an error no call does anything: each answers `Failed` (`fails`, `refused`).
 //! - `story` runs any list of lives on one disk in memory, and tells them (`TellsLives`).
 //!
@@ -67,9 +73,12 @@ mod durable;
 mod fault;
 mod finding;
 mod found;
+mod handover;
 mod inspecting;
 mod inspection;
 pub mod laws;
+mod leave_fault;
+mod position;
 mod question;
 mod recover_fault;
 mod recovering;
@@ -77,6 +86,7 @@ mod running_worker;
 mod saving;
 mod slices;
 pub mod story;
+mod succession;
 mod surveyed;
 mod surveying;
 mod turns;
@@ -86,11 +96,15 @@ mod widening;
 
 pub use durable::Worker;
 pub use fault::WorkFault;
+pub use handover::Handover;
 pub use inspecting::inspect;
 pub use inspection::Inspection;
+pub use leave_fault::LeaveFault;
+pub use position::{Onlooker, Position, Unseen, Watched};
 pub use record_replay::{Readiness, SliceFault};
 pub use recover_fault::RecoverFault;
 pub use running_worker::RunningWorker;
+pub use succession::{create_from, read_legacy};
 pub use surveyed::Survey;
 pub use surveying::read_survey;
 pub use upgrade_fault::UpgradeFault;

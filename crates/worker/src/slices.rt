@@ -14,6 +14,7 @@ ghost use Rattle.worker.specs.rules.DurableFailures.{SlicesOnDiskInVain};
 
 use crate::durable::Worker;
 use crate::fault::WorkFault;
+use crate::position::{Onlooker, Unseen};
 use crate::running_worker::RunningWorker;
 use process::Stop;
 use record_replay::{Now, Outlet, SliceFault, Source};
@@ -22,12 +23,14 @@ use sector_disk::{Disk, DiskFault};
 impl RunningWorker {
     /// Takes at most `fuel` steps. Each line is released, and each answer asked for, before the
     /// next step. A line comes after a barrier, and an answer where the journal has room for it.
-    fn work<D: Disk, S: Source, O: Outlet>(
+    /// Before the source is asked the onlooker is told where the worker is.
+    fn work<D: Disk, S: Source, O: Outlet, T: Onlooker<S>>(
         &mut self,
         disk: &mut D,
         fuel: u64,
         source: &mut S,
         outlet: &mut O,
+        onlooker: &T,
     ) -> Result<Now, WorkFault>
         requires none_waits { waiting_in self.old.process ≡ [] }
         requires sectors { total_sectors self.old.store.geometry ≤ (D.medium disk.old).sectors }
@@ -55,6 +58,7 @@ impl RunningWorker {
                 }
                 Stop::Spent => return Ok(Now::Spent),
                 Stop::Asks(question) => {
+                    onlooker.see(&*source, question, self.position());
                     if !self.ask(question, disk, source)? {
                         return Ok(Now::Waiting);
                     }
@@ -95,26 +99,49 @@ impl Worker {
             → (result ≡ Err (WorkFault.Work SliceFault.Failed)) × (self.new ≡ self.old)
             × (disk.new ≡ disk.old) × (source.new ≡ source.old) × (outlet.new ≡ outlet.old) }
     {
-        if let Err(fault) = self.test_disk(disk) {
-            return Err(fault);
-        }
-        self.slice_within(disk, fuel, source, outlet)
+        self.watched_slice(disk, fuel, source, outlet, &Unseen)
     }
 
-    /// A slice of a worker that hasn't failed, on a disk that has all its sectors.
-    fn slice_within<D: Disk, S: Source, O: Outlet>(
+    /// Such a slice, of which an onlooker is told before each question where the worker is.
+    pub fn watched_slice<D: Disk, S: Source, O: Outlet, T: Onlooker<S>>(
         &mut self,
         disk: &mut D,
         fuel: u64,
         source: &mut S,
         outlet: &mut O,
+        onlooker: &T,
+    ) -> Result<Now, WorkFault>
+        ensures runs { total_sectors self.old.store.geometry ≤ (D.medium disk.old).sectors
+            → RunsSlice S.gives O.takes fuel self.old self.new result (D.medium disk.old)
+            (D.medium disk.new) source.old source.new outlet.old outlet.new }
+        ensures small { self.old.has_failed ≡ false → IsTooSmallFor self.old (D.medium disk.old)
+            → (result ≡ Err (WorkFault.Disk DiskFault.Range)) × (self.new ≡ failed_worker self.old)
+            × (disk.new ≡ disk.old) × (source.new ≡ source.old) × (outlet.new ≡ outlet.old) }
+        ensures refused { self.old.has_failed ≡ true
+            → (result ≡ Err (WorkFault.Work SliceFault.Failed)) × (self.new ≡ self.old)
+            × (disk.new ≡ disk.old) × (source.new ≡ source.old) × (outlet.new ≡ outlet.old) }
+    {
+        if let Err(fault) = self.test_disk(disk) {
+            return Err(fault);
+        }
+        self.slice_within(disk, fuel, source, outlet, onlooker)
+    }
+
+    /// A slice of a worker that hasn't failed, on a disk that has all its sectors.
+    fn slice_within<D: Disk, S: Source, O: Outlet, T: Onlooker<S>>(
+        &mut self,
+        disk: &mut D,
+        fuel: u64,
+        source: &mut S,
+        outlet: &mut O,
+        onlooker: &T,
     ) -> Result<Now, WorkFault>
         requires works { self.old.has_failed ≡ false }
         requires sectors { total_sectors self.old.store.geometry ≤ (D.medium disk.old).sectors }
         ensures { RunsSlice S.gives O.takes fuel self.old self.new result (D.medium disk.old)
             (D.medium disk.new) source.old source.new outlet.old outlet.new }
     {
-        match self.running.work(disk, fuel, source, outlet) {
+        match self.running.work(disk, fuel, source, outlet, onlooker) {
             Ok(now) => Ok(now),
             Err(fault) => {
                 self.running.store.fail();

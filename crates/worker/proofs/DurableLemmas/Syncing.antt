@@ -25,6 +25,7 @@ use Rattle.process_rules.specs.Processes.{ProcessState, Guest, closed, closed_at
 use Rattle.process_rules.specs.Runs.{Next, On, LeadsTo, Moves, next_of, after_call, after_call_rule}
 use Rattle.process_rules.specs.Runs.{after_counted_step, given_by, stepped}
 use Rattle.process_rules.specs.Runs.{Kept, Runs, Reaches, none, step, take as take_one, widen}
+use Rattle.process_rules.specs.Runs.{succeed}
 use Rattle.process_rules.specs.Behind.{Syncs, IsNarrowTo, AnswersBehindSync}
 use Rattle.process_rules.proofs.Growing.{move_counts, runs_count}
 use Rattle.process_rules.proofs.OneStart.{start_once}
@@ -120,6 +121,7 @@ stays_there guest p q kept n e up (step moves rest) = absurd (omega (arith, e))
 stays_there guest p q kept n e up (take_one moves rest) = absurd (omega (arith, e))
 stays_there guest p q kept n e up (widen at rest) =
     let here = at.at in absurd (omega (arith, up, here))
+stays_there guest p q kept n e up (succeed is counted rest) = absurd (omega (arith, up))
 
 module _ (m : Module) (config : Settings) (kept : List Kept) (p : ProcessState) (k a : ℕ)
     (valid : IsValid m) (reached : Reaches m config kept p.steps p)

@@ -2,7 +2,7 @@
 //! numbers and lines are worked by hand. Two slices come to what one comes to. Other tests show
 //! which sectors a call writes, how many syncs a batch makes, what is told of damaged disks, faults
 //! of sources, and a stop at each call of a disk. Upgrades are refused, and are stopped or fail at
-//! each call. Each allocation may be refused.
+//! each call. Workers go on from what others left. Each allocation may be refused.
 
 mod batches;
 mod damages;
@@ -12,5 +12,6 @@ mod saves;
 mod slices;
 mod sources;
 mod stops;
+mod successions;
 mod upgrades;
 pub(crate) mod working;

@@ -224,10 +224,12 @@ returns-in-Ok-read_records-clause-searches g c =
     let leaves = newest.reads.leaves in
     let same = leaves.passes.sectors in
     let room = c.requires in
+    let restored = c.in_ok-process.ensures.restored in
+    let typed = restored.well_typed in
     searches_on (geometry.area_sectors + 2) geometry.journal_sectors old.sectors old mid new
     (Ok found) (omega (arith, room)) newest.reads newest.asks
     (searched geometry.journal_sectors mid new found (omega (arith, room, same)) read.reads
-    read.asks c.in_ok-process.ensures.shows)
+    read.asks c.in_ok-process.ensures.shows typed.next)
 
 pub returns-in-Ok-read_records-clause-few : goal.returns-in-Ok-read_records-clause-few
 returns-in-Ok-read_records-clause-few g c =

@@ -30,12 +30,13 @@ returns-in-Ok g c =
     let before = works_inside c.self.view_is c.requires.works in
     let durable = c.self.invariant in
     let works = subst (λ n. WorksInBatch g.D.Disk.medium g.S.Source.gives g.O.Outlet.takes running
-    c.args.fuel n c.work_in_batch-worked.result c.work_in_batch-worked.new.self
+    c.args.watched.fuel n c.work_in_batch-worked.result c.work_in_batch-worked.new.self
     c.work_in_batch-worked.new.queue.lines c.args.disk.now c.work_in_batch-worked.new.disk
     c.args.source.now c.work_in_batch-worked.new.source c.args.outlet.now
     c.work_in_batch-worked.new.outlet) c.new-queue.ensures.most
     c.work_in_batch-worked.ensures.works in
-    let finished = finishes g.D.Disk.medium g.S.Source.gives g.O.Outlet.takes running c.args.fuel
+    let finished = finishes g.D.Disk.medium g.S.Source.gives g.O.Outlet.takes running
+    c.args.watched.fuel
     c.args.most c.work_in_batch-worked.new.self new c.work_in_batch-worked.new.queue.lines
     c.work_in_batch-worked.result c.args.disk.now c.work_in_batch-worked.new.disk
     c.tell_rest.new.disk c.args.source.now c.work_in_batch-worked.new.source c.args.outlet.now
@@ -48,18 +49,18 @@ returns-in-Ok g c =
           c.self.view_is durable.shows;
       done = slices_of g.S.Source.gives g.O.Outlet.takes (working running.process)
           (working new.process) (without_disk w) (without_disk (durable_of new replayed))
-          c.args.fuel c.in-Ok.now c.args.source.now c.work_in_batch-worked.new.source
+          c.args.watched.fuel c.in-Ok.now c.args.source.now c.work_in_batch-worked.new.source
           c.args.outlet.now c.tell_rest.new.outlet
           (ap (λ z. record { process = running.process; failed = z }) (sym before)
           ∙ ap without_disk c.self.view_is)
           (ap (λ z. record { process = new.process; failed = z }) (sym (runs.works before)))
           finished.done;
       carries = subst (λ (v : DurableValue). BatchCarries g.S.Source.gives g.O.Outlet.takes v
-          c.args.fuel c.args.most (Ok c.in-Ok.now) (durable_of new replayed) disk disk'
+          c.args.watched.fuel c.args.most (Ok c.in-Ok.now) (durable_of new replayed) disk disk'
           c.args.source.now c.work_in_batch-worked.new.source c.args.outlet.now
           c.tell_rest.new.outlet) c.self.view_is
           (batch_carries g.D.Disk.medium g.S.Source.gives g.O.Outlet.takes running new replayed
-          c.args.fuel c.args.most c.args.disk.now c.tell_rest.new.disk c.args.source.now
+          c.args.watched.fuel c.args.most c.args.disk.now c.tell_rest.new.disk c.args.source.now
           c.work_in_batch-worked.new.source c.args.outlet.now c.tell_rest.new.outlet c.in-Ok.now
           finished.over);
       abreast = rest_abreast g.D.Disk.medium g.O.Outlet.takes c.work_in_batch-worked.result
@@ -89,12 +90,13 @@ returns g c =
     let before = works_inside c.self.view_is c.requires.works in
     let durable = c.self.invariant in
     let works = subst (λ n. WorksInBatch g.D.Disk.medium g.S.Source.gives g.O.Outlet.takes running
-    c.args.fuel n c.work_in_batch-worked.result c.work_in_batch-worked.new.self
+    c.args.watched.fuel n c.work_in_batch-worked.result c.work_in_batch-worked.new.self
     c.work_in_batch-worked.new.queue.lines c.args.disk.now c.work_in_batch-worked.new.disk
     c.args.source.now c.work_in_batch-worked.new.source c.args.outlet.now
     c.work_in_batch-worked.new.outlet) c.new-queue.ensures.most
     c.work_in_batch-worked.ensures.works in
-    let finished = finishes g.D.Disk.medium g.S.Source.gives g.O.Outlet.takes running c.args.fuel
+    let finished = finishes g.D.Disk.medium g.S.Source.gives g.O.Outlet.takes running
+    c.args.watched.fuel
     c.args.most c.work_in_batch-worked.new.self new c.work_in_batch-worked.new.queue.lines
     c.work_in_batch-worked.result c.args.disk.now c.work_in_batch-worked.new.disk
     c.tell_rest.new.disk c.args.source.now c.work_in_batch-worked.new.source c.args.outlet.now
@@ -107,12 +109,12 @@ returns g c =
           c.self.view_is durable.shows;
       done = tt;
       carries = subst (λ (v : DurableValue). BatchCarries g.S.Source.gives g.O.Outlet.takes v
-          c.args.fuel c.args.most (Err c.in-Err.fault)
+          c.args.watched.fuel c.args.most (Err c.in-Err.fault)
           (durable_of (record new { store = c.fail.new.self }) replayed) disk disk'
           c.args.source.now c.work_in_batch-worked.new.source c.args.outlet.now
           c.tell_rest.new.outlet) c.self.view_is
           (batch_fails g.D.Disk.medium g.S.Source.gives g.O.Outlet.takes running new replayed
-          c.args.fuel c.args.most c.args.disk.now c.tell_rest.new.disk c.args.source.now
+          c.args.watched.fuel c.args.most c.args.disk.now c.tell_rest.new.disk c.args.source.now
           c.work_in_batch-worked.new.source c.args.outlet.now c.tell_rest.new.outlet
           c.fail.new.self c.in-Err.fault finished.over);
       abreast = tt;
@@ -121,8 +123,8 @@ returns g c =
           runs c.fail.new.self c.fail.ensures;
       replayed = ap (λ (v : DurableValue). v.replayed) c.self.view_is;
       failed = λ works. subst (λ (v : DurableValue). BatchFails g.S.Source.gives
-          g.O.Outlet.takes v.process c.args.fuel c.in-Err.fault new.process c.args.source.now
-          c.work_in_batch-worked.new.source c.args.outlet.now c.tell_rest.new.outlet)
+          g.O.Outlet.takes v.process c.args.watched.fuel c.in-Err.fault new.process
+          c.args.source.now c.work_in_batch-worked.new.source c.args.outlet.now c.tell_rest.new.outlet)
           c.self.view_is finished.failed;
       on_any_disk = has_slice_cause running replayed w c.self.view_is new.store disk disk'
           c.in-Err.fault runs;

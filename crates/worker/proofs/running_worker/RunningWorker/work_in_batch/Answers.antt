@@ -11,8 +11,8 @@ use Rattle.worker.proofs.running_worker.RunningWorker.work_in_batch.Goals as goa
 
 pub loop-self-init : goal.loop-self-init
 loop-self-init g c = (
-  in_batch_none g.D.Disk.medium g.S.Source.gives g.O.Outlet.takes c.args.self.now c.args.fuel
-      c.args.queue.now.most c.steps-first.result c.args.queue.now.lines c.args.disk.now
+  in_batch_none g.D.Disk.medium g.S.Source.gives g.O.Outlet.takes c.args.self.now
+      c.args.watched.fuel c.args.queue.now.most c.steps-first.result c.args.queue.now.lines c.args.disk.now
       c.args.source.now c.args.outlet.now c.requires.none_held c.requires.none_waits
       c.steps-first.ensures.shows c.steps-first.ensures.value,
   refl,
@@ -39,14 +39,14 @@ returns-in_err-advance-clause-works g c =
     let p = err_from_is_err_and c.from_residual.result c.from_residual.ensures.1 in
     rw (p.1, p.2) (vain_in _ _ _ _ _ c.advance.new.self _ _ _ _ _ _ _ _ _ _ _
     c.loop-self.invariant.0
-    (ap (λ z. c.args.fuel - (z - c.steps-first.result)) c.steps.ensures.value)
+    (ap (λ z. c.args.watched.fuel - (z - c.steps-first.result)) c.steps.ensures.value)
     c.in_err-advance.ensures.released c.in_err-advance.ensures.guest
     c.in_err-advance.field-0.0 c.in_err-advance.ensures.advances)
 
 pub returns-in-Spent-clause-works : goal.returns-in-Spent-clause-works
 returns-in-Spent-clause-works g c =
     spent_in _ _ _ _ _ c.advance.new.self _ _ _ _ _ _ _ _ _ _ _ c.loop-self.invariant.0
-    (ap (λ z. c.args.fuel - (z - c.steps-first.result)) c.steps.ensures.value)
+    (ap (λ z. c.args.watched.fuel - (z - c.steps-first.result)) c.steps.ensures.value)
     c.in_ok-advance.ensures.released c.in_ok-advance.ensures.guest
     (rw c.in-Spent.is at c.in_ok-advance.ensures.advances)
 
@@ -56,7 +56,7 @@ returns-in-Spent-clause-abreast g c = λ other. absurd (other refl)
 pub returns-in-Ended-clause-works : goal.returns-in-Ended-clause-works
 returns-in-Ended-clause-works g c =
     over_in _ _ _ _ _ c.advance.new.self _ _ _ _ _ _ _ _ _ _ _ c.loop-self.invariant.0
-    (ap (λ z. c.args.fuel - (z - c.steps-first.result)) c.steps.ensures.value)
+    (ap (λ z. c.args.watched.fuel - (z - c.steps-first.result)) c.steps.ensures.value)
     c.in_ok-advance.ensures.released c.in_ok-advance.ensures.guest c.in-Ended.how
     (rw c.in-Ended.is at c.in_ok-advance.ensures.advances)
 
@@ -69,7 +69,7 @@ loop-self-preserved-in_ok-hold_or_flush-in-Owes g c =
     let done = c.in_ok-hold_or_flush-in-Owes.ensures in
     let most = c.loop-self.invariant.1 in (
       owed_in _ _ _ _ _ c.advance.new.self _ _ _ _ _ _ _ _ _ _ _ c.loop-self.invariant.0
-          (ap (λ z. c.args.fuel - (z - c.steps-first.result)) c.steps.ensures.value)
+          (ap (λ z. c.args.watched.fuel - (z - c.steps-first.result)) c.steps.ensures.value)
           c.in_ok-advance.ensures.released c.in_ok-advance.ensures.guest
           (rw c.in-Owes.is at c.in_ok-advance.ensures.advances) c.hold_or_flush.new.self
           c.hold_or_flush.new.disk c.hold_or_flush.new.outlet done.sectors done.places
@@ -86,7 +86,7 @@ loop-self-smaller-in_ok-hold_or_flush-in-Owes g c =
     let done = c.in_ok-hold_or_flush-in-Owes.ensures in
     let most = c.loop-self.invariant.1 in
     owed_lower _ _ _ _ _ c.advance.new.self _ _ _ _ _ _ _ _ _ _ _ c.loop-self.invariant.0
-    (ap (λ z. c.args.fuel - (z - c.steps-first.result)) c.steps.ensures.value)
+    (ap (λ z. c.args.watched.fuel - (z - c.steps-first.result)) c.steps.ensures.value)
     c.in_ok-advance.ensures.released c.in_ok-advance.ensures.guest
     (rw c.in-Owes.is at c.in_ok-advance.ensures.advances) c.hold_or_flush.new.self
     c.hold_or_flush.new.disk c.hold_or_flush.new.outlet done.sectors done.places
@@ -103,7 +103,7 @@ returns-in_err-hold_or_flush-in-Owes-clause-works g c =
     let failed = c.in_err-hold_or_flush-in-Owes.ensures in
     rw (p.1, p.2) (unowed_in _ _ _ _ _ c.advance.new.self _ _ _ _ _ _ _ _ _ _ _
     c.loop-self.invariant.0
-    (ap (λ z. c.args.fuel - (z - c.steps-first.result)) c.steps.ensures.value)
+    (ap (λ z. c.args.watched.fuel - (z - c.steps-first.result)) c.steps.ensures.value)
     c.in_ok-advance.ensures.released c.in_ok-advance.ensures.guest
     (rw c.in-Owes.is at c.in_ok-advance.ensures.advances) c.hold_or_flush.new.self
     c.hold_or_flush.new.disk c.hold_or_flush.new.outlet failed.sectors failed.places
@@ -117,7 +117,7 @@ returns-in_err-flush_unless_ready-in-Asks-clause-works g c =
     c.from_residual-in_err-flush_unless_ready-in-Asks.ensures.1 in
     let failed = c.in_err-flush_unless_ready-in-Asks.ensures in
     let asking = asks_in _ _ _ _ _ c.advance.new.self _ _ _ _ _ _ _ _ _ _ _ c.loop-self.invariant.0
-    (ap (λ z. c.args.fuel - (z - c.steps-first.result)) c.steps.ensures.value)
+    (ap (λ z. c.args.watched.fuel - (z - c.steps-first.result)) c.steps.ensures.value)
     c.in_ok-advance.ensures.released c.in_ok-advance.ensures.guest c.in-Asks.question
     (rw c.in-Asks.is at c.in_ok-advance.ensures.advances) in
     rw (p.1, p.2) (unfreed_in _ _ _ _ _ c.flush_unless_ready.new.self _ _ _ _ _
@@ -132,7 +132,7 @@ returns-in_err-ask_in_batch-in-Asks-clause-works g c =
     c.from_residual-in_err-ask_in_batch-in-Asks.ensures.1 in
     let failed = c.in_err-ask_in_batch-in-Asks.ensures in
     let asking = asks_in _ _ _ _ _ c.advance.new.self _ _ _ _ _ _ _ _ _ _ _ c.loop-self.invariant.0
-    (ap (λ z. c.args.fuel - (z - c.steps-first.result)) c.steps.ensures.value)
+    (ap (λ z. c.args.watched.fuel - (z - c.steps-first.result)) c.steps.ensures.value)
     c.in_ok-advance.ensures.released c.in_ok-advance.ensures.guest c.in-Asks.question
     (rw c.in-Asks.is at c.in_ok-advance.ensures.advances) in
     let free = c.in_ok-flush_unless_ready-in-Asks.ensures in
@@ -152,7 +152,7 @@ pub returns-then-not-branch-clause-works : goal.returns-then-not-branch-clause-w
 returns-then-not-branch-clause-works g c =
     let done = c.in_ok-ask_in_batch-in-Asks.ensures in
     let asking = asks_in _ _ _ _ _ c.advance.new.self _ _ _ _ _ _ _ _ _ _ _ c.loop-self.invariant.0
-    (ap (λ z. c.args.fuel - (z - c.steps-first.result)) c.steps.ensures.value)
+    (ap (λ z. c.args.watched.fuel - (z - c.steps-first.result)) c.steps.ensures.value)
     c.in_ok-advance.ensures.released c.in_ok-advance.ensures.guest c.in-Asks.question
     (rw c.in-Asks.is at c.in_ok-advance.ensures.advances) in
     let free = c.in_ok-flush_unless_ready-in-Asks.ensures in
@@ -170,7 +170,7 @@ pub returns-then-not-branch-clause-shows : goal.returns-then-not-branch-clause-s
 returns-then-not-branch-clause-shows g c =
     let done = c.in_ok-ask_in_batch-in-Asks.ensures in
     let asking = asks_in _ _ _ _ _ c.advance.new.self _ _ _ _ _ _ _ _ _ _ _ c.loop-self.invariant.0
-    (ap (λ z. c.args.fuel - (z - c.steps-first.result)) c.steps.ensures.value)
+    (ap (λ z. c.args.watched.fuel - (z - c.steps-first.result)) c.steps.ensures.value)
     c.in_ok-advance.ensures.released c.in_ok-advance.ensures.guest c.in-Asks.question
     (rw c.in-Asks.is at c.in_ok-advance.ensures.advances) in
     let free = c.in_ok-flush_unless_ready-in-Asks.ensures in
@@ -196,7 +196,7 @@ pub loop-self-smaller : goal.loop-self-smaller
 loop-self-smaller g c =
     let done = c.in_ok-ask_in_batch-in-Asks.ensures in
     let asking = asks_in _ _ _ _ _ c.advance.new.self _ _ _ _ _ _ _ _ _ _ _ c.loop-self.invariant.0
-    (ap (λ z. c.args.fuel - (z - c.steps-first.result)) c.steps.ensures.value)
+    (ap (λ z. c.args.watched.fuel - (z - c.steps-first.result)) c.steps.ensures.value)
     c.in_ok-advance.ensures.released c.in_ok-advance.ensures.guest c.in-Asks.question
     (rw c.in-Asks.is at c.in_ok-advance.ensures.advances) in
     let free = c.in_ok-flush_unless_ready-in-Asks.ensures in
@@ -208,7 +208,7 @@ loop-self-smaller g c =
     c.flush_unless_ready.new.outlet asking free.sectors free.places free.done in
     let before = asked_counts _ _ _ _ _ c.advance.new.self _ _ _ _ _ _ _ _ _ _ _
     c.loop-self.invariant.0
-    (ap (λ z. c.args.fuel - (z - c.steps-first.result)) c.steps.ensures.value)
+    (ap (λ z. c.args.watched.fuel - (z - c.steps-first.result)) c.steps.ensures.value)
     c.in_ok-advance.ensures.released c.in-Asks.question
     (rw c.in-Asks.is at c.in_ok-advance.ensures.advances) in
     let still = freed_steps g.D.Disk.medium g.S.Source.gives g.O.Outlet.takes _
@@ -223,7 +223,7 @@ pub loop-self-preserved : goal.loop-self-preserved
 loop-self-preserved g c =
     let done = c.in_ok-ask_in_batch-in-Asks.ensures in
     let asking = asks_in _ _ _ _ _ c.advance.new.self _ _ _ _ _ _ _ _ _ _ _ c.loop-self.invariant.0
-    (ap (λ z. c.args.fuel - (z - c.steps-first.result)) c.steps.ensures.value)
+    (ap (λ z. c.args.watched.fuel - (z - c.steps-first.result)) c.steps.ensures.value)
     c.in_ok-advance.ensures.released c.in_ok-advance.ensures.guest c.in-Asks.question
     (rw c.in-Asks.is at c.in_ok-advance.ensures.advances) in
     let free = c.in_ok-flush_unless_ready-in-Asks.ensures in

@@ -2,7 +2,7 @@ use Rattle.std.proofs.Common.{◌≡◌}
 use Rattle.record_replay.specs.declared.slices.fault.SliceFault.TheVariants as slice
 use Rattle.worker.specs.declared.fault.WorkFault.TheVariants.{Work}
 use Rattle.worker.proofs.RefusedLemmas.{had_failed, batch_refused}
-use Rattle.worker.proofs.durable.Worker.batch.Goals as goal
+use Rattle.worker.proofs.durable.Worker.watched_batch.Goals as goal
 
 pub returns-in-Err-clause-runs : goal.returns-in-Err-clause-runs
 returns-in-Err-clause-runs g c = λ room.
@@ -12,7 +12,7 @@ returns-in-Err-clause-runs g c = λ room.
     let said = refused.0 in
     let is_failed : c.in-Err.fault ≡ Work slice.Failed = cc in
     rw (is_failed, refused.1) (batch_refused c.args.self.now failed
-    (g.D.Disk.medium c.args.disk.now) room g.S.Source.gives g.O.Outlet.takes c.args.fuel
+    (g.D.Disk.medium c.args.disk.now) room g.S.Source.gives g.O.Outlet.takes c.args.watched.fuel
     c.args.most c.args.source.now c.args.outlet.now)
 
 pub batch_within-requires-clause-works : goal.batch_within-requires-clause-works

@@ -2,7 +2,7 @@ use Rattle.std.proofs.Common.{◌≡◌}
 use Rattle.record_replay.specs.declared.slices.fault.SliceFault.TheVariants as slice
 use Rattle.worker.specs.declared.fault.WorkFault.TheVariants.{Work}
 use Rattle.worker.proofs.RefusedLemmas.{had_failed, slice_refused}
-use Rattle.worker.proofs.durable.Worker.slice.Goals as goal
+use Rattle.worker.proofs.durable.Worker.watched_slice.Goals as goal
 
 pub returns-in-Err-clause-runs : goal.returns-in-Err-clause-runs
 returns-in-Err-clause-runs g c = λ room.

@@ -1,0 +1,107 @@
+use Rattle.std.proofs.Common.{refl}
+use Rattle.std.proofs.lemmas.Result.{err_from_is_err_and}
+use Rattle.sector_disk.proofs.CountLemmas.{counts_same}
+use Rattle.worker.specs.declared.fault.WorkFault.TheVariants.{Upgrade}
+use Rattle.worker.specs.declared.upgrade_fault.UpgradeFault.TheVariants.{JournalTooSmall}
+use Rattle.worker.proofs.SuccessionLemmas.{refused_keeps, refused_calls, short_enough}
+use Rattle.worker.proofs.SuccessionLemmas.{laid_created, laid_refused, laid_untouched}
+use Rattle.worker.proofs.SuccessionLemmas.{laid_keeps, laid_calls}
+use Rattle.worker.proofs.succession.create_from.Goals as goal
+
+pub lay_out-laid-requires : goal.lay_out-laid-requires
+lay_out-laid-requires g c =
+    let begun = c.in_ok-process.ensures.begun in
+    short_enough c.args.wasm.now begun.spelled c.args.config.now begun.accepted
+
+-- ---- the journal is too small
+
+pub returns-then-not-takes_legacy-clause-keeps : goal.returns-then-not-takes_legacy-clause-keeps
+returns-then-not-takes_legacy-clause-keeps g c =
+    refused_keeps g.D.Disk.medium c.args.wasm.now c.args.config.now c.args.legacy
+    (Upgrade JournalTooSmall) c.args.disk.now
+
+pub returns-then-not-takes_legacy-clause-calls : goal.returns-then-not-takes_legacy-clause-calls
+returns-then-not-takes_legacy-clause-calls g c =
+    refused_calls c.args.wasm.now c.args.config.now (Upgrade JournalTooSmall)
+    (g.D.Disk.medium c.args.disk.now)
+
+-- ---- the process didn't begin
+
+pub returns-in_err-process-clause-refused : goal.returns-in_err-process-clause-refused
+returns-in_err-process-clause-refused g c =
+    let p = err_from_is_err_and c.from_residual.result c.from_residual.ensures.1 in
+    rw (p.1, p.2) c.in_err-process.ensures.refused
+
+pub returns-in_err-process-clause-untouched : goal.returns-in_err-process-clause-untouched
+returns-in_err-process-clause-untouched g c =
+    let p = err_from_is_err_and c.from_residual.result c.from_residual.ensures.1 in
+    rw p.1 (λ refused. refl)
+
+pub returns-in_err-process-clause-keeps : goal.returns-in_err-process-clause-keeps
+returns-in_err-process-clause-keeps g c =
+    let p = err_from_is_err_and c.from_residual.result c.from_residual.ensures.1 in
+    rw p.1 (refused_keeps g.D.Disk.medium c.args.wasm.now c.args.config.now c.args.legacy p.0
+    c.args.disk.now)
+
+pub returns-in_err-process-clause-calls : goal.returns-in_err-process-clause-calls
+returns-in_err-process-clause-calls g c =
+    let p = err_from_is_err_and c.from_residual.result c.from_residual.ensures.1 in
+    rw p.1 (refused_calls c.args.wasm.now c.args.config.now p.0
+    (g.D.Disk.medium c.args.disk.now))
+
+pub returns-in_err-process-clause-counts : goal.returns-in_err-process-clause-counts
+returns-in_err-process-clause-counts g c = counts_same (g.D.Disk.medium c.args.disk.now) _
+
+-- ---- the disk was laid out, or not
+
+pub returns-clause-created : goal.returns-clause-created
+returns-clause-created g c =
+    let begun = c.in_ok-process.ensures in
+    rw c.tell.ensures (laid_created g.D.Disk.medium c.args.wasm.now c.args.config.now
+    c.args.legacy c.in_ok-process.process c.process_images_fit_areas.ensures begun.within
+    begun.texts begun.shows (c.takes_legacy.ensures.takes.0 c.if-not-takes_legacy.false)
+    begun.begun c.lay_out-laid.result c.lay_out-laid.new.disk
+    c.lay_out-laid.ensures.lays_out.durable)
+
+pub returns-clause-refused : goal.returns-clause-refused
+returns-clause-refused g c =
+    let begun = c.in_ok-process.ensures in
+    rw c.tell.ensures (laid_refused g.D.Disk.medium c.args.wasm.now c.args.config.now
+    c.args.legacy c.in_ok-process.process c.process_images_fit_areas.ensures begun.within
+    begun.texts begun.shows (c.takes_legacy.ensures.takes.0 c.if-not-takes_legacy.false)
+    begun.begun c.lay_out-laid.result c.args.disk.now
+    c.lay_out-laid.new.disk c.lay_out-laid.ensures.lays_out.cause)
+
+pub returns-clause-untouched : goal.returns-clause-untouched
+returns-clause-untouched g c =
+    let begun = c.in_ok-process.ensures in
+    rw c.tell.ensures (laid_untouched g.D.Disk.medium c.args.wasm.now c.args.config.now
+    c.args.legacy c.in_ok-process.process c.process_images_fit_areas.ensures begun.within
+    begun.texts begun.shows (c.takes_legacy.ensures.takes.0 c.if-not-takes_legacy.false)
+    begun.begun c.lay_out-laid.result c.args.disk.now
+    c.lay_out-laid.new.disk c.lay_out-laid.ensures.lays_out.cause
+    (λ small. let refused = c.lay_out-laid.ensures.too_small small in refused.1)
+    c.lay_out-laid.ensures.memory)
+
+pub returns-clause-keeps : goal.returns-clause-keeps
+returns-clause-keeps g c =
+    let begun = c.in_ok-process.ensures in
+    rw c.tell.ensures (laid_keeps g.D.Disk.medium c.args.wasm.now c.args.config.now
+    c.args.legacy c.in_ok-process.process c.process_images_fit_areas.ensures begun.within
+    begun.texts begun.shows (c.takes_legacy.ensures.takes.0 c.if-not-takes_legacy.false)
+    begun.begun c.lay_out-laid.result c.args.disk.now
+    c.lay_out-laid.new.disk c.lay_out-laid.ensures.lays_out.any_moment
+    c.lay_out-laid.ensures.lays_out.durable
+    (λ small. let refused = c.lay_out-laid.ensures.too_small small in refused.1))
+
+pub returns-clause-calls : goal.returns-clause-calls
+returns-clause-calls g c =
+    let begun = c.in_ok-process.ensures in
+    rw c.tell.ensures (laid_calls g.D.Disk.medium c.args.wasm.now c.args.config.now
+    c.args.legacy c.in_ok-process.process c.process_images_fit_areas.ensures begun.within
+    begun.texts begun.shows (c.takes_legacy.ensures.takes.0 c.if-not-takes_legacy.false)
+    begun.begun c.lay_out-laid.result (g.D.Disk.medium c.args.disk.now)
+    (g.D.Disk.medium c.lay_out-laid.new.disk) c.lay_out-laid.ensures.lays_out.calls)
+
+pub returns-clause-counts : goal.returns-clause-counts
+returns-clause-counts g c = c.lay_out-laid.ensures.lays_out.counts
