@@ -4,6 +4,7 @@ pub mod LimitLemmas
 pub mod LineLemmas
 pub mod ListingLemmas
 pub mod PrinterLemmas
+mod RecordLemmas
 pub mod WordLemmas
 pub mod FrontLemmas
 pub mod VerdictLemmas

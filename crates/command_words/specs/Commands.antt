@@ -4,9 +4,10 @@ use Rattle.std.specs.Prelude.{codes, IsSome}
 use Rattle.clap.specs.Words.{Row, Text}
 use Rattle.clap.specs.declared.error.ErrorKind.TheVariants as kind
 use Rattle.command_words.specs.declared.words.WordsFault.TheVariants as fault
-use Rattle.command_words.specs.rules.Commands.{disk_in, module_in, script_in, TakesOptions}
+use Rattle.command_words.specs.rules.Commands.{copy_in, disk_in, module_in, script_in}
+use Rattle.command_words.specs.rules.Commands.{TakesOptions}
 
--- one of the nine commands, with the paths that it needs
+-- one of the eleven commands, with the paths that it needs
 abbrev pub HasPaths : Text → List Row → Type 0
 HasPaths name rows = ((name ≡ codes "check") × IsSome (module_in rows))
     ⊎ ((name ≡ codes "create") × IsSome (disk_in rows) × IsSome (module_in rows))
@@ -14,7 +15,9 @@ HasPaths name rows = ((name ≡ codes "check") × IsSome (module_in rows))
     ⊎ ((name ≡ codes "show") × IsSome (disk_in rows))
     ⊎ ((name ≡ codes "inspect") × IsSome (disk_in rows))
     ⊎ ((name ≡ codes "files") × IsSome (disk_in rows))
+    ⊎ ((name ≡ codes "history") × IsSome (disk_in rows))
     ⊎ ((name ≡ codes "upgrade") × IsSome (disk_in rows))
+    ⊎ ((name ≡ codes "save") × IsSome (disk_in rows) × IsSome (copy_in rows))
     ⊎ ((name ≡ codes "story") × IsSome (script_in rows) × IsSome (module_in rows))
     ⊎ ((name ≡ codes "sweep") × IsSome (script_in rows) × IsSome (module_in rows))
 

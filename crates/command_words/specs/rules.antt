@@ -6,6 +6,7 @@ pub mod Numbers
 pub mod Outside
 pub mod Printers
 pub mod Prints
+pub mod Records
 pub mod Reports
 pub mod Requests
 pub mod Seeds

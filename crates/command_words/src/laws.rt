@@ -3,7 +3,7 @@
 //! # Promises
 //!
 //! - `laws::faultless_words_mean`, `laws::worked_examples`: words without a fault mean an order,
-//!   with numbers in their ranges; ninety-eight command lines. What `--version` is told of the
+//!   with numbers in their ranges; over a hundred command lines. What `--version` is told of the
 //!   program is `version_words` (`HasVersion`).
 
 ghost use Rattle.command_words.specs.laws.Examples.{CreateOrderExamples, HelpExamples};

@@ -25,8 +25,9 @@
 //! - `LineOutlet`, `Printer`: all that the program says is printed by one that knows whether a
 //!   write has failed. So status 7 comes with a failed write.
 //! - `read_seed`, `seeded`, `read_module`, `split_once`, `cut_line`, `digest_digits`, `spell_line`,
-//!   `say_text`, `say_line`, `report`, `report_words`, `report_output`: the words of all these.
-//! - `laws`: words without a fault mean an order, by rules and by ninety-eight examples.
+//!   `spell_answer`, `spell_record`, `say_text`, `say_line`, `report`, `report_words`,
+//!   `report_output`: the words of all these.
+//! - `laws`: words without a fault mean an order, by rules and by over a hundred examples.
 //!
 //! # Definitions to read
 //!
@@ -39,7 +40,8 @@
 //! (`Listings.antt`); `ChecksModule` (`Checks.antt`); `TellsOfFloat` (`Floats.antt`); `IsFlawIn`,
 //! `flaw_words` (`Flaws.antt`); `PrinterState`, `IsSaid`, `SaysText`, `HeedsBoth`, `TellsPerson`
 //! (`Printers.antt`); `SaysOfOutput` (`Reports.antt`); `lines_of` (`Pieces.antt`); `PrintsOneLine`
-//! (`Prints.antt`). In `specs/laws/`, what the laws say: `all_printed` (`Printed.antt`).
+//! (`Prints.antt`); `answer_words`, `record_line` (`Records.antt`). In `specs/laws/`, what the laws
+//! say: `all_printed` (`Printed.antt`).
 //!
 //! # Who may touch what
 //!
@@ -73,8 +75,8 @@ pub use digests::digest_digits;
 pub use lines::{
     BufferedLines, LineFault, LineFlaw, LineOutlet, LineReader, NumberedRequests, Outside,
     ReadAhead, RealTime, Request, RequestSource, count_later, flaw_in, nanoseconds_of,
-    read_decimal, read_request, spell_line, split_at_space, trap_name, words_of_cut,
-    words_of_limit,
+    read_decimal, read_request, spell_answer, spell_line, spell_record, split_at_space, trap_name,
+    words_of_cut, words_of_limit,
 };
 pub use module_bytes::read_module;
 pub use pieces::{cut_line, split_once};

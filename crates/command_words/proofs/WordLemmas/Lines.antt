@@ -1,4 +1,4 @@
--- Words for which no fault is listed name one of the nine commands, with what it needs.
+-- Words for which no fault is listed name one of the eleven commands, with what it needs.
 use Rattle.std.proofs.Common.{◌≡◌, ◌<◌, ◌≤◌, ◌^◌, ℕ, Bool, ◌||◌, not, cond, true, false, arith}
 use Rattle.std.proofs.Common.{refl, sym, subst, List, [], ◌∷◌, Option, Some, None}
 use Rattle.std.proofs.Common.{codes, true≢false, ◌⊎◌, inl, inr}
@@ -24,11 +24,12 @@ use Rattle.clap.specs.declared.error.kind.ErrorKind.TheVariants as kind
 use Rattle.command_words.specs.rules.CommandLine.{wasmhost}
 use Rattle.command_words.specs.rules.Commands.{IsNumberFrom, Meaning, check}
 use Rattle.command_words.specs.Commands.{HasPaths, IsTaken}
-use Rattle.command_words.specs.rules.Commands.{create, create_in, disk_in, flag_in}
+use Rattle.command_words.specs.rules.Commands.{copy_in, create, create_in, disk_in, flag_in}
 use Rattle.command_words.specs.rules.Commands.{guest_words, meaning_below, module_in, number_or}
 use Rattle.command_words.specs.rules.Commands.{own_words, run, run_in, script_in, show}
 use Rattle.command_words.specs.rules.Commands.{spelled_number, story, story_in, TakesOptions}
-use Rattle.command_words.specs.rules.Commands.{files, inspect, sweep, sweep_in, upgrade}
+use Rattle.command_words.specs.rules.Commands.{files, history, inspect, sweep, sweep_in}
+use Rattle.command_words.specs.rules.Commands.{save, upgrade}
 use Rattle.command_words.specs.laws.Words.{FaultlessWordsMean, NumbersFit}
 use Rattle.command_words.proofs.WordLemmas.Walks.{Keeps, found_each, no_first}
 use Rattle.command_words.proofs.WordLemmas.Walks.{no_second, settled_good, some_kind, walk_good}
@@ -170,7 +171,13 @@ module _ (name : Text) (words : List Text) (no_help : bytes_eq name (codes "help
               (
                 keeps_number 3 (codes "journal") 0
                     (λ v is. is),
-                (keeps_env 3, (keeps_flag 3 (codes "device") (inl refl), (keeps_help, tt))),
+                (
+                  keeps_env 3,
+                  (
+                    keeps_flag 3 (codes "device") (inl refl),
+                    (keeps_text 3 (codes "from") (λ v. tt), (keeps_help, tt)),
+                  ),
+                ),
               ),
             ),
           ),
@@ -183,7 +190,10 @@ module _ (name : Text) (words : List Text) (no_help : bytes_eq name (codes "help
             unused,
             (
               unused,
-              (unused, (unused, (no_flag (codes "device") (inr refl), (unused, tt)))),
+              (
+                unused,
+                (unused, (no_flag (codes "device") (inr refl), (unused, (unused, tt)))),
+              ),
             ),
           ),
         ),
@@ -209,8 +219,11 @@ module _ (name : Text) (words : List Text) (no_help : bytes_eq name (codes "help
                       (
                         keeps_text 2 (codes "status") (λ v. tt),
                         (
-                          keeps_flag 2 (codes "verbose") (inl refl),
-                          (keeps_text 2 (codes "seed-file") (λ v. tt), (keeps_help, tt)),
+                          keeps_text 2 (codes "metrics") (λ v. tt),
+                          (
+                            keeps_flag 2 (codes "verbose") (inl refl),
+                            (keeps_text 2 (codes "seed-file") (λ v. tt), (keeps_help, tt)),
+                          ),
                         ),
                       ),
                     ),
@@ -236,8 +249,11 @@ module _ (name : Text) (words : List Text) (no_help : bytes_eq name (codes "help
                       (
                         unused,
                         (
-                          no_flag (codes "verbose") (inr refl),
-                          (unused, (unused, tt)),
+                          unused,
+                          (
+                            no_flag (codes "verbose") (inr refl),
+                            (unused, (unused, tt)),
+                          ),
                         ),
                       ),
                     ),
@@ -277,65 +293,93 @@ module _ (name : Text) (words : List Text) (no_help : bytes_eq name (codes "help
               (
                 λ here e. below_taken _ words (
                   keeps_path 1 (codes "DISK") (λ v. tt),
-                  (keeps_help, tt),
+                  (keeps_flag 2 (codes "story") (inl refl), (keeps_help, tt)),
                 )
-                    (unused, (unused, tt))
+                    (unused, (no_flag (codes "story") (inr refl), (unused, tt)))
                     (λ rows good e. inr (inr (inr (inr (inr (inr (inl (
                       refl,
                       one_path (codes "DISK") rows good e,
                     )))))))) e,
                 (
                   λ here e. below_taken _ words (
-                    keeps_path 1 (codes "SCRIPT") (λ v. tt),
-                    (
-                      keeps_path 2 (codes "MODULE") (λ v. tt),
-                      (
-                        keeps_number 3 (codes "pages") 0 (λ v is. is),
-                        (
-                          keeps_number 3 (codes "files") 0 (λ v is. is),
-                          (keeps_number 3 (codes "journal") 0 (λ v is. is), (keeps_help, tt)),
-                        ),
-                      ),
-                    ),
+                    keeps_path 1 (codes "DISK") (λ v. tt),
+                    (keeps_help, tt),
                   )
-                      (unused, (unused, (unused, (unused, (unused, (unused, tt))))))
-                      (λ rows good e. inr (inr (inr (inr (inr (inr (inr (inl (two_paths
-                      (codes "story") (codes "SCRIPT") (codes "MODULE") rows good e))))))))) e,
+                      (unused, (unused, tt))
+                      (λ rows good e. inr (inr (inr (inr (inr (inr (inr (inl (
+                        refl,
+                        one_path (codes "DISK") rows good e,
+                      ))))))))) e,
                   (
                     λ here e. below_taken _ words (
-                      keeps_path 1 (codes "SCRIPT") (λ v. tt),
-                      (
-                        keeps_path 2 (codes "MODULE") (λ v. tt),
+                      keeps_path 1 (codes "DISK") (λ v. tt),
+                      (keeps_path 2 (codes "COPY") (λ v. tt), (keeps_help, tt)),
+                    )
+                        (unused, (unused, (unused, tt)))
+                        (λ rows good e. inr (inr (inr (inr (inr (inr (inr (inr (inl (two_paths
+                        (codes "save") (codes "DISK") (codes "COPY") rows good e)))))))))) e,
+                    (
+                      λ here e. below_taken _ words (
+                        keeps_path 1 (codes "SCRIPT") (λ v. tt),
                         (
-                          keeps_number 3 (codes "pages") 0 (λ v is. is),
+                          keeps_path 2 (codes "MODULE") (λ v. tt),
                           (
-                            keeps_number 3 (codes "files") 0 (λ v is. is),
+                            keeps_number 3 (codes "pages") 0 (λ v is. is),
                             (
-                              keeps_number 3 (codes "journal") 0 (λ v is. is),
-                              (
-                                keeps_text 3 (codes "fronts") (λ v. tt),
-                                (keeps_number 3 (codes "life") 1 (λ v is. is), (keeps_help, tt)),
-                              ),
+                              keeps_number 3 (codes "files") 0 (λ v is. is),
+                              (keeps_number 3 (codes "journal") 0 (λ v is. is), (keeps_help, tt)),
                             ),
                           ),
                         ),
-                      ),
-                    ) (
-                      unused,
+                      )
+                          (unused, (unused, (unused, (unused, (unused, (unused, tt))))))
+                          (λ rows good e. inr (inr (inr (inr (inr (inr (inr (inr (inr (inl
+                          (two_paths (codes "story") (codes "SCRIPT") (codes "MODULE") rows
+                          good e))))))))))) e,
                       (
-                        unused,
-                        (
+                        λ here e. below_taken _ words (
+                          keeps_path 1 (codes "SCRIPT") (λ v. tt),
+                          (
+                            keeps_path 2 (codes "MODULE") (λ v. tt),
+                            (
+                              keeps_number 3 (codes "pages") 0 (λ v is. is),
+                              (
+                                keeps_number 3 (codes "files") 0 (λ v is. is),
+                                (
+                                  keeps_number 3 (codes "journal") 0 (λ v is. is),
+                                  (
+                                    keeps_text 3 (codes "fronts") (λ v. tt),
+                                    (
+                                      keeps_number 3 (codes "life") 1 (λ v is. is),
+                                      (keeps_help, tt),
+                                    ),
+                                  ),
+                                ),
+                              ),
+                            ),
+                          ),
+                        ) (
                           unused,
                           (
                             unused,
-                            (unused, (unused, (unused, (unused, tt)))),
+                            (
+                              unused,
+                              (
+                                unused,
+                                (unused, (unused, (unused, (unused, tt)))),
+                              ),
+                            ),
                           ),
+                        )
+                            (λ rows good e. inr (inr (inr (inr (inr (inr (inr (inr (inr (inr
+                            (two_paths (codes "sweep") (codes "SCRIPT") (codes "MODULE") rows
+                            good e))))))))))) e,
+                        (
+                          λ here e. absurd (is_help (or_false (bytes_eq (codes "help") name) here)),
+                          tt,
                         ),
                       ),
-                    )
-                        (λ rows good e. inr (inr (inr (inr (inr (inr (inr (inr (two_paths
-                        (codes "sweep") (codes "SCRIPT") (codes "MODULE") rows good e))))))))) e,
-                    (λ here e. absurd (is_help (or_false (bytes_eq (codes "help") name) here)), tt),
+                    ),
                   ),
                 ),
               ),
@@ -502,11 +546,23 @@ taken_means arguments name rows taken = elim taken.0 [
             | inl p ↦ subst (λ (t : Text). IsSomeAnd (meaning_below arguments (t, rows)) NumbersFit)
                 (sym p.0) (path_means (λ d. files d (first_of (codes "PATH") rows)) (disk_in rows)
                 p.1 (λ path. tt))
-            | inr kept ↦ elim kept [
+            | inr given ↦ elim given [
               | inl p ↦ subst (λ (t : Text). IsSomeAnd (meaning_below arguments
                   (t, rows)) NumbersFit)
-                  (sym p.0) (path_means upgrade (disk_in rows) p.1 (λ path. tt))
-              | inr scripts ↦ scripts_mean arguments name rows taken.1 scripts
+                  (sym p.0) (path_means (λ d. history d (flag_in (codes "story") rows))
+                  (disk_in rows) p.1 (λ path. tt))
+              | inr kept ↦ elim kept [
+                | inl p ↦ subst (λ (t : Text). IsSomeAnd (meaning_below arguments
+                    (t, rows)) NumbersFit)
+                    (sym p.0) (path_means upgrade (disk_in rows) p.1 (λ path. tt))
+                | inr copied ↦ elim copied [
+                  | inl p ↦ subst (λ (t : Text). IsSomeAnd (meaning_below arguments
+                      (t, rows)) NumbersFit)
+                      (sym p.0) (paths_mean save (disk_in rows) (copy_in rows) p.1 p.2
+                      (λ disk copy. tt))
+                  | inr scripts ↦ scripts_mean arguments name rows taken.1 scripts
+                ]
+              ]
             ]
           ]
         ]

@@ -36,7 +36,7 @@ has_most id = bytes_eq id (codes "batch")
 abbrev pub is_flag : Text → Bool
 is_flag id = bytes_eq id (codes "rewrite") || (bytes_eq id (codes "device")
     || (bytes_eq id (codes "json") || (bytes_eq id (codes "verbose")
-    || bytes_eq id (codes "all"))))
+    || (bytes_eq id (codes "all") || bytes_eq id (codes "story")))))
 
 -- what is asked of the value of an argument
 pub data Asked : Type 0 where
@@ -161,5 +161,6 @@ options_are_taken rows good = record {
   verbose = first_passes (codes "verbose") rows good;
   device = first_passes (codes "device") rows good;
   json = first_passes (codes "json") rows good;
+  story = first_passes (codes "story") rows good;
   all = first_passes (codes "all") rows good;
 }

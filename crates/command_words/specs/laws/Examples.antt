@@ -8,7 +8,8 @@ use Rattle.command_words.specs.rules.Commands.{CreateMeaning, Meaning, RunMeanin
 use Rattle.command_words.specs.rules.Commands.{create}
 use Rattle.command_words.specs.rules.Commands.{StoryMeaning, faults_in_words, meaning_in}
 use Rattle.command_words.specs.rules.Commands.{own_words, run, show, story}
-use Rattle.command_words.specs.rules.Commands.{SweepMeaning, files, inspect, sweep, upgrade}
+use Rattle.command_words.specs.rules.Commands.{SweepMeaning, files, history, inspect}
+use Rattle.command_words.specs.rules.Commands.{save, sweep, upgrade}
 
 -- the program's name, and words after it
 abbrev pub line : List Text → List Text
@@ -27,6 +28,7 @@ plain_creation = record {
   journal = 256;
   environment = [];
   on_device = false;
+  predecessor = None;
   arguments = [];
 }
 
@@ -44,6 +46,7 @@ plain_run = record {
   clock = None;
   rewrites = false;
   status = None;
+  metrics = None;
   is_verbose = false;
   seed_file = None;
 }
@@ -102,8 +105,14 @@ pub record PathExamples : Type 0 where
       (inspect (codes "a.disk") true)
   pub lists_files : Means (line (codes "files" ∷ codes "a.disk" ∷ []))
       (files (codes "a.disk") None)
+  pub lists_records : Means (line (codes "history" ∷ codes "a.disk" ∷ []))
+      (history (codes "a.disk") false)
+  pub lists_a_story : Means (line (codes "history" ∷ codes "a.disk" ∷ codes "--story" ∷ []))
+      (history (codes "a.disk") true)
   pub upgrades : Means (line (codes "upgrade" ∷ codes "a.disk" ∷ []))
       (upgrade (codes "a.disk"))
+  pub saves : Means (line (codes "save" ∷ codes "a.disk" ∷ codes "b.disk" ∷ []))
+      (save (codes "a.disk") (codes "b.disk"))
   pub gives_a_file : Means (line (codes "files" ∷ codes "a.disk" ∷ codes "a/b" ∷ []))
       (files (codes "a.disk") (Some (codes "a/b")))
 
@@ -124,6 +133,8 @@ pub record CreateOrderExamples : Type 0 where
       (create (record plain_creation { environment = codes "a=b" ∷ codes "c=" ∷ [] }))
   pub device : Means (create_line (codes "--device" ∷ []))
       (create (record plain_creation { on_device = true }))
+  pub predecessor : Means (create_line (codes "--from" ∷ codes "old.disk" ∷ []))
+      (create (record plain_creation { predecessor = Some (codes "old.disk") }))
   pub device_behind_dashes : Means (create_line (codes "--" ∷ codes "--device" ∷ []))
       (create (record plain_creation { arguments = codes "--device" ∷ [] }))
   pub arguments : Means
@@ -152,6 +163,8 @@ pub record RunOrderExamples : Type 0 where
       (run (record plain_run { rewrites = true }))
   pub status : Means (run_line (codes "--status" ∷ codes "a.status" ∷ []))
       (run (record plain_run { status = Some (codes "a.status") }))
+  pub metrics : Means (run_line (codes "--metrics" ∷ codes "a.prom" ∷ []))
+      (run (record plain_run { metrics = Some (codes "a.prom") }))
   pub verbose : Means (run_line (codes "--verbose" ∷ []))
       (run (record plain_run { is_verbose = true }))
   pub seed_file : Means (run_line (codes "--seed-file" ∷ codes "a.seed" ∷ []))
@@ -207,8 +220,16 @@ pub record PathMistakes : Type 0 where
   pub files_of_two : WordsFail
       (line (codes "files" ∷ codes "a.disk" ∷ codes "a" ∷ codes "b" ∷ []))
       (kind.UnknownArgument ∷ [])
+  pub history_of_none : WordsFail (line (codes "history" ∷ [])) (kind.MissingRequiredArgument ∷ [])
+  pub history_of_two : WordsFail (line (codes "history" ∷ codes "a.disk" ∷ codes "b.disk" ∷ []))
+      (kind.UnknownArgument ∷ [])
   pub upgrade_of_none : WordsFail (line (codes "upgrade" ∷ [])) (kind.MissingRequiredArgument ∷ [])
   pub upgrade_of_two : WordsFail (line (codes "upgrade" ∷ codes "a.disk" ∷ codes "b.disk" ∷ []))
+      (kind.UnknownArgument ∷ [])
+  pub save_of_one : WordsFail (line (codes "save" ∷ codes "a.disk" ∷ []))
+      (kind.MissingRequiredArgument ∷ [])
+  pub save_of_three : WordsFail
+      (line (codes "save" ∷ codes "a.disk" ∷ codes "b.disk" ∷ codes "c.disk" ∷ []))
       (kind.UnknownArgument ∷ [])
   pub story_of_none : WordsFail (line (codes "story" ∷ [])) (kind.MissingRequiredArgument ∷ [])
   pub story_of_no_module : WordsFail (line (codes "story" ∷ codes "a.story" ∷ []))
@@ -255,6 +276,13 @@ pub record OptionMistakes : Type 0 where
       (kind.ValueValidation ∷ [])
   pub journal_below_zero : WordsFail (create_line (codes "--journal=-1" ∷ []))
       (kind.ValueValidation ∷ [])
+  pub predecessor_of_nothing : WordsFail (create_line (codes "--from" ∷ []))
+      (kind.InvalidValue ∷ [])
+  pub two_predecessors : WordsFail
+      (create_line (codes "--from" ∷ codes "a" ∷ codes "--from" ∷ codes "b" ∷ []))
+      (kind.ArgumentConflict ∷ [])
+  pub predecessor_of_a_run : WordsFail (run_line (codes "--from" ∷ codes "b.disk" ∷ []))
+      (kind.UnknownArgument ∷ [])
   pub no_entry : WordsFail (create_line (codes "--env" ∷ [])) (kind.InvalidValue ∷ [])
   pub fuel_of_a_check : WordsFail (line (codes "check" ∷ codes "a.wasm" ∷ codes "--fuel" ∷ codes "7"
       ∷ [])) (kind.UnknownArgument ∷ [])
@@ -276,6 +304,11 @@ pub record OptionMistakes : Type 0 where
       (kind.ArgumentConflict ∷ [])
   pub fuel_of_a_story : WordsFail (story_line (codes "--fuel" ∷ codes "7" ∷ []))
       (kind.UnknownArgument ∷ [])
+  pub story_twice : WordsFail
+      (line (codes "history" ∷ codes "a.disk" ∷ codes "--story" ∷ codes "--story" ∷ []))
+      (kind.ArgumentConflict ∷ [])
+  pub json_of_a_history : WordsFail
+      (line (codes "history" ∷ codes "a.disk" ∷ codes "--json" ∷ [])) (kind.UnknownArgument ∷ [])
   pub life_of_zero : WordsFail (sweep_line (codes "--life" ∷ codes "0" ∷ []))
       (kind.ValueValidation ∷ [])
   pub fronts_twice : WordsFail (sweep_line (codes "--fronts=0" ∷ codes "--fronts=1" ∷ []))

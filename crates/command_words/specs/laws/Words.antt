@@ -3,7 +3,7 @@ use Rattle.std.specs.Prelude.{◌≡◌, ◌<◌, ◌≤◌, ◌^◌, ⊤, List,
 use Rattle.std.specs.Option.{IsSomeAnd}
 use Rattle.clap.specs.Words.{Text}
 use Rattle.command_words.specs.rules.Commands.{Meaning, check, create, run, show, story}
-use Rattle.command_words.specs.rules.Commands.{sweep, inspect, files, upgrade}
+use Rattle.command_words.specs.rules.Commands.{sweep, inspect, files, history, upgrade, save}
 use Rattle.command_words.specs.rules.Commands.{faults_in_words, meaning_in}
 
 -- The steps of a slice, and the slices between two checkpoints, are numbers from 1 to 2^64 - 1. The
@@ -18,7 +18,9 @@ NumbersFit (run said) = (1 ≤ said.fuel) × (said.fuel < 2 ^ 64)
 NumbersFit (show path) = ⊤
 NumbersFit (inspect path as_json) = ⊤
 NumbersFit (files disk path) = ⊤
+NumbersFit (history path as_story) = ⊤
 NumbersFit (upgrade path) = ⊤
+NumbersFit (save disk copy) = ⊤
 NumbersFit (story said) = (said.pages < 2 ^ 64) × (said.files < 2 ^ 64) × (said.journal < 2 ^ 64)
 NumbersFit (sweep said) = (said.pages < 2 ^ 64) × (said.files < 2 ^ 64) × (said.journal < 2 ^ 64)
 

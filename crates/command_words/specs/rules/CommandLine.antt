@@ -64,9 +64,11 @@ abbrev pub sized_create_app : App
 sized_create_app = with_rule (with_rule (with_rule bare_create_app (number_rule (codes "pages") 0))
     (number_rule (codes "files") 0)) (number_rule (codes "journal") 0)
 
--- the same, with `--env` as often as it is wanted, and with `--device` where it is wanted
+-- the same, with `--env` as often as it is wanted, and with `--device` and `--from` where they are
+-- wanted
 abbrev pub create_app : App
-create_app = with_rule (with_rule sized_create_app env_rule) (flag_rule (codes "device"))
+create_app = with_rule (with_rule (with_rule sized_create_app env_rule)
+    (flag_rule (codes "device"))) (text_rule (codes "from"))
 
 -- `run DISK`, with `--fuel`, `--every` and `--batch` where they are wanted
 abbrev pub paced_run_app : App
@@ -79,10 +81,15 @@ abbrev pub seeded_run_app : App
 seeded_run_app = with_rule (with_rule paced_run_app (text_rule (codes "seed")))
     (number_rule (codes "clock") 0)
 
--- the same, with `--rewrite`, `--status`, `--verbose` and `--seed-file` where they are wanted
+-- the same, with `--rewrite`, `--status` and `--metrics` where they are wanted
+abbrev pub watched_run_app : App
+watched_run_app = with_rule (with_rule (with_rule seeded_run_app (flag_rule (codes "rewrite")))
+    (text_rule (codes "status"))) (text_rule (codes "metrics"))
+
+-- the same, with `--verbose` and `--seed-file` where they are wanted
 abbrev pub run_app : App
-run_app = with_rule (with_rule (with_rule (with_rule seeded_run_app (flag_rule (codes "rewrite")))
-    (text_rule (codes "status"))) (flag_rule (codes "verbose"))) (text_rule (codes "seed-file"))
+run_app = with_rule (with_rule watched_run_app (flag_rule (codes "verbose")))
+    (text_rule (codes "seed-file"))
 
 -- `show DISK`
 abbrev pub show_app : App
@@ -96,9 +103,17 @@ inspect_app = with_rule (disk_app (codes "inspect")) (flag_rule (codes "json"))
 abbrev pub files_app : App
 files_app = with_rule (disk_app (codes "files")) (last_rule (codes "PATH"))
 
+-- `history DISK`, with `--story` where it is wanted
+abbrev pub history_app : App
+history_app = with_rule (disk_app (codes "history")) (flag_rule (codes "story"))
+
 -- `upgrade DISK`
 abbrev pub upgrade_app : App
 upgrade_app = disk_app (codes "upgrade")
+
+-- `save DISK COPY`
+abbrev pub save_app : App
+save_app = with_rule (disk_app (codes "save")) (path_rule (codes "COPY"))
 
 -- a command with the arguments SCRIPT and MODULE
 abbrev pub bare_script_app : Text → App
@@ -135,11 +150,15 @@ disks_app = with_subcommand (with_subcommand half_app run_app.top) show_app.top
 
 -- the same, with the commands that look into a disk
 abbrev pub looks_app : App
-looks_app = with_subcommand (with_subcommand disks_app inspect_app.top) files_app.top
+looks_app = with_subcommand (with_subcommand (with_subcommand disks_app inspect_app.top)
+    files_app.top) history_app.top
 
--- the same, with the command that upgrades a disk, and those for scripts
+-- the same, with the commands that upgrade and copy a disk
+abbrev pub cares_app : App
+cares_app = with_subcommand (with_subcommand looks_app upgrade_app.top) save_app.top
+
+-- the same, with the commands for scripts
 abbrev pub wasmhost : App
-wasmhost = with_subcommand (with_subcommand (with_subcommand looks_app upgrade_app.top)
-    story_app.top) sweep_app.top
+wasmhost = with_subcommand (with_subcommand cares_app story_app.top) sweep_app.top
 
 -- ---- what the code makes of them

@@ -19,7 +19,7 @@ use Rattle.command_words.specs.declared.words.StoryOrder.{StoryOrder}
 use Rattle.command_words.specs.declared.words.SweepOrder.{SweepOrder}
 use Rattle.command_words.specs.declared.words.Order.{Order}
 use Rattle.command_words.specs.declared.words.Order.TheVariants.{Check, Create, Run, Show}
-use Rattle.command_words.specs.declared.words.Order.TheVariants.{Story}
+use Rattle.command_words.specs.declared.words.Order.TheVariants.{History, Save, Story}
 use Rattle.command_words.specs.declared.words.Order.TheVariants.{Sweep, Inspect, Files, Upgrade}
 use Rattle.command_words.specs.declared.words.WordsFault.{WordsFault}
 use Rattle.command_words.specs.declared.words.WordsFault.TheVariants as fault
@@ -55,8 +55,9 @@ faults_in_words words = fault_of wasmhost (own_words words)
 
 -- ---- orders
 
--- What a creation says: the paths of the disk and of the module, the environment and the arguments
--- as texts, whether the disk is a block device, and the others as numbers.
+-- What a creation says: the paths of the disk, of the module and of the disk whose worker is
+-- succeeded, the environment and the arguments, as texts; whether the disk is a block device; and
+-- the others as numbers.
 pub record CreateMeaning : Type 0 where
   pub disk : Text
   pub «module» : Text
@@ -65,11 +66,12 @@ pub record CreateMeaning : Type 0 where
   pub journal : ℕ
   pub environment : List Text
   pub on_device : Bool
+  pub predecessor : Option Text
   pub arguments : List Text
 
--- What a run says: the paths of the disk, of a status file and of a file with a seed, and a seed,
--- as texts; whether it writes all sectors back first; whether it says what a terminal is told; and
--- the others as numbers.
+-- What a run says: the paths of the disk, of a status file, of a file of metrics and of a file with
+-- a seed, and a seed, as texts; whether it writes all sectors back first; whether it says what a
+-- terminal is told; and the others as numbers.
 pub record RunMeaning : Type 0 where
   pub disk : Text
   pub fuel : ℕ
@@ -79,6 +81,7 @@ pub record RunMeaning : Type 0 where
   pub clock : Option ℕ
   pub rewrites : Bool
   pub status : Option Text
+  pub metrics : Option Text
   pub is_verbose : Bool
   pub seed_file : Option Text
 
@@ -109,7 +112,9 @@ pub data Meaning : Type 0 where
   show : Text → Meaning
   inspect : Text → Bool → Meaning
   files : Text → Option Text → Meaning
+  history : Text → Bool → Meaning
   upgrade : Text → Meaning
+  save : Text → Text → Meaning
   story : StoryMeaning → Meaning
   sweep : SweepMeaning → Meaning
 
@@ -123,6 +128,7 @@ create_said order = record {
   journal = order.journal;
   environment = texts_in order.environment.items;
   on_device = order.on_device;
+  predecessor = option_map (λ text. text.now) order.predecessor;
   arguments = texts_in order.arguments.items;
 }
 
@@ -137,6 +143,7 @@ run_said order = record {
   clock = order.clock;
   rewrites = order.rewrites;
   status = option_map (λ text. text.now) order.status;
+  metrics = option_map (λ text. text.now) order.metrics;
   is_verbose = order.is_verbose;
   seed_file = option_map (λ text. text.now) order.seed_file;
 }
@@ -171,7 +178,9 @@ meaning_of (Run order) = run (run_said order)
 meaning_of (Show path) = show path.now
 meaning_of (Inspect path as_json) = inspect path.now as_json
 meaning_of (Files disk path) = files disk.now (option_map (λ text. text.now) path)
+meaning_of (History path as_story) = history path.now as_story
 meaning_of (Upgrade path) = upgrade path.now
+meaning_of (Save disk copy) = save disk.now copy.now
 meaning_of (Story order) = story (story_said order)
 meaning_of (Sweep order) = sweep (sweep_said order)
 
@@ -197,6 +206,10 @@ flag_in name rows = option_map_or (λ text. bytes_eq text (codes "true")) (one_o
 abbrev pub disk_in : List Row → Option Text
 disk_in = first_of (codes "DISK")
 
+-- the text of COPY
+abbrev pub copy_in : List Row → Option Text
+copy_in = first_of (codes "COPY")
+
 -- the text of MODULE
 abbrev pub module_in : List Row → Option Text
 module_in = first_of (codes "MODULE")
@@ -220,6 +233,7 @@ create_in rows arguments disk wasm = record {
   journal = number_or (codes "journal") 256 rows;
   environment = environment_in rows;
   on_device = flag_in (codes "device") rows;
+  predecessor = first_of (codes "from") rows;
   arguments = arguments;
 }
 
@@ -235,6 +249,7 @@ run_in rows disk = record {
   clock = number_given (codes "clock") rows;
   rewrites = flag_in (codes "rewrite") rows;
   status = first_of (codes "status") rows;
+  metrics = first_of (codes "metrics") rows;
   is_verbose = flag_in (codes "verbose") rows;
   seed_file = first_of (codes "seed-file") rows;
 }
@@ -262,15 +277,24 @@ sweep_in rows script wasm = record {
   life = number_given (codes "life") rows;
 }
 
--- A check, where its path is there. Where no number is given, there are 256 pages.
+-- What a check means with this path and the rows of what is after its word. Where no number is
+-- given, there are 256 pages.
+abbrev pub check_in : List Row → Text → Meaning
+check_in rows wasm =
+    check wasm (number_or (codes "pages") 256 rows) (flag_in (codes "all") rows)
+
+-- a check, where its path is there
 abbrev pub check_below : List Row → Option Meaning
-check_below rows = option_map (λ wasm. check wasm (number_or (codes "pages") 256 rows)
-    (flag_in (codes "all") rows)) (module_in rows)
+check_below rows = option_map (check_in rows) (module_in rows)
 
 -- a creation, where both paths are there
 abbrev pub creation_below : List Text → List Row → Option Meaning
 creation_below arguments rows = option_and_then (λ disk. option_map (λ wasm.
     create (create_in rows arguments disk wasm)) (module_in rows)) (disk_in rows)
+
+-- a copy, where both paths are there
+abbrev pub save_below : List Row → Option Meaning
+save_below rows = option_and_then (λ disk. option_map (save disk) (copy_in rows)) (disk_in rows)
 
 -- a story, where both paths are there
 abbrev pub story_below : List Row → Option Meaning
@@ -294,7 +318,10 @@ meaning_below arguments met =
     then option_map (λ disk. inspect disk (flag_in (codes "json") met.1)) (disk_in met.1)
     else if bytes_eq met.0 (codes "files")
     then option_map (λ disk. files disk (first_of (codes "PATH") met.1)) (disk_in met.1)
+    else if bytes_eq met.0 (codes "history")
+    then option_map (λ disk. history disk (flag_in (codes "story") met.1)) (disk_in met.1)
     else if bytes_eq met.0 (codes "upgrade") then option_map upgrade (disk_in met.1)
+    else if bytes_eq met.0 (codes "save") then save_below met.1
     else if bytes_eq met.0 (codes "story") then story_below met.1
     else if bytes_eq met.0 (codes "sweep") then sweep_below met.1
     else None
@@ -360,6 +387,7 @@ pub record TakesOptions (rows : List Row) : Type 0 where
   pub verbose : TakesFlag (codes "verbose") rows
   pub device : TakesFlag (codes "device") rows
   pub json : TakesFlag (codes "json") rows
+  pub story : TakesFlag (codes "story") rows
   pub all : TakesFlag (codes "all") rows
 
 -- ---- faults

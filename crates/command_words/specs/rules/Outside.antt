@@ -3,7 +3,7 @@ use Rattle.std.specs.Prelude.{◌≡◌, ℕ, ◌+◌, ◌-◌, ◌^◌, ◌<◌
 use Rattle.std.specs.Prelude.{Bool, IsTrue, IfSome}
 use Rattle.wasi_abi.specs.declared.answer.Answer.{Answer}
 use Rattle.wasi_abi.specs.declared.answer.Answer.TheVariants as answer
-use Rattle.process_rules.specs.Runs.{Kept, Given, Wider}
+use Rattle.process_rules.specs.Runs.{Kept, Given, Wider, Succeeds}
 use Rattle.command_words.specs.declared.lines.outside.Outside.{Outside}
 use Rattle.command_words.specs.rules.Seeds.{seeded_bytes, words_for}
 
@@ -34,6 +34,7 @@ abbrev pub words_of : List Kept → ℕ
 words_of [] = 0
 words_of (Given a ∷ kept) = words_in a + words_of kept
 words_of (Wider steps ∷ kept) = words_of kept
+words_of (Succeeds o ∷ kept) = words_of kept
 
 -- A time is one of the clock, and random bytes are those of the next words of this stream of the
 -- seed, where so many were taken before.
@@ -50,6 +51,7 @@ ComeFrom outside stream place [] = ⊤
 ComeFrom outside stream place (Given a ∷ kept) =
     ComesFrom outside stream place a × ComeFrom outside stream (place + words_in a) kept
 ComeFrom outside stream place (Wider steps ∷ kept) = ComeFrom outside stream place kept
+ComeFrom outside stream place (Succeeds o ∷ kept) = ComeFrom outside stream place kept
 
 -- an answer that a request line gives
 abbrev pub request_in : Answer → List Kept
@@ -62,3 +64,4 @@ abbrev pub requests_in : List Kept → List Kept
 requests_in [] = []
 requests_in (Given a ∷ kept) = request_in a ++ requests_in kept
 requests_in (Wider steps ∷ kept) = requests_in kept
+requests_in (Succeeds o ∷ kept) = requests_in kept

@@ -5,13 +5,14 @@ ghost use Rattle.command_words.specs.CommandLine.{HasVersion, IsArgument, IsComm
 ghost use Rattle.command_words.specs.rules.CommandLine.{bare_app, bare_create_app, bare_script_app};
 ghost use Rattle.command_words.specs.rules.CommandLine.{check_app, create_app, disk_app, disks_app};
 ghost use Rattle.command_words.specs.rules.CommandLine.{env_rule, files_app, flag_rule, half_app};
+ghost use Rattle.command_words.specs.rules.CommandLine.{cares_app, history_app, save_app};
 ghost use Rattle.command_words.specs.rules.CommandLine.{inspect_app, last_rule, looks_app};
 ghost use Rattle.command_words.specs.rules.CommandLine.{number_rule, paced_run_app, path_rule};
 ghost use Rattle.command_words.specs.rules.CommandLine.{range_rule, run_app, script_app};
 ghost use Rattle.command_words.specs.rules.CommandLine.{seeded_run_app};
 ghost use Rattle.command_words.specs.rules.CommandLine.{show_app, sized_create_app, story_app};
 ghost use Rattle.command_words.specs.rules.CommandLine.{sweep_app, text_rule, upgrade_app};
-ghost use Rattle.command_words.specs.rules.CommandLine.{wasmhost};
+ghost use Rattle.command_words.specs.rules.CommandLine.{wasmhost, watched_run_app};
 
 use clap::{Arg, ArgAction, Command, value_parser};
 use std::alloc::{AllocError, Global};
@@ -165,9 +166,11 @@ fn create_command<'a>(alloc: Global) -> Result<Command<'a>, AllocError>
     ensures { IfOk result (IsCommand create_app) }
 {
     let device = "DISK is a block device, whose first sectors are overwritten";
+    let from = "Disk of the worker whose files and numbers the new one goes on from";
     sized_create_command(alloc)?
         .arg(env_option(alloc))?
-        .arg(flag(alloc, "device", device))
+        .arg(flag(alloc, "device", device))?
+        .arg(text_option(alloc, "from", "OLD", from))
 }
 
 /// The command `run`, with its path and the options `--fuel`, `--every` and `--batch`.
@@ -195,16 +198,25 @@ fn seeded_run_command<'a>(alloc: Global) -> Result<Command<'a>, AllocError>
         .arg(number_option(alloc, "clock", clock))
 }
 
-fn run_command<'a>(alloc: Global) -> Result<Command<'a>, AllocError>
-    ensures { IfOk result (IsCommand run_app) }
+/// The same with the options `--rewrite`, `--status` and `--metrics`.
+fn watched_run_command<'a>(alloc: Global) -> Result<Command<'a>, AllocError>
+    ensures { IfOk result (IsCommand watched_run_app) }
 {
     let rewrite = "Write every sector back first, after a disk fault";
-    let status = "File that says where the worker stands, replaced at each checkpoint";
-    let verbose = "Say on the error output what a terminal is told";
-    let seed_file = "File with the seed, in place of --seed";
+    let status = "File that says where the worker is, kept current";
+    let metrics = "File that says it as Prometheus metrics";
     seeded_run_command(alloc)?
         .arg(flag(alloc, "rewrite", rewrite))?
         .arg(text_option(alloc, "status", "FILE", status))?
+        .arg(text_option(alloc, "metrics", "FILE", metrics))
+}
+
+fn run_command<'a>(alloc: Global) -> Result<Command<'a>, AllocError>
+    ensures { IfOk result (IsCommand run_app) }
+{
+    let verbose = "Say on the error output what a terminal is told";
+    let seed_file = "File with the seed, in place of --seed";
+    watched_run_command(alloc)?
         .arg(flag(alloc, "verbose", verbose))?
         .arg(text_option(alloc, "seed-file", "FILE", seed_file))
 }
@@ -232,11 +244,27 @@ fn files_command<'a>(alloc: Global) -> Result<Command<'a>, AllocError>
     disk_command(alloc, "files", about, WORKER_DISK)?.arg(last_argument(alloc, "PATH", path))
 }
 
+fn history_command<'a>(alloc: Global) -> Result<Command<'a>, AllocError>
+    ensures { IfOk result (IsCommand history_app) }
+{
+    let about = "List what the worker of a disk was given since its newest snapshot";
+    let story = "List it as a script for story";
+    disk_command(alloc, "history", about, WORKER_DISK)?.arg(flag(alloc, "story", story))
+}
+
 fn upgrade_command<'a>(alloc: Global) -> Result<Command<'a>, AllocError>
     ensures { IfOk result (IsCommand upgrade_app) }
 {
     let about = "Bring the worker of a disk to version 2, with texts of 65536 bytes";
     disk_command(alloc, "upgrade", about, WORKER_DISK)
+}
+
+fn save_command<'a>(alloc: Global) -> Result<Command<'a>, AllocError>
+    ensures { IfOk result (IsCommand save_app) }
+{
+    let about = "Copy the disk of a worker that doesn't run to a new file";
+    let copy = "Path of the new file";
+    disk_command(alloc, "save", about, WORKER_DISK)?.arg(path_argument(alloc, "COPY", copy))
 }
 
 /// A command with the paths of a script and of a module.
@@ -323,15 +351,24 @@ fn looks_command<'a>(alloc: Global) -> Result<Command<'a>, AllocError>
 {
     disks_command(alloc)?
         .subcommand(inspect_command(alloc)?)?
-        .subcommand(files_command(alloc)?)
+        .subcommand(files_command(alloc)?)?
+        .subcommand(history_command(alloc)?)
+}
+
+/// The program with the commands that upgrade and copy a disk, too.
+fn cares_command<'a>(alloc: Global) -> Result<Command<'a>, AllocError>
+    ensures { IfOk result (IsCommand cares_app) }
+{
+    looks_command(alloc)?
+        .subcommand(upgrade_command(alloc)?)?
+        .subcommand(save_command(alloc)?)
 }
 
 /// The program, with all its commands.
 pub(crate) fn command<'a>(alloc: Global) -> Result<Command<'a>, AllocError>
     ensures { IfOk result (IsCommand wasmhost) }
 {
-    looks_command(alloc)?
-        .subcommand(upgrade_command(alloc)?)?
+    cares_command(alloc)?
         .subcommand(story_command(alloc)?)?
         .subcommand(sweep_command(alloc)?)
 }

@@ -6,7 +6,9 @@ ghost use Rattle.clap.specs.Words.{first_of, found_of, rows_of};
 ghost use Rattle.command_words.specs.rules.Texts.{texts_in};
 ghost use Rattle.command_words.specs.rules.Commands.{TakesFlag, TakesNumber};
 ghost use Rattle.command_words.specs.Commands.{IsTaken};
-ghost use Rattle.command_words.specs.rules.Commands.{TakesOptions, create_in, create_said};
+ghost use Rattle.command_words.specs.declared.words.Order.TheVariants.{Check};
+ghost use Rattle.command_words.specs.rules.Commands.{TakesOptions, check_in, create_in};
+ghost use Rattle.command_words.specs.rules.Commands.{create_said};
 ghost use Rattle.command_words.specs.rules.Commands.{environment_in, flag_in, meaning_below};
 ghost use Rattle.command_words.specs.rules.Commands.{meaning_of, number_given, number_or};
 ghost use Rattle.command_words.specs.rules.Commands.{run_in};
@@ -116,6 +118,19 @@ fn environment_of<'a>(alloc: Global, matches: &ArgMatches<'a>) -> Result<Vec<&'a
     }
 }
 
+/// The order of a check.
+fn check_of<'a>(matches: &ArgMatches<'a>, path: &'a str) -> CheckOrder<'a>
+    requires { TakesOptions (rows_of (found_of matches.now)) }
+    ensures { meaning_of (Check result)
+        ≡ check_in (rows_of (found_of matches.now)) path.now }
+{
+    CheckOrder {
+        path,
+        pages: number_or_else(matches, "pages", CHECK_PAGES),
+        lists_all: flag_of(matches, "all"),
+    }
+}
+
 /// The order of a creation, from what was read in front of `--`, and with the words after it.
 fn create_of<'a>(
     alloc: Global,
@@ -136,6 +151,7 @@ fn create_of<'a>(
         journal: number_or_else(matches, "journal", JOURNAL),
         environment: environment_of(alloc, matches)?,
         on_device: flag_of(matches, "device"),
+        predecessor: text_of(matches, "from"),
         arguments,
     })
 }
@@ -154,6 +170,7 @@ fn run_of<'a>(matches: &ArgMatches<'a>, disk: &'a str) -> RunOrder<'a>
         clock: number_of(matches, "clock"),
         rewrites: flag_of(matches, "rewrite"),
         status: text_of(matches, "status"),
+        metrics: text_of(matches, "metrics"),
         is_verbose: flag_of(matches, "verbose"),
         seed_file: text_of(matches, "seed-file"),
     }
@@ -203,11 +220,7 @@ pub(crate) fn order_of<'a>(
         (name.now, rows_of (found_of matches.now)) ≡ Some (meaning_of order)) }
 {
     match name {
-        "check" => Ok(Order::Check(CheckOrder {
-            path: path_of(matches, "MODULE"),
-            pages: number_or_else(matches, "pages", CHECK_PAGES),
-            lists_all: flag_of(matches, "all"),
-        })),
+        "check" => Ok(Order::Check(check_of(matches, path_of(matches, "MODULE")))),
         "create" => {
             let disk = path_of(matches, "DISK");
             let module = path_of(matches, "MODULE");
@@ -225,8 +238,16 @@ pub(crate) fn order_of<'a>(
             disk: path_of(matches, "DISK"),
             path: text_of(matches, "PATH"),
         }),
+        "history" => Ok(Order::History {
+            path: path_of(matches, "DISK"),
+            as_story: flag_of(matches, "story"),
+        }),
         "upgrade" => Ok(Order::Upgrade {
             path: path_of(matches, "DISK"),
+        }),
+        "save" => Ok(Order::Save {
+            disk: path_of(matches, "DISK"),
+            copy: path_of(matches, "COPY"),
         }),
         "story" => {
             let script = path_of(matches, "SCRIPT");

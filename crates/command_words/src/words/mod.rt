@@ -60,6 +60,8 @@ pub struct CreateOrder<'a> {
     pub environment: Vec<&'a str>,
     /// Whether the disk is a block device that is there.
     pub on_device: bool,
+    /// The file of the disk whose worker the new one succeeds.
+    pub predecessor: Option<&'a str>,
     /// The guest's arguments after its name.
     pub arguments: Vec<&'a str>,
 }
@@ -83,6 +85,8 @@ pub struct RunOrder<'a> {
     pub rewrites: bool,
     /// The file that says where the worker is.
     pub status: Option<&'a str>,
+    /// The file that says the same as metrics.
+    pub metrics: Option<&'a str>,
     /// Whether the error output says what a terminal is told.
     pub is_verbose: bool,
     /// The file with a seed.
@@ -146,9 +150,20 @@ pub enum Order<'a> {
         disk: &'a str,
         path: Option<&'a str>,
     },
+    /// Lists the records of the journal of the disk in this file, as lines of their own or as a
+    /// script of `story`.
+    History {
+        path: &'a str,
+        as_story: bool,
+    },
     /// Brings the worker of the disk in this file to version 2.
     Upgrade {
         path: &'a str,
+    },
+    /// Copies the disk in this file, a worker's, to a new file.
+    Save {
+        disk: &'a str,
+        copy: &'a str,
     },
     /// Tells the lives of a worker on a disk in memory, as a script says.
     Story(StoryOrder<'a>),
