@@ -10,6 +10,8 @@ pub mod ReleasedLemmas
 pub mod ShownLemmas
 pub mod OnDiskLemmas
 pub mod CreationLemmas
+pub mod SuccessorLemmas
+mod SucceededLemmas
 pub mod AnsweredLemmas
 pub mod RefusalLemmas
 pub mod CauseLemmas
@@ -18,11 +20,14 @@ pub mod SevenLemmas
 pub mod TakingLemmas
 pub mod ToldLemmas
 pub mod FileLemmas
+mod SavedLemmas
 pub mod OpeningLemmas
 pub mod StatusLineLemmas
 pub mod StatusLemmas
 pub mod StatusFileLemmas
+pub mod MetricsLemmas
 mod FactLemmas
 mod JsonLemmas
 mod OpenedLemmas
 pub mod FlawLemmas
+mod HistoryLemmas

@@ -1,6 +1,6 @@
 -- A disk in a file whose worker goes on.
-use Rattle.std.proofs.Common.{◌≡◌, refl, subst, inl, inr, ℕ, Bool, List, Bor}
-use Rattle.std.specs.Prelude.{Option, Some, None, Result, IfSome, IsSome, IsTrue, option_map}
+use Rattle.std.proofs.Common.{◌≡◌, refl, subst, inl, inr, ℕ, Bool, List}
+use Rattle.std.specs.Prelude.{Option, Result, IsTrue}
 use Rattle.std.specs.Int.NonZero.{non_zero_u64_get}
 use Rattle.sector_disk.specs.declared.file.FileDisk.{FileDisk}
 use Rattle.sector_disk.specs.rules.File.{file_medium}
@@ -12,45 +12,30 @@ use Rattle.command_words.specs.declared.lines.outside.Outside.{Outside}
 use Rattle.command_words.specs.rules.Commands.{RunMeaning}
 use Rattle.command_words.specs.rules.Printers.{PrinterState, read_along}
 use Rattle.command_words.specs.rules.Prints.{printing}
-use Rattle.disk_commands.specs.declared.on_disk.found_file.FoundFile.{FoundFile}
 use Rattle.disk_commands.specs.declared.on_disk.running.RunJob.{RunJob}
 use Rattle.disk_commands.specs.declared.on_disk.upgrading.Upgraded.{Upgraded}
 use Rattle.disk_commands.specs.rules.Openings.{IsOpenedFor}
 use Rattle.disk_commands.specs.rules.Refusals.{HeedsRefusal}
 use Rattle.disk_commands.specs.rules.ServedFiles.{IsJobOf, RunsFile, RunsJob, SaysUpgraded}
-use Rattle.disk_commands.specs.rules.ServedFiles.{SaysNoStatusFile, ServesToEnd}
+use Rattle.disk_commands.specs.rules.ServedFiles.{ServesToEnd, named_metrics}
 use Rattle.disk_commands.specs.rules.SeedFiles.{SaysSeedless}
 use Rattle.disk_commands.specs.rules.ServedFiles.{seedless}
-use Rattle.disk_commands.specs.rules.StatusFiles.{SaysUnwatched}
 use Rattle.disk_commands.specs.rules.ServedFiles.{UpgradesFile, job_given, named_status, opened}
 use Rattle.disk_commands.specs.rules.ServedOnDisk.{RunStart, disk_job, run_start}
 use Rattle.disk_commands.specs.rules.Upgradings.{UpgradesOnDisk, status_so_far}
 
--- what is said of the path that a job names
-pub status_untold : (has_found : List ℕ → FoundFile → Bool) (job : RunJob)
-    (err err' : PrinterState) (status : ℕ) → IsSome job.status
-    → IfSome job.status (λ text. SaysUnwatched has_found text.now err status err')
-    → SaysNoStatusFile (named_status job) err status err'
-status_untold has_found job err err' status some says = of_path job.status some says
-  where
-    of_path : (path : Option (Bor (List ℕ))) → IsSome path
-        → IfSome path (λ text. SaysUnwatched has_found text.now err status err')
-        → SaysNoStatusFile (option_map (λ text. text.now) path) err status err'
-    of_path (Some text) some says = (has_found, says)
-    of_path None some says = absurd cc
-
 -- a worker that was served on the lines of a reader, of whose status file nothing was said
 pub job_served : {D O : Type 0} (medium : D → Medium) (takes : Taking O)
-    (path : Option (List ℕ)) (job : RunJob) (lines found : Option (List ℕ)) (failed broken : Bool)
-    (outside : Outside) (disk disk' : D) (outlet outlet' : O) (err between err' : PrinterState)
+    (path metrics : Option (List ℕ)) (job : RunJob) (lines found : Option (List ℕ))
+    (failed broken : Bool) (outside : Outside) (disk disk' : D) (outlet outlet' : O) (err between err' : PrinterState)
     (status : ℕ) → outside ≡ job.outside → found ≡ lines → broken ≡ failed → between ≡ err
     → ServesToEnd medium takes (run_start (disk_job (non_zero_u64_get job.pace.fuel)
     (non_zero_u64_get job.pace.every) (non_zero_u64_get job.pace.batch) found outside broken) disk
     outlet between) disk' outlet' err' status
-    → RunsJob medium takes path (run_start (job_given job lines failed) disk outlet err) disk'
-    outlet' err' status
-job_served {D} {O} medium takes path job lines found failed broken outside disk disk' outlet outlet'
-    err between err' status of_job of_lines of_failed quiet serves =
+    → RunsJob medium takes path metrics (run_start (job_given job lines failed) disk outlet err)
+    disk' outlet' err' status
+job_served {D} {O} medium takes path metrics job lines found failed broken outside disk disk' outlet
+    outlet' err between err' status of_job of_lines of_failed quiet serves =
     let start : Outside → Option (List ℕ) → Bool → PrinterState → RunStart D O =
     λ o l f e. run_start (disk_job (non_zero_u64_get job.pace.fuel)
     (non_zero_u64_get job.pace.every) (non_zero_u64_get job.pace.batch) l o f) disk outlet e in
@@ -83,16 +68,19 @@ module _ {F O : Type 0} (handles : KnownHandles F) (files : KnownFiles F) (takes
       (err between err' : PrinterState) (status : ℕ) (job : RunJob) → IsJobOf said job
       → IsOpenedFor handles files said.rewrites said.disk disk → IsTrue (files.closed disk')
       → between ≡ read_along said.is_verbose err
-      → RunsJob file_medium takes (named_status job)
+      → RunsJob file_medium takes (named_status job) (named_metrics job)
       (run_start (job_given job lines failed) disk outlet between) disk' outlet' err' status
       → RunsFile handles files takes said lines failed outlet outlet' err err' status
   runs_opened disk disk' outlet outlet' err between err' status job is for closed quiet runs =
-      let of_path = subst (λ path. RunsJob file_medium takes path
+      let of_path = subst (λ path. RunsJob file_medium takes path (named_metrics job)
       (run_start (job_given job lines failed) disk outlet between) disk' outlet' err' status)
       is.status runs in
+      let of_both = subst (λ path. RunsJob file_medium takes said.status path
+      (run_start (job_given job lines failed) disk outlet between) disk' outlet' err' status)
+      is.metrics of_path in
       opened job is disk disk' for closed (subst (λ old. RunsJob file_medium takes said.status
-      (run_start (job_given job lines failed) disk outlet old) disk' outlet' err' status)
-      quiet of_path)
+      said.metrics (run_start (job_given job lines failed) disk outlet old) disk' outlet' err'
+      status) quiet of_both)
 
 module _ {F : Type 0} (handles : KnownHandles F) (files : KnownFiles F) (path : List ℕ)
     (disk disk' : FileDisk F) where

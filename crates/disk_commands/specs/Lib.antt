@@ -3,6 +3,7 @@ pub mod Livings
 pub mod Members
 pub mod ComingUp
 pub mod StatusLines
+pub mod SuccessorDisks
 pub mod laws
 pub mod rules
 pub mod Watchings

@@ -1,10 +1,11 @@
 -- The parts of a status line, in the order in which they are read.
-use Rattle.std.specs.Prelude.{◌≡◌, ◌<◌, ◌^◌, ℕ, List, ◌∷◌, ◌++◌, Option, IfSome, codes}
+use Rattle.std.specs.Prelude.{◌≡◌, ◌⊎◌, ◌<◌, ◌^◌, ℕ, List, ◌∷◌, ◌++◌, Option, IfSome, codes}
 use Rattle.std.specs.Fmt.{decimal}
-use Rattle.record_replay.specs.declared.slices.now.Now.{Now}
 use Rattle.wasm_syntax.specs.declared.value.Trap.{Trap}
 use Rattle.command_words.specs.rules.Texts.{trap_text}
-use Rattle.disk_commands.specs.rules.Watchings.{HasCodeInRange, state_words, watch_words}
+use Rattle.disk_commands.specs.declared.on_disk.sighting.State.{State}
+use Rattle.disk_commands.specs.rules.Watchings.{HasCodeInRange, left_words, state_words}
+use Rattle.disk_commands.specs.rules.Watchings.{watch_words}
 
 -- a name, this number of 64 bits, a space, and the rest
 abbrev pub IsBehindNumber : List ℕ → ℕ → List ℕ → List ℕ → Type 0
@@ -24,7 +25,11 @@ pub record IsBehindNumbers (bytes rest : List ℕ) : Type 0 where
   pub third : IsBehindNumber (codes "answers ") answers behind_steps behind_answers
   pub last : IsBehindNumber (codes "lines ") lines behind_answers rest
 
--- the words of a worker that has exited
+-- the words of a worker that runs on or waits
+abbrev pub IsOnWords : List ℕ → Type 0
+IsOnWords words = (words ≡ codes "running\n") ⊎ (words ≡ codes "waits for a request\n")
+
+-- those of one that has exited
 abbrev pub IsExitWords : List ℕ → Type 0
 IsExitWords words = (code : ℕ) × (code < 2 ^ 32)
     × (words ≡ codes "exited " ++ decimal code ++ codes "\n")
@@ -33,14 +38,24 @@ IsExitWords words = (code : ℕ) × (code < 2 ^ 32)
 abbrev pub IsTrapWords : List ℕ → Type 0
 IsTrapWords words = (why : Trap) × (words ≡ codes "trapped " ++ trap_text why ++ codes "\n")
 
--- those of one that runs on or is over
+-- those of one that runs on, waits or is over
 abbrev pub IsWatchWords : List ℕ → Type 0
-IsWatchWords words = (said : Now) × HasCodeInRange said × (words ≡ watch_words said)
+IsWatchWords words = (is : State) × HasCodeInRange is × (words ≡ watch_words is)
 
--- such words, or the number of its requests and such words
+-- such words, or the number of its sectors that are left and such words
+pub record IsLeftWords (words : List ℕ) : Type 0 where
+  pub left : Option ℕ
+  pub is : State
+  pub left_fits : IfSome left (λ n. n < 2 ^ 64)
+  pub code_fits : HasCodeInRange is
+  pub spelled : words ≡ left_words left is
+
+-- words of a worker, or the number of its requests and words that may begin with its sectors
 pub record IsStateWords (words : List ℕ) : Type 0 where
   pub requests : Option ℕ
-  pub said : Now
+  pub left : Option ℕ
+  pub is : State
   pub requests_fit : IfSome requests (λ n. n < 2 ^ 64)
-  pub code_fits : HasCodeInRange said
-  pub spelled : words ≡ state_words requests said
+  pub left_fits : IfSome left (λ n. n < 2 ^ 64)
+  pub code_fits : HasCodeInRange is
+  pub spelled : words ≡ state_words requests left is

@@ -4,8 +4,8 @@ use Rattle.std.specs.Prelude.{Option, None, Some}
 use Rattle.process.specs.declared.stop.ProcessEnd.TheVariants as end
 use Rattle.record_replay.specs.declared.slices.now.Now.TheVariants as now
 
--- A worker that runs on is told again: half a second after the last time, and where no time is
--- known, or the clock has gone back. Times are in nanoseconds.
+-- A worker that runs on is told again: a second after the last time, and where no time is known, or
+-- the clock has gone back. Times are in nanoseconds.
 abbrev pub IsDue : Option ℕ → ℕ → Type 0
-IsDue (Some last) now = (now < last) ⊎ (last + 500000000 ≤ now)
+IsDue (Some last) now = (now < last) ⊎ (last + 1000000000 ≤ now)
 IsDue None now = ⊤

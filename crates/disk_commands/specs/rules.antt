@@ -8,9 +8,11 @@ pub mod Refusals
 pub mod SeedFiles
 pub mod LastWords
 pub mod Leavings
+pub mod Metrics
 pub mod MadeFiles
 pub mod ServedFiles
 pub mod ServedOnDisk
+pub mod SuccessorDisks
 pub mod Upgradings
 pub mod Showings
 pub mod StatusFiles
@@ -18,4 +20,6 @@ pub mod Watchings
 pub mod Facts
 pub mod DiskFacts
 pub mod Inspectings
+pub mod Histories
 pub mod LookedFiles
+pub mod SavedCopies

@@ -9,11 +9,12 @@ use Rattle.sector_disk.specs.rules.Open.{IsOpenedAt}
 use Rattle.command_words.specs.rules.Printers.{PrinterState}
 use Rattle.disk_commands.specs.declared.on_disk.disk_file.Look.{Look}
 use Rattle.disk_commands.specs.declared.on_disk.disk_file.Look.TheVariants as look
+use Rattle.disk_commands.specs.rules.Histories.{TellsHistory}
 use Rattle.disk_commands.specs.rules.Inspectings.{TellsDisk, TellsFiles}
 use Rattle.disk_commands.specs.rules.Openings.{SaysUnopened}
 use Rattle.disk_commands.specs.rules.Showings.{ShowsDisk}
 
--- its survey is said, or its facts, or the files of its saved process
+-- its survey is said, or its facts, or the files of its saved process, or its records
 abbrev pub TellsLook : Look → Medium → Medium → PrinterState → PrinterState → PrinterState
     → PrinterState → ℕ → Type 0
 TellsLook look.Survey old new out out' err err' status =
@@ -22,6 +23,8 @@ TellsLook (look.Facts as_json) old new out out' err err' status =
     TellsDisk as_json old new out out' err err' status
 TellsLook (look.Files path) old new out out' err err' status =
     TellsFiles (option_map (λ text. text.now) path) old new out out' err err' status
+TellsLook (look.History as_story) old new out out' err err' status =
+    TellsHistory as_story old new out out' err err' status
 
 -- so it is with a disk in a file
 abbrev pub TellsFile : {F : Type 0} → KnownHandles F → KnownFiles F → Look → List ℕ → PrinterState

@@ -1,5 +1,6 @@
 -- A disk that is made for a worker, in a new file or on a device (this project's own).
-use Rattle.std.specs.Prelude.{◌≡◌, ◌≢◌, ◌⊎◌, ℕ, Bool, true, false, List, IsTrue, Some, codes}
+use Rattle.std.specs.Prelude.{◌≡◌, ◌≢◌, ◌⊎◌, ℕ, Bool, true, false, List, IsTrue, Option, None}
+use Rattle.std.specs.Prelude.{Some, codes}
 use Rattle.sector_disk.specs.declared.file.FileDisk.{FileDisk}
 use Rattle.sector_disk.specs.declared.open_fault.OpenFault.{OpenFault}
 use Rattle.sector_disk.specs.rules.File.{file_medium}
@@ -23,6 +24,7 @@ use Rattle.command_words.specs.rules.Reports.{SaysLine}
 use Rattle.command_words.specs.rules.Verdicts.{SaysMore}
 use Rattle.disk_commands.specs.rules.Creations.{CreatesOn}
 use Rattle.disk_commands.specs.rules.Openings.{open_words}
+use Rattle.disk_commands.specs.rules.SuccessorDisks.{SucceedsDisk}
 
 module _ {F : Type 0} (handles : KnownHandles F) (files : KnownFiles F) where
   -- The disk was made in a new file at this path, of as many sectors as are needed, the worker was
@@ -96,6 +98,14 @@ module _ {F : Type 0} (handles : KnownHandles F) (files : KnownFiles F) where
   MakesDisk false path bytes prepared out out' err err' status =
       CreatesFile handles files path bytes prepared out out' err err' status
 
+  -- The worker is fresh, or succeeds the one on the disk at this path.
+  abbrev pub MakesOrdered : Option (List ℕ) → Bool → List ℕ → List ℕ → Prepared → PrinterState
+      → PrinterState → PrinterState → PrinterState → ℕ → Type 0
+  MakesOrdered None on_device path bytes prepared out out' err err' status =
+      MakesDisk on_device path bytes prepared out out' err err' status
+  MakesOrdered (Some from) on_device path bytes prepared out out' err err' status =
+      SucceedsDisk handles files from on_device path bytes prepared out out' err err' status
+
   -- It is said why the settings or the module keep a worker from being created, and nothing is
   -- made. Or a worker of these settings is created on the disk of the words.
   abbrev pub CreatesDisk : CreateMeaning → List ℕ → PrinterState → PrinterState → PrinterState
@@ -104,4 +114,5 @@ module _ {F : Type 0} (handles : KnownHandles F) (files : KnownFiles F) where
       ((why : Unprepared) × IsUnprepared (settings_said said) bytes why
       × SaysUnprepared bytes why err status err' × (out' ≡ out))
       ⊎ ((prepared : Prepared) × IsPreparedAs (settings_said said) bytes prepared
-      × MakesDisk said.on_device said.disk bytes prepared out out' err err' status)
+      × MakesOrdered said.predecessor said.on_device said.disk bytes prepared out out' err err'
+      status)

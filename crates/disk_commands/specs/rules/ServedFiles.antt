@@ -1,6 +1,5 @@
 -- A disk in a file whose worker goes on, as the words say (this project's own).
-use Rattle.std.specs.Prelude.{◌≡◌, ◌⊎◌, ℕ, Bool, List, Option, Some, None, Result, Ok, Err}
-use Rattle.std.specs.Prelude.{false, option_map, IsTrue}
+use Rattle.std.specs.Prelude.{◌≡◌, ◌⊎◌, ℕ, Bool, List, Option, Result, Ok, Err, false, IsTrue}
 use Rattle.std.specs.Int.NonZero.{non_zero_u64_get}
 use Rattle.sector_disk.specs.declared.file.FileDisk.{FileDisk}
 use Rattle.sector_disk.specs.rules.File.{file_medium}
@@ -19,7 +18,7 @@ use Rattle.disk_commands.specs.declared.on_disk.running.RunJob.{RunJob}
 use Rattle.disk_commands.specs.declared.on_disk.upgrading.Upgraded.{Upgraded}
 use Rattle.disk_commands.specs.rules.Leavings.{SaysOfInput}
 use Rattle.disk_commands.specs.rules.Openings.{IsOpenedFor, SaysUnopened}
-use Rattle.disk_commands.specs.rules.StatusFiles.{SaysUnwatched}
+use Rattle.disk_commands.specs.rules.StatusFiles.{SaysUnwatchable, path_named}
 use Rattle.disk_commands.specs.rules.Refusals.{HeedsRefusal}
 use Rattle.disk_commands.specs.rules.SeedFiles.{IsSeedFrom, SaysSeedless}
 use Rattle.disk_commands.specs.rules.ServedOnDisk.{DiskJob, ServesOnDisk, disk_job}
@@ -31,10 +30,15 @@ use Rattle.disk_commands.specs.rules.Upgradings.{upgraded_words}
 
 -- the path of the status file of a job
 abbrev pub named_status : RunJob → Option (List ℕ)
-named_status job = option_map (λ text. text.now) job.status
+named_status job = path_named job.watched.status
+
+-- the path of its file of metrics
+abbrev pub named_metrics : RunJob → Option (List ℕ)
+named_metrics job = path_named job.watched.metrics
 
 -- The job is that of the words: their fuel, their pace, their lines for a sync, their clock or the
--- machine's, the seed that they spell or that is in their file, and their status file.
+-- machine's, the seed that they spell or that is in their file, and their files that say where the
+-- worker is, with the path of its disk.
 pub record IsJobOf (said : RunMeaning) (job : RunJob) : Type 0 where
   pub fuel : non_zero_u64_get job.pace.fuel ≡ said.fuel
   pub every : non_zero_u64_get job.pace.every ≡ said.every
@@ -42,6 +46,8 @@ pub record IsJobOf (said : RunMeaning) (job : RunJob) : Type 0 where
   pub clock : job.outside.clock ≡ said.clock
   pub seed : IsSeedFrom said.seed_file said.seed job.outside.seed
   pub status : named_status job ≡ said.status
+  pub metrics : named_metrics job ≡ said.metrics
+  pub disk : job.watched.disk.now ≡ said.disk
 
 -- what such a run is given, with the lines of a reader, and whether a read of it has failed
 abbrev pub job_given : RunJob → Option (List ℕ) → Bool → DiskJob
@@ -65,18 +71,19 @@ module _ {D O : Type 0} (medium : D → Medium) (takes : Taking O) (before : Run
     pub flaw : Option LineFlaw
     pub says : SaysOfInput version taken ahead line skipped flaw served between status err'
 
--- It is said why there is no status file at this path, if one is named: by what was found there or
--- beside it, or by an error of the system.
-abbrev pub SaysNoStatusFile : Option (List ℕ) → PrinterState → ℕ → PrinterState → Type 0
-SaysNoStatusFile (Some path) err status err' =
-    (has_found : List ℕ → FoundFile → Bool) × SaysUnwatched has_found path err status err'
-SaysNoStatusFile None err status err' = ⊥
+-- It is said why there is no file at one of these paths, of those that are named: by what was found
+-- there or beside it, or by an error of the system.
+abbrev pub SaysNoStatusFile : Option (List ℕ) → Option (List ℕ) → PrinterState → ℕ
+    → PrinterState → Type 0
+SaysNoStatusFile path metrics err status err' =
+    (has_found : List ℕ → FoundFile → Bool)
+    × SaysUnwatchable has_found path metrics err status err'
 
--- It is said why there is no status file, and nothing else is done. Or the worker is served.
-abbrev pub RunsJob : {D O : Type 0} → (D → Medium) → Taking O → Option (List ℕ) → RunStart D O
-    → D → O → PrinterState → ℕ → Type 0
-RunsJob medium takes path before disk' outlet' err' status =
-    (SaysNoStatusFile path before.err status err' × (disk' ≡ before.disk)
+-- It is said why there is no such file, and nothing else is done. Or the worker is served.
+abbrev pub RunsJob : {D O : Type 0} → (D → Medium) → Taking O → Option (List ℕ)
+    → Option (List ℕ) → RunStart D O → D → O → PrinterState → ℕ → Type 0
+RunsJob medium takes path metrics before disk' outlet' err' status =
+    (SaysNoStatusFile path metrics before.err status err' × (disk' ≡ before.disk)
     × (outlet' ≡ before.outlet))
     ⊎ ServesToEnd medium takes before disk' outlet' err' status
 
@@ -93,7 +100,7 @@ pub data RunsFile {F O : Type 0} (handles : KnownHandles F) (files : KnownFiles 
       → RunsFile handles files takes said lines failed outlet outlet' err err' status
   opened : (job : RunJob) → IsJobOf said job → (disk : FileDisk F) (disk' : FileDisk F)
       → IsOpenedFor handles files said.rewrites said.disk disk → IsTrue (files.closed disk')
-      → RunsJob file_medium takes said.status
+      → RunsJob file_medium takes said.status said.metrics
       (run_start (job_given job lines failed) disk outlet (read_along said.is_verbose err)) disk'
       outlet' err' status
       → RunsFile handles files takes said lines failed outlet outlet' err err' status

@@ -1,17 +1,24 @@
 -- What a status file may take the place of (this project's own).
 use Rattle.std.specs.Prelude.{◌≡◌, ◌⊎◌, ℕ, Bool, IsTrue, List, [], ◌++◌, codes}
+use Rattle.std.specs.Prelude.{Option, Some, option_map}
+use Rattle.std.specs.Borrow.{Bor}
 use Rattle.std.specs.declared.io.ErrorKind.{ErrorKind}
 use Rattle.command_words.specs.rules.Printers.{PrinterState}
 use Rattle.command_words.specs.rules.Reports.{SaysLine}
 use Rattle.disk_commands.specs.declared.on_disk.found_file.FoundFile.{FoundFile}
 use Rattle.disk_commands.specs.declared.on_disk.found_file.FoundFile.TheVariants as found
+use Rattle.disk_commands.specs.rules.Metrics.{BeginsAsMetrics}
 use Rattle.disk_commands.specs.rules.Openings.{SaysUnread}
 use Rattle.disk_commands.specs.rules.Watchings.{IsStatusLine}
 
--- a regular file that is empty, or that has a status line and nothing else
+-- no bytes, a status line and nothing else, or bytes that begin as metrics do
+abbrev pub IsStatusText : List ℕ → Type 0
+IsStatusText bytes = (bytes ≡ []) ⊎ IsStatusLine bytes ⊎ BeginsAsMetrics bytes
+
+-- a regular file that begins so
 abbrev pub IsStatusFile : FoundFile → Type 0
 IsStatusFile found.Missing = ⊥
-IsStatusFile (found.Regular bytes) = (bytes.items ≡ []) ⊎ IsStatusLine bytes.items
+IsStatusFile (found.Regular bytes) = IsStatusText bytes.items
 IsStatusFile found.Locked = ⊥
 IsStatusFile found.Link = ⊥
 IsStatusFile found.Folder = ⊥
@@ -24,7 +31,7 @@ IsFreePath here = (here ≡ found.Missing) ⊎ IsStatusFile here
 -- what a path is told to be
 abbrev pub found_words : FoundFile → List ℕ
 found_words found.Missing = codes "no such file or directory"
-found_words (found.Regular bytes) = codes "has other bytes than a status line"
+found_words (found.Regular bytes) = codes "has other bytes than a status line or metrics"
 found_words found.Locked = codes "is locked"
 found_words found.Link = codes "is a symbolic link"
 found_words found.Folder = codes "is a directory"
@@ -64,3 +71,16 @@ abbrev pub SaysUnwatched : (List ℕ → FoundFile → Bool) → List ℕ → Pr
 SaysUnwatched has_found path old status new =
     SaysTaken (has_found path) path old status new
     ⊎ SaysTaken (has_found (beside path)) (beside path) old status new
+
+-- ---- the files of a run
+
+-- the bytes of a path, if one is named
+abbrev pub path_named : Option (Bor (List ℕ)) → Option (List ℕ)
+path_named path = option_map (λ text. text.now) path
+
+-- It is said of one of two files that are named why it can't be had.
+abbrev pub SaysUnwatchable : (List ℕ → FoundFile → Bool) → Option (List ℕ) → Option (List ℕ)
+    → PrinterState → ℕ → PrinterState → Type 0
+SaysUnwatchable has_found status metrics old answered new =
+    (path : List ℕ) × ((status ≡ Some path) ⊎ (metrics ≡ Some path))
+    × SaysUnwatched has_found path old answered new

@@ -5,9 +5,9 @@
 //! - `open_disk`: the disk that this call has opened at the path. Where a rewrite is asked for each
 //!   sector was written back, and synced (`IsOpenedFor`). Else it is said why there is none: the
 //!   path was refused, or a call of that file has failed (`SaysUnopened`).
-//! - `look_at_file` opens the disk at the path, says of it what `survey`, `inspect_disk` or
-//!   `list_files` says, and closes it (`TellsFile`). What is printed is of that disk, whatever image
-//!   was on it.
+//! - `look_at_file` opens the disk at the path, says of it what `survey`, `inspect_disk`,
+//!   `list_files` or `tell_history` says, and closes it (`TellsFile`). What is printed is of that
+//!   disk, whatever image was on it.
 
 ghost use Rattle.std.specs.Prelude.{◌≡◌, ◌≤◌, ◌<◌, [], IfErr, IfOk, IsTrue, OnOk};
 ghost use Rattle.sector_disk.specs.rules.File.{answers_of, file_medium};
@@ -15,7 +15,7 @@ ghost use Rattle.command_words.specs.rules.Reports.{SaysLine, obstacle_words};
 ghost use Rattle.disk_commands.specs.rules.Openings.{IsOpenedFor, IsWrittenBack, SaysUnopened};
 ghost use Rattle.disk_commands.specs.rules.LookedFiles.{TellsFile, TellsLook};
 
-use crate::inspecting::{inspect_disk, list_files};
+use crate::inspecting::{inspect_disk, list_files, tell_history};
 use crate::on_disk::opening::report_open;
 use crate::on_disk::showing::survey;
 use command_words::{Obstacle, Printer, report};
@@ -88,6 +88,8 @@ pub enum Look<'a> {
     Facts { as_json: bool },
     /// The list of its worker's files, or the bytes of the one at a path.
     Files { path: Option<&'a str> },
+    /// The records after its newest snapshot, one a line or as a script of `story`.
+    History { as_story: bool },
 }
 
 /// Says that of a disk. Nothing is changed on it, but that it is synced. Answers the exit status.
@@ -106,11 +108,12 @@ fn look_at<D: Disk, W: Write + Drop, E: Write + Drop>(
         Look::Survey => survey(alloc, disk, out, err),
         Look::Facts { as_json } => inspect_disk(alloc, disk, as_json, out, err),
         Look::Files { path } => list_files(alloc, disk, path, out, err),
+        Look::History { as_story } => tell_history(alloc, disk, as_story, out, err),
     }
 }
 
-/// `wasmhost show`, `inspect` and `files` of the disk in a file: it is opened, only looked at, and
-/// closed. Returns the exit status.
+/// `wasmhost show`, `inspect`, `files` and `history` of the disk in a file: it is opened, only
+/// looked at, and closed. Returns the exit status.
 pub fn look_at_file<F, R, W, E>(
     alloc: Global,
     files: &R,

@@ -8,7 +8,9 @@
 //!   another program may change the path: no call of the kit renames only where nothing is.
 
 ghost use Rattle.std.specs.Prelude.{◌≡◌, ◌↔◌, IsTrue};
+ghost use Rattle.disk_commands.specs.rules.StatusFiles.{IsStatusText};
 
+use crate::on_disk::metrics::is_metrics;
 use crate::on_disk::status_line::is_status_line;
 
 /// What there is at a path itself, and not where a link leads.
@@ -25,17 +27,24 @@ pub enum FoundFile {
     Special,
 }
 
+/// Whether a file with these first bytes says where a worker is, or nothing.
+fn is_status_text(bytes: &[u8]) -> bool
+    ensures { IsTrue result ↔ IsStatusText bytes.now }
+{
+    bytes.is_empty() || is_status_line(bytes) || is_metrics(bytes)
+}
+
 impl FoundFile {
     ghost use Rattle.disk_commands.specs.rules.StatusFiles.{IsFreePath, IsStatusFile};
     ghost use Rattle.disk_commands.specs.rules.StatusFiles.{found_words};
 
-    /// Whether it is a status file: a regular one that is empty, or has a status line and nothing
-    /// else.
+    /// Whether it is a status file: a regular one that is empty, has a status line and nothing
+    /// else, or begins as metrics do.
     pub fn is_status_file(&self) -> bool
         ensures { IsTrue result ↔ IsStatusFile self.now }
     {
         match self {
-            FoundFile::Regular(bytes) => bytes.is_empty() || is_status_line(bytes.as_slice()),
+            FoundFile::Regular(bytes) => is_status_text(bytes.as_slice()),
             FoundFile::Missing | FoundFile::Locked => false,
             FoundFile::Link | FoundFile::Folder | FoundFile::Special => false,
         }
@@ -57,7 +66,7 @@ impl FoundFile {
     {
         match self {
             FoundFile::Missing => "no such file or directory",
-            FoundFile::Regular(_) => "has other bytes than a status line",
+            FoundFile::Regular(_) => "has other bytes than a status line or metrics",
             FoundFile::Locked => "is locked",
             FoundFile::Link => "is a symbolic link",
             FoundFile::Folder => "is a directory",

@@ -14,11 +14,11 @@ ghost use Rattle.disk_commands.specs.rules.Paces.{act_at};
 ghost use Rattle.disk_commands.specs.Livings.{scene, steps_left, HasDoneOnce, HasFailedOnce};
 ghost use Rattle.disk_commands.specs.Livings.{IsRested, IsRound, IsBrokenRound, LivesAtPace};
 
-use crate::on_disk::watching::Watcher;
+use crate::on_disk::watching::{Asked, Watcher};
 use record_replay::{Now, Outlet, Readiness, Source};
 use sector_disk::Disk;
 use std::num::NonZeroU64;
-use worker::{WorkFault, Worker};
+use worker::{Onlooker, Watched, WorkFault, Worker};
 
 /// How a worker on a disk is driven.
 #[derive(Clone, Copy, Debug)]
@@ -41,13 +41,14 @@ fn is_spent(now: Now) -> bool
     }
 }
 
-/// One slice.
-fn slice_once<D: Disk, S: Source, O: Outlet>(
+/// One slice. The watcher is told where the worker waits.
+fn slice_once<D: Disk, S: Source + Readiness, O: Outlet, T: Watcher>(
     worker: &mut Worker,
     disk: &mut D,
     fuel: u64,
     source: &mut S,
     outlet: &mut O,
+    watcher: &T,
 ) -> Result<Now, WorkFault>
     requires { total_sectors worker.old.store.geometry ≤ (D.medium disk.old).sectors }
     ensures done { IfOk result (λ now. HasDoneOnce D.medium S.gives O.takes (Slice fuel)
@@ -57,42 +58,43 @@ fn slice_once<D: Disk, S: Source, O: Outlet>(
         (scene worker.old disk.old source.old outlet.old) why
         disk.new source.new outlet.new) }
 {
-    match worker.slice(disk, fuel, source, outlet) {
+    match worker.watched_slice(disk, fuel, source, outlet, &Asked(watcher)) {
         Ok(now) => Ok(now),
         Err(fault) => Err(fault),
     }
 }
 
-/// One batch.
-fn batch_once<D: Disk, S: Source + Readiness, O: Outlet>(
+/// One batch. The onlooker is told where the worker asks.
+fn batch_once<D: Disk, S: Source + Readiness, O: Outlet, T: Onlooker<S>>(
     worker: &mut Worker,
     disk: &mut D,
-    fuel: u64,
+    watched: Watched<'_, T>,
     most: u64,
     source: &mut S,
     outlet: &mut O,
 ) -> Result<Now, WorkFault>
     requires { total_sectors worker.old.store.geometry ≤ (D.medium disk.old).sectors }
-    ensures done { IfOk result (λ now. HasDoneOnce D.medium S.gives O.takes (Batch fuel most)
-        (scene worker.old disk.old source.old outlet.old) now
+    ensures done { IfOk result (λ now. HasDoneOnce D.medium S.gives O.takes
+        (Batch watched.entry.fuel most) (scene worker.old disk.old source.old outlet.old) now
         (scene worker.new disk.new source.new outlet.new)) }
-    ensures failed { IfErr result (λ why. HasFailedOnce D.medium S.gives O.takes (Batch fuel most)
-        (scene worker.old disk.old source.old outlet.old) why
+    ensures failed { IfErr result (λ why. HasFailedOnce D.medium S.gives O.takes
+        (Batch watched.entry.fuel most) (scene worker.old disk.old source.old outlet.old) why
         disk.new source.new outlet.new) }
 {
-    match worker.batch(disk, fuel, most, source, outlet) {
+    match worker.watched_batch(disk, watched, most, source, outlet) {
         Ok(now) => Ok(now),
         Err(fault) => Err(fault),
     }
 }
 
 /// One slice, or one batch where a sync may serve more than one line.
-fn go_once<D: Disk, S: Source + Readiness, O: Outlet>(
+fn go_once<D: Disk, S: Source + Readiness, O: Outlet, T: Watcher>(
     worker: &mut Worker,
     disk: &mut D,
     pace: Pace,
     source: &mut S,
     outlet: &mut O,
+    watcher: &T,
 ) -> Result<Now, WorkFault>
     requires { total_sectors worker.old.store.geometry ≤ (D.medium disk.old).sectors }
     ensures done { IfOk result (λ now. HasDoneOnce D.medium S.gives O.takes
@@ -108,9 +110,13 @@ fn go_once<D: Disk, S: Source + Readiness, O: Outlet>(
 {
     let most = pace.batch.get();
     if most > 1 {
-        return batch_once(worker, disk, pace.fuel.get(), most, source, outlet);
+        let watched = Watched {
+            fuel: pace.fuel.get(),
+            onlooker: &Asked(watcher),
+        };
+        return batch_once(worker, disk, watched, most, source, outlet);
     }
-    slice_once(worker, disk, pace.fuel.get(), source, outlet)
+    slice_once(worker, disk, pace.fuel.get(), source, outlet, watcher)
 }
 
 /// Saves a worker after a slice that has answered this, and tells the watcher. No line waits, and
@@ -170,7 +176,7 @@ fn round<D: Disk, S: Source + Readiness, O: Outlet, T: Watcher>(
     let mut taken = 0;
     loop {
         taken += 1;
-        let now = match go_once(worker, disk, pace, source, outlet) {
+        let now = match go_once(worker, disk, pace, source, outlet, watcher) {
             Ok(now) => now,
             Err(fault) => return Err(fault),
         };

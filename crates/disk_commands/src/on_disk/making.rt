@@ -11,7 +11,7 @@
 //!   `create_device` is `create_on` of a block device that is there (`CreatesOnDevice`). Where no
 //!   file or device is had, the path was refused, or a call of the file has failed. `create_disk`
 //!   does what the words of a creation say: with their sizes, arguments and environment, on a
-//!   device or in a new file (`CreatesDisk`).
+//!   device or in a new file, of a fresh worker or of one that succeeds another (`CreatesDisk`).
 //!
 //! # Choices
 //!
@@ -22,11 +22,12 @@ ghost use Rattle.std.specs.Prelude.{◌≡◌, ◌≢◌, ◌≤◌, IfErr, IfOk
 ghost use Rattle.command_words.specs.rules.Commands.{create_said};
 ghost use Rattle.command_words.specs.rules.Preparations.{IsPreparedAs, IsUnprepared};
 ghost use Rattle.disk_commands.specs.rules.MadeFiles.{CreatesDisk, CreatesFile};
-ghost use Rattle.disk_commands.specs.rules.MadeFiles.{CreatesOnDevice, MakesDisk};
+ghost use Rattle.disk_commands.specs.rules.MadeFiles.{CreatesOnDevice, MakesDisk, MakesOrdered};
 ghost use Rattle.disk_commands.specs.rules.MadeFiles.{settings_said};
 
 use crate::on_disk::creation::create_on;
 use crate::on_disk::opening::report_open;
+use crate::on_disk::succession::{Succession, succeed_disk};
 use command_words::{
     CreateOrder, Prepared, Printer, Sizes, Unprepared, prepare, report_unprepared,
 };
@@ -46,7 +47,7 @@ pub struct NewDisk<'a> {
 }
 
 /// Leaves a new file at its path where the status is 0, and removes it where it isn't.
-fn keep_if_created<R: NewFiles>(files: &R, new: NewFile<'_>, status: u8)
+pub(super) fn keep_if_created<R: NewFiles>(files: &R, new: NewFile<'_>, status: u8)
     ensures keeps { status ≡ 0 → IsTrue ((R.known files.now).kept new.entry.path.now) }
     ensures removes { status ≢ 0 → IsTrue ((R.known files.now).removed new.entry.path.now) }
 {
@@ -148,6 +149,39 @@ where
     }
 }
 
+/// A creation of what was prepared, as the words say: of a fresh worker, or of one that succeeds
+/// another. Returns the exit status.
+fn make_ordered<F, R, W, E>(
+    alloc: Global,
+    files: &R,
+    order: &CreateOrder<'_>,
+    new: NewDisk<'_>,
+    out: &mut Printer<W>,
+    err: &mut Printer<E>,
+) -> u8
+where
+    F: DiskFile,
+    R: NewFiles<File = F>,
+    W: Write + Drop,
+    E: Write + Drop,
+    ensures makes { MakesOrdered F.known (R.known files.now) (create_said order.now).predecessor
+        order.now.on_device new.entry.path.now new.entry.wasm.now new.entry.prepared.now out.old
+        out.new err.old err.new result }
+    ensures known { result ≤ 7 }
+{
+    match order.predecessor {
+        None => make_disk(alloc, files, new, order.on_device, out, err),
+        Some(from) => {
+            let succession = Succession {
+                from,
+                new,
+                on_device: order.on_device,
+            };
+            succeed_disk(alloc, files, succession, out, err)
+        }
+    }
+}
+
 /// What a worker of these bytes is created with, as the words say.
 fn prepare_order(
     alloc: Global,
@@ -170,9 +204,9 @@ fn prepare_order(
 }
 
 /// `wasmhost create` of a worker of the module that the bytes spell, as the words say: with their
-/// sizes, arguments and environment, on the device or in the new file that they name. Nothing is
-/// made for a configuration out of its limits and for a module that isn't accepted: that is told.
-/// Returns the exit status.
+/// sizes, arguments and environment, on the device or in the new file that they name. It is fresh,
+/// or succeeds the worker on the disk that they name. Nothing is made for a configuration out of
+/// its limits and for a module that isn't accepted: that is told. Returns the exit status.
 pub fn create_disk<F, R, W, E>(
     alloc: Global,
     files: &R,
@@ -197,7 +231,7 @@ where
                 wasm,
                 prepared: &prepared,
             };
-            let status = make_disk(alloc, files, new, order.on_device, out, err);
+            let status = make_ordered(alloc, files, order, new, out, err);
             drop(prepared);
             status
         }

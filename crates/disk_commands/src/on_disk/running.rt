@@ -11,7 +11,7 @@ ghost use Rattle.std.specs.Io.Buffered.{reader_remaining};
 ghost use Rattle.command_words.specs.rules.Commands.{run_said};
 ghost use Rattle.disk_commands.specs.rules.ServedFiles.{IsJobOf, RunsFile};
 ghost use Rattle.disk_commands.specs.rules.ServedFiles.{RunsJob, ServesToEnd, UpgradesFile};
-ghost use Rattle.disk_commands.specs.rules.ServedFiles.{job_given, named_status};
+ghost use Rattle.disk_commands.specs.rules.ServedFiles.{job_given, named_metrics, named_status};
 ghost use Rattle.disk_commands.specs.rules.SeedFiles.{IsSeedFrom};
 ghost use Rattle.disk_commands.specs.rules.ServedOnDisk.{disk_job, run_start};
 
@@ -20,8 +20,8 @@ use crate::on_disk::leaving::report_input;
 use crate::on_disk::living::Pace;
 use crate::on_disk::seed_file::seed_for;
 use crate::on_disk::serving::{Drive, serve};
-use crate::on_disk::status_file::status_file_of;
 use crate::on_disk::upgrading::{say_upgraded, upgrade_worker};
+use crate::on_disk::watch_files::{WatchPaths, watch_files_of};
 use crate::on_disk::watching::Watcher;
 use command_words::{
     BufferedLines, LineOutlet, Outside, Printer, RealTime, RequestSource, RunOrder,
@@ -36,7 +36,8 @@ use std::time::Clock;
 /// What the system lends a run.
 #[derive(Drop)]
 pub struct System<'a, R, I: Read + Drop, C: RealTime + Drop> {
-    /// Where the disk and the status file are, and the clock by which that file is written.
+    /// Where the disk is, and the files that say where its worker is, and the clock by which these
+    /// are written.
     pub files: &'a R,
     /// The lines of its input.
     pub lines: BufferedLines<BufReader<I>>,
@@ -49,8 +50,8 @@ pub struct System<'a, R, I: Read + Drop, C: RealTime + Drop> {
 pub(crate) struct RunJob<'a> {
     pub(crate) pace: Pace,
     pub(crate) outside: Outside,
-    /// The path of the status file.
-    pub(crate) status: Option<&'a str>,
+    /// The files that say where the worker is.
+    pub(crate) watched: WatchPaths<'a>,
 }
 
 /// What the words say of a run, with their seed. No other place takes a number of theirs.
@@ -68,7 +69,11 @@ fn job_of<'a>(order: &RunOrder<'a>, seed: [u8; 32]) -> RunJob<'a>
             seed,
             clock: order.clock,
         },
-        status: order.status,
+        watched: WatchPaths {
+            status: order.status,
+            metrics: order.metrics,
+            disk: order.disk,
+        },
     }
 }
 
@@ -101,8 +106,8 @@ where
     report_input(source, status, err)
 }
 
-/// Does the job of a run on its disk: where a status file is named its paths must be free, and the
-/// worker goes on. Answers the exit status.
+/// Does the job of a run on its disk: where files are named that say where the worker is, their
+/// paths must be free, and the worker goes on. Answers the exit status.
 fn run_job<D, F, R, I, C, O, E>(
     alloc: Global,
     disk: &mut D,
@@ -120,7 +125,7 @@ where
     O: Outlet,
     E: Write + Drop,
     ensures runs { RunsJob D.medium O.takes (named_status job.entry)
-        (run_start (job_given job.entry
+        (named_metrics job.entry) (run_start (job_given job.entry
         (reader_remaining I.remaining system.entry.lines.reader) system.entry.lines.has_failed)
         disk.old outlet.old err.old) disk.new outlet.new err.new result }
     ensures known { result ≤ 7 }
@@ -130,7 +135,7 @@ where
         lines,
         clock,
     } = system;
-    match status_file_of(alloc, files, job.status, err) {
+    match watch_files_of(alloc, files, job.watched, err) {
         Ok(watcher) => {
             let drive = Drive {
                 pace: job.pace,
@@ -147,8 +152,9 @@ where
 }
 
 /// Does what the words say of a run, with this seed. The disk is opened, and written back where
-/// they ask for it. A status file that they name is made. Then the worker goes on, as `serve` says,
-/// and it is said what is left of the input. Returns the exit status.
+/// they ask for it. The files that they name to say where the worker is must have free paths. Then
+/// the worker goes on, as `serve` says, and it is said what is left of the input. Returns the exit
+/// status.
 fn run_seeded<F, R, I, C, O, E>(
     alloc: Global,
     system: System<'_, R, I, C>,

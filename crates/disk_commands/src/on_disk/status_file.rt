@@ -1,13 +1,13 @@
-//! The file of `--status`: a small one with one line, where a worker on a disk is.
+//! A file of `--status` or of `--metrics`: a small one that says where a worker on a disk is.
 //!
 //! # Promises
 //!
 //! - `status_file_of`: there is a status file only where both of its paths were found free. Else it
 //!   is said which one isn't, and why (`SaysUnwatched`). A path is free exactly where it is
-//!   missing, or a regular file that is empty or has one status line (`FoundFile::is_free`). By
-//!   `WatchedPaths` no other file is removed than one found to be such, or made by this run, and
-//!   only a path that was found free gets a new file. Where a line isn't put there, the new file
-//!   was removed again, or none was made (`left` of `StatusFile::put`).
+//!   missing, or a regular file that is empty, has one status line or begins as metrics do
+//!   (`FoundFile::is_free`). By `WatchedPaths` no other file is removed than one found to be such,
+//!   or made by this run, and only a path that was found free gets a new file. Where a text isn't
+//!   put there, the new file was removed again, or none was made (`left` of `StatusFile::put`).
 
 ghost use Rattle.std.specs.Prelude.{◌≡◌, ◌≤◌, ◌↔◌, ◌⊎◌, ◌++◌, IfErr, IfOk, IfSome, IsSome, IsTrue};
 ghost use Rattle.std.specs.Prelude.{OnOk, codes, string_bytes};
@@ -15,29 +15,18 @@ ghost use Rattle.std.specs.IoError.{error_kind};
 ghost use Rattle.std.specs.Io.KnownBytes.{Appends};
 ghost use Rattle.sector_disk.specs.declared.open_fault.OpenFault.TheVariants.{Io};
 ghost use Rattle.sector_disk.specs.rules.Causes.{open_cause};
-ghost use Rattle.record_replay.specs.declared.slices.now.Now.TheVariants.{Spent};
 ghost use Rattle.command_words.specs.rules.Reports.{SaysLine};
 ghost use Rattle.disk_commands.specs.rules.StatusFiles.{HasFoundFree, IsFreePath, IsWatchable};
 ghost use Rattle.disk_commands.specs.rules.StatusFiles.{SaysTaken, SaysUnwatched, beside};
 ghost use Rattle.disk_commands.specs.rules.StatusFiles.{found_words};
-ghost use Rattle.disk_commands.specs.rules.Watchings.{watch_line};
-ghost use Rattle.disk_commands.specs.Watchings.{IsDue};
 
 use crate::on_disk::found_file::FoundFile;
 use crate::on_disk::opening::report_unread;
 use crate::on_disk::watched_paths::WatchedPaths;
-use crate::on_disk::watching::{Watcher, print_status};
+use command_words::Printer;
 use command_words::status::{UNREAD, UNWRITTEN};
-use command_words::{Printer, nanoseconds_of};
-use record_replay::Now;
 use std::alloc::Global;
-use std::cell::Cell;
 use std::io::{self, Error, ErrorKind, Write};
-use std::time::Clock;
-use worker::Worker;
-
-/// Nanoseconds between two lines of a worker that runs on.
-const PAUSE: u64 = 500_000_000;
 
 /// Says what is at a path, which a status file can't have, and answers the exit status.
 fn say_taken<E: Write + Drop>(err: &mut Printer<E>, path: &str, here: &FoundFile) -> u8
@@ -153,41 +142,20 @@ fn write_at_once<W: Write>(out: &mut W, bytes: &[u8]) -> io::Result<()>
     }
 }
 
-/// The line that says where a worker is.
-fn spelled_status(alloc: Global, worker: &Worker, now: Now) -> io::Result<Vec<u8>>
-    ensures { IfOk result (λ line. line.items ≡ watch_line worker.now now) }
-{
-    let mut out = Printer::new(Vec::new(alloc), false);
-    print_status(&mut out, worker, now)?;
-    Ok(out.into_writer())
-}
-
-/// Whether a worker that runs on is told again, where the last time and now are in nanoseconds.
-fn is_due(last: Option<u64>, now: u64) -> bool
-    ensures { IsTrue result ↔ IsDue last now }
-{
-    match last {
-        Some(last) => now < last || now - last >= PAUSE,
-        None => true,
-    }
-}
-
-/// A file with one line, where a worker is. Each line is written beside its path, and then gets
-/// the path, so that whoever reads it finds a whole line. A worker runs on though that fails.
+/// A file that says where a worker is. Each text is written beside its path, and then gets the
+/// path, so that whoever reads it finds a whole text. A worker runs on though that fails.
 #[derive(Drop)]
 pub struct StatusFile<'a, R> {
     alloc: Global,
     files: &'a R,
     path: &'a str,
     beside: String,
-    /// When a line was written last, in nanoseconds of the machine's clock that never goes back.
-    last: Cell<Option<u64>>,
 }
 
 impl<R: WatchedPaths> StatusFile<'_, R> {
-    /// Writes a line to a new file, and gives that the path, which was found free. Where one of
+    /// Writes a text to a new file, and gives that the path, which was found free. Where one of
     /// these fails, the new file is removed.
-    fn put(&self, line: &[u8]) -> io::Result<()>
+    fn put(&self, text: &[u8]) -> io::Result<()>
         requires { HasFoundFree (R.has_found self.now.files.now self.now.path.now) }
         ensures put { OnOk result (IsTrue (R.has_renamed self.now.files.now
             (string_bytes self.now.beside) self.now.path.now)) }
@@ -197,7 +165,7 @@ impl<R: WatchedPaths> StatusFile<'_, R> {
             ⊎ IsTrue ((R.known self.now.files.now).removed (string_bytes self.now.beside))) }
     {
         let (mut file, new) = self.files.make_new(self.beside.as_str())?;
-        let written = write_at_once(&mut file, line);
+        let written = write_at_once(&mut file, text);
         drop(file);
         let put = match written {
             Ok(()) => self.files.rename_new(&new, self.path),
@@ -209,64 +177,19 @@ impl<R: WatchedPaths> StatusFile<'_, R> {
         put
     }
 
-    /// Gives the path a line, unless it has got a file of another kind since.
-    fn replace(&self, line: &[u8]) -> io::Result<()> {
+    /// Gives the path a text, unless it has got a file of another kind since.
+    pub(super) fn replace(&self, text: &[u8]) -> io::Result<()> {
         let here = self.files.look_at(self.alloc, self.path)?;
         if !here.is_free() {
             return Ok(());
         }
-        self.put(line)
-    }
-}
-
-impl<R: WatchedPaths + Clock> StatusFile<'_, R> {
-    /// The time in nanoseconds, where the clock can be read.
-    fn time(&self) -> Option<u64> {
-        match self.files.monotonic() {
-            Ok(time) => Some(nanoseconds_of(time)),
-            Err(_) => None,
-        }
-    }
-
-    /// The line of a worker that runs on, where it is due.
-    fn due_line(&self, worker: &Worker) -> Option<Vec<u8>>
-        ensures { IfSome result (λ line. line.items ≡ watch_line worker.now Spent) }
-    {
-        if !is_due(self.last.get(), self.time()?) {
-            return None;
-        }
-        spelled_status(self.alloc, worker, Now::Spent).ok()
-    }
-
-    /// Writes a line, and notes when.
-    fn write(&self, line: &[u8]) {
-        self.last.set(self.time());
-        let _ = self.replace(line);
-    }
-}
-
-// Of files no more is known than what they answer.
-impl<R: WatchedPaths + Clock> Watcher for StatusFile<'_, R> {
-    ghost use Rattle.std.specs.Prelude.{true};
-
-    ghost is_notified = { λ _ _ _. true };
-
-    fn tell(&self, worker: &Worker, now: Now) {
-        if let Ok(line) = spelled_status(self.alloc, worker, now) {
-            self.write(line.as_slice());
-        }
-    }
-
-    fn tell_running(&self, worker: &Worker) {
-        if let Some(line) = self.due_line(worker) {
-            self.write(line.as_slice());
-        }
+        self.put(text)
     }
 }
 
 /// The status file of a path, once there is something to tell. Its path must be free: nothing is
 /// there, or a status file is. So must be the path beside it, with `.new` at its end, where each
-/// line is written first. A status file that is left there is removed, and it is tried that a new
+/// text is written first. A status file that is left there is removed, and it is tried that a new
 /// one can be made. Where that fails, it is said, and the error is the exit status.
 pub fn status_file_of<'a, R: WatchedPaths, E: Write + Drop>(
     alloc: Global,
@@ -296,7 +219,6 @@ pub fn status_file_of<'a, R: WatchedPaths, E: Write + Drop>(
             files,
             path,
             beside,
-            last: Cell::new(None),
         })),
         Err(status) => Err(status),
     }

@@ -12,14 +12,15 @@ ghost use Rattle.std.specs.Fmt.{decimal};
 ghost use Rattle.wasm_syntax.specs.declared.value.Trap.{Trap};
 ghost use Rattle.command_words.specs.rules.Texts.{trap_text};
 ghost use Rattle.disk_commands.specs.StatusLines.{IsBehindNumber, IsBehindNumbers, IsExitWords};
-ghost use Rattle.disk_commands.specs.StatusLines.{IsStateWords, IsTrapWords, IsWatchWords};
+ghost use Rattle.disk_commands.specs.StatusLines.{IsLeftWords, IsStateWords, IsTrapWords};
+ghost use Rattle.disk_commands.specs.StatusLines.{IsOnWords, IsWatchWords};
 ghost use Rattle.disk_commands.specs.rules.Watchings.{IsStatusLine};
 
 use command_words::{read_decimal, split_at_space, trap_name};
 use wasm_syntax::Trap;
 
 /// The bytes of the longest status line.
-pub(super) const LONGEST: usize = 181;
+pub(super) const LONGEST: usize = 215;
 
 const TRAPS: [Trap; 8] = [
     Trap::Unreachable,
@@ -33,7 +34,7 @@ const TRAPS: [Trap; 8] = [
 ];
 
 /// What is behind this front.
-fn behind<'a>(bytes: &'a [u8], front: &[u8]) -> Option<&'a [u8]>
+pub(super) fn behind<'a>(bytes: &'a [u8], front: &[u8]) -> Option<&'a [u8]>
     ensures spelled { IfSome result (λ rest. bytes.entry.now ≡ front.now ++ rest.now) }
     ensures found { (back : List ℕ) → bytes.entry.now ≡ front.now ++ back
         → IsSomeAnd result (λ rest. rest.now ≡ back) }
@@ -133,18 +134,39 @@ fn is_text(bytes: &[u8], text: &[u8]) -> bool
     bytes == text
 }
 
-/// Whether these words say that a worker runs on, or how it is over.
+/// Whether these words say that a worker runs on, or waits.
+fn is_on(words: &[u8]) -> bool
+    ensures { IsTrue result ↔ IsOnWords words.now }
+{
+    is_text(words, b"running\n") || is_text(words, b"waits for a request\n")
+}
+
+/// Whether these words say that a worker runs on or waits, or how it is over.
 fn is_watch_words(words: &[u8]) -> bool
     ensures { IsTrue result ↔ IsWatchWords words.now }
 {
-    if is_text(words, b"running\n") || is_text(words, b"parked\n") {
+    if is_on(words) || is_text(words, b"parked\n") {
         return true;
     }
     is_exit(words) || is_trapped(words)
 }
 
-/// Whether these words say that a worker runs on, or how it is over. The number of its requests
-/// may come first.
+/// Whether these words say what a worker is. The number of its sectors that are left may come
+/// first.
+fn is_left(rest: &[u8]) -> bool
+    ensures { IsTrue result ↔ IsLeftWords rest.now }
+{
+    if is_watch_words(rest) {
+        return true;
+    }
+    match behind_number(rest, b"journal_left ") {
+        Some(last) => is_watch_words(last),
+        None => false,
+    }
+}
+
+/// Whether these words say what a worker is. The number of its requests may come first, and behind
+/// that the number of its sectors that are left.
 fn is_state(words: &[u8]) -> bool
     ensures { IsTrue result ↔ IsStateWords words.now }
 {
@@ -152,13 +174,13 @@ fn is_state(words: &[u8]) -> bool
         return true;
     }
     match behind_number(words, b"requests ") {
-        Some(rest) => is_watch_words(rest),
+        Some(rest) => is_left(rest),
         None => false,
     }
 }
 
 /// Whether these bytes are a status line: its numbers without zeros in front, and its newline at
-/// the end. An older program's line lacks the requests.
+/// the end. An older program's line lacks the sectors that are left, or the requests, too.
 pub(super) fn is_status_line(bytes: &[u8]) -> bool
     ensures exact { IsTrue result ↔ IsStatusLine bytes.now }
     ensures short { IsTrue result → length bytes.now ≤ LONGEST }

@@ -4,32 +4,34 @@
 //!
 //! - `Watcher`: who is told where the worker of a run is. `serve` tells it once the worker is
 //!   recovered, and after each checkpoint of its pace (`told` of `rest_on`). Where the status is 0,
-//!   it was told of that end (`watched`). Between two other slices it is told that the worker runs
-//!   on, which it may leave out (`tell_running`): no clause says that it is told then. `StatusFile`
-//!   is a watcher, which replaces a small file. Its line is `watch_line`. Between two slices that
-//!   is the line of a worker that runs on (`due_line`), where half a second has passed since the
-//!   last one (`IsDue`). No clause says that the file gets it: `scripts/runs/program-rows` and
-//!   `scripts/runs/disk-rows` show that.
+//!   it was told of that end (`watched`). It is also told between two slices, and before the worker
+//!   waits for its source (`Asked`): of both it may leave out some, and no clause says that it is
+//!   told then. `WatchFiles` is a watcher, which replaces small files.
+//! - `print_status`: the line of a worker that was seen so, to the byte (`watch_line`).
 //!
 //! # Choices
 //!
 //! - **A watcher is told by a shared reference**, and what it was told is a ghost that only its
 //!   call makes true. So a run's clauses speak of no state of it, and a watcher can change nothing.
-//!   A `StatusFile` keeps in a `Cell` when it has written last.
-//! - **A worker waits for a request within a slice**, where only its source is asked, which knows
-//!   neither steps nor lines. So no status line says that it waits. The last one says `running`,
-//!   with numbers of the slice before.
+//!   `WatchFiles` keeps in a `Cell` when it has written last.
+//! - **A worker waits within a slice**, in a read of its source. So the worker itself tells an
+//!   `Onlooker` where it is, before it asks. A source that is ready doesn't wait: then nobody has
+//!   to be told.
 
-ghost use Rattle.std.specs.Prelude.{◌≡◌, true, OnErr, OnOk, Some};
+ghost use Rattle.std.specs.Prelude.{◌≡◌, true, OnErr, OnOk};
 ghost use Rattle.command_words.specs.rules.Printers.{IsPrinted};
-ghost use Rattle.disk_commands.specs.rules.Watchings.{state_words, watch_line, watch_words};
+ghost use Rattle.disk_commands.specs.rules.Watchings.{left_words, state_words, watch_line};
+ghost use Rattle.disk_commands.specs.rules.Watchings.{watch_words};
+ghost use Rattle.std.specs.Prelude.{Some};
 
 use crate::on_disk::ending::print_last_words;
 use crate::on_disk::showing::print_number;
+use crate::on_disk::sighting::{Sighting, State};
 use command_words::Printer;
-use record_replay::Now;
+use record_replay::{Now, Readiness};
 use std::io::{self, Write};
-use worker::Worker;
+use wasi_abi::Question;
+use worker::{Onlooker, Position, Worker};
 
 /// Whoever is told where a worker on a disk is.
 pub trait Watcher {
@@ -47,65 +49,74 @@ pub trait Watcher {
     /// Tells where a worker is that runs on, between two slices. It wasn't saved. A watcher may
     /// leave that out.
     fn tell_running(&self, _worker: &Worker) {}
-}
 
-/// Writes that a worker runs on, or how it is over.
-fn print_watch_words<W: Write + Drop>(out: &mut Printer<W>, now: Now) -> io::Result<()>
-    ensures printed { OnOk result (IsPrinted out.old out.new (watch_words now)) }
-    ensures failed { OnErr result (out.new.failed ≡ true) }
-{
-    match now {
-        Now::Spent => out.write_all(b"running\n"),
-        Now::Waiting => print_last_words(out, Now::Waiting),
-        Now::Ended(how) => print_last_words(out, Now::Ended(how)),
+    /// Tells that a worker with these numbers is about to wait for a request. A watcher may leave
+    /// that out.
+    fn tell_waiting(&self, _position: Position) {}
+
+    /// Whether it is to be told that a worker waits.
+    fn is_watching(&self) -> bool {
+        false
     }
 }
 
-/// Writes how many requests a worker has taken, and that it runs on, or how it is over.
-fn print_state<W: Write + Drop>(out: &mut Printer<W>, worker: &Worker, now: Now) -> io::Result<()>
+/// Tells a watcher that a worker is about to wait for its source.
+#[derive(Drop)]
+pub(super) struct Asked<'a, T>(pub(super) &'a T);
+
+impl<S: Readiness, T: Watcher> Onlooker<S> for Asked<'_, T> {
+    fn see(&self, source: &S, question: Question, position: Position) {
+        if self.0.is_watching() && !source.is_ready(question) {
+            self.0.tell_waiting(position);
+        }
+    }
+}
+
+/// Writes what a worker is, or how it is over.
+fn print_watch_words<W: Write + Drop>(out: &mut Printer<W>, state: State) -> io::Result<()>
+    ensures printed { OnOk result (IsPrinted out.old out.new (watch_words state)) }
+    ensures failed { OnErr result (out.new.failed ≡ true) }
+{
+    match state {
+        State::Running => out.write_all(b"running\n"),
+        State::Waiting => out.write_all(b"waits for a request\n"),
+        State::Parked => print_last_words(out, Now::Waiting),
+        State::Ended(how) => print_last_words(out, Now::Ended(how)),
+    }
+}
+
+/// Writes how many sectors of its journal are left to a worker, and what it is.
+fn print_left<W: Write + Drop>(out: &mut Printer<W>, seen: &Sighting) -> io::Result<()>
     ensures printed { OnOk result (IsPrinted out.old out.new
-        (state_words (Some worker.now.process.requests) now)) }
+        (left_words (Some seen.now.position.journal_left) seen.now.state)) }
     ensures failed { OnErr result (out.new.failed ≡ true) }
 {
-    print_number(out, "requests ", worker.process().requests())?;
+    print_number(out, "journal_left ", seen.position.journal_left)?;
     out.write_all(b" ")?;
-    print_watch_words(out, now)
+    print_watch_words(out, seen.state)
 }
 
-/// Writes where a worker is.
-pub(super) fn print_status<W: Write + Drop>(
-    out: &mut Printer<W>,
-    worker: &Worker,
-    now: Now,
-) -> io::Result<()>
-    ensures printed { OnOk result (IsPrinted out.old out.new (watch_line worker.now now)) }
+/// Writes how many requests a worker has taken, how many sectors are left to it, and what it is.
+fn print_state<W: Write + Drop>(out: &mut Printer<W>, seen: &Sighting) -> io::Result<()>
+    ensures printed { OnOk result (IsPrinted out.old out.new
+        (state_words (Some seen.now.position.requests) (Some seen.now.position.journal_left)
+        seen.now.state)) }
     ensures failed { OnErr result (out.new.failed ≡ true) }
 {
-    print_number(out, "generation ", worker.generation())?;
-    print_number(out, " steps ", worker.process().steps())?;
-    print_number(out, " answers ", worker.process().answers())?;
-    print_number(out, " lines ", worker.process().lines())?;
+    print_number(out, "requests ", seen.position.requests)?;
     out.write_all(b" ")?;
-    print_state(out, worker, now)
+    print_left(out, seen)
 }
 
-// Where there is none, nobody has to be told.
-impl<T: Watcher> Watcher for Option<T> {
-    ghost use Rattle.std.specs.Prelude.{true};
-    ghost use Rattle.std.specs.Option.{option_map_or};
-
-    ghost is_notified = { λ watcher w now. option_map_or (λ t. T.is_notified t w now)
-        watcher true };
-
-    fn tell(&self, worker: &Worker, now: Now) {
-        if let Some(watcher) = self {
-            watcher.tell(worker, now);
-        }
-    }
-
-    fn tell_running(&self, worker: &Worker) {
-        if let Some(watcher) = self {
-            watcher.tell_running(worker);
-        }
-    }
+/// Writes where a worker was seen.
+pub(super) fn print_status<W: Write + Drop>(out: &mut Printer<W>, seen: &Sighting) -> io::Result<()>
+    ensures printed { OnOk result (IsPrinted out.old out.new (watch_line seen.now)) }
+    ensures failed { OnErr result (out.new.failed ≡ true) }
+{
+    print_number(out, "generation ", seen.position.generation)?;
+    print_number(out, " steps ", seen.position.steps)?;
+    print_number(out, " answers ", seen.position.answers)?;
+    print_number(out, " lines ", seen.position.lines)?;
+    out.write_all(b" ")?;
+    print_state(out, seen)
 }

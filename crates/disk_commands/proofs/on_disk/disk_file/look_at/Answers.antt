@@ -8,3 +8,6 @@ returns-in-Facts-clause-tells g c = rw c.in-Facts.is c.inspect_disk.ensures.tell
 
 pub returns-in-Files-clause-tells : goal.returns-in-Files-clause-tells
 returns-in-Files-clause-tells g c = rw c.in-Files.is c.list_files.ensures.tells
+
+pub returns-in-History-clause-tells : goal.returns-in-History-clause-tells
+returns-in-History-clause-tells g c = rw c.in-History.is c.tell_history.ensures.tells

@@ -8,10 +8,10 @@ pub returns-in-Ok-clause-done : goal.returns-in-Ok-clause-done
 returns-in-Ok-clause-done g c =
     let runs = c.in-Ok.ensures.runs c.requires in
     record {
-      heard = slice_hears g.S.Source.gives g.O.Outlet.takes c.args.fuel _ _ _ _ _ _ c.in-Ok.now
-          runs.shows runs.done;
-      taken = slice_takes g.S.Source.gives g.O.Outlet.takes c.args.fuel _ _ _ _ _ _ c.in-Ok.now
-          runs.shows runs.done;
+      heard = slice_hears g.S.Source.gives g.O.Outlet.takes c.args.watched.fuel _ _ _ _ _ _
+          c.in-Ok.now runs.shows runs.done;
+      taken = slice_takes g.S.Source.gives g.O.Outlet.takes c.args.watched.fuel _ _ _ _ _ _
+          c.in-Ok.now runs.shows runs.done;
       leads = batch_leads g.D.Disk.medium g.S.Source.gives g.O.Outlet.takes _ _ _ _ _ _ _ _ _ _ _
           runs.carries;
       shows = runs.shows;
@@ -23,18 +23,18 @@ pub returns-in-Err-clause-failed : goal.returns-in-Err-clause-failed
 returns-in-Err-clause-failed g c =
     let runs = c.in-Err.ensures.runs c.requires in
     record {
-      heard = batch_hears_up_to g.S.Source.gives g.O.Outlet.takes c.args.fuel _ _ _ _ c.args.most
-          c.args.worker.now.process c.batch.new.self.process c.in-Err.fault
+      heard = batch_hears_up_to g.S.Source.gives g.O.Outlet.takes c.args.watched.fuel _ _ _ _
+          c.args.most c.args.worker.now.process c.watched_batch.new.self.process c.in-Err.fault
           c.args.worker.now.has_failed runs.shows runs.failed
           (λ e. (c.in-Err.ensures.refused e).3);
-      heeded = batch_heeds g.S.Source.gives g.O.Outlet.takes c.args.fuel _ _ _ _
-          c.args.worker.now.process c.batch.new.self.process c.in-Err.fault
+      heeded = batch_heeds g.S.Source.gives g.O.Outlet.takes c.args.watched.fuel _ _ _ _
+          c.args.worker.now.process c.watched_batch.new.self.process c.in-Err.fault
           c.args.worker.now.has_failed runs.shows runs.failed
           (λ e. (c.in-Err.ensures.refused e).0) (λ e. (c.in-Err.ensures.refused e).4);
       done = batch_fails g.D.Disk.medium g.S.Source.gives g.O.Outlet.takes _ _ _ _ _ _ _ _ _ _ _
           runs.carries;
-      broken = batch_breaks_off g.S.Source.gives g.O.Outlet.takes c.args.fuel _ _ _ _
-          c.args.worker.now.process c.batch.new.self.process c.in-Err.fault c.args.most
+      broken = batch_breaks_off g.S.Source.gives g.O.Outlet.takes c.args.watched.fuel _ _ _ _
+          c.args.worker.now.process c.watched_batch.new.self.process c.in-Err.fault c.args.most
           c.args.worker.now.has_failed runs.failed (λ e. (c.in-Err.ensures.refused e).0)
           (λ e. (c.in-Err.ensures.refused e).3) (λ e. (c.in-Err.ensures.refused e).4);
     }

@@ -24,17 +24,17 @@ returns-in-Err-clause-failed g c =
     let runs = c.in-Err.ensures.runs c.requires in
     record {
       heard = slice_hears_up_to g.S.Source.gives g.O.Outlet.takes c.args.fuel _ _ _ _
-          c.args.worker.now.process c.slice.new.self.process c.in-Err.fault
+          c.args.worker.now.process c.watched_slice.new.self.process c.in-Err.fault
           c.args.worker.now.has_failed runs.shows runs.failed
           (λ e. (c.in-Err.ensures.refused e).3);
       heeded = slice_heeds g.S.Source.gives g.O.Outlet.takes c.args.fuel _ _ _ _
-          c.args.worker.now.process c.slice.new.self.process c.in-Err.fault
+          c.args.worker.now.process c.watched_slice.new.self.process c.in-Err.fault
           c.args.worker.now.has_failed runs.shows runs.failed
           (λ e. (c.in-Err.ensures.refused e).0) (λ e. (c.in-Err.ensures.refused e).4);
       done = slice_fails g.D.Disk.medium g.S.Source.gives g.O.Outlet.takes _ _ _ _ _ _ _ _ _ _
           runs.carries;
       broken = slice_breaks_off g.S.Source.gives g.O.Outlet.takes c.args.fuel _ _ _ _
-          c.args.worker.now.process c.slice.new.self.process c.in-Err.fault
+          c.args.worker.now.process c.watched_slice.new.self.process c.in-Err.fault
           c.args.worker.now.has_failed runs.failed (λ e. (c.in-Err.ensures.refused e).0)
           (λ e. (c.in-Err.ensures.refused e).3) (λ e. (c.in-Err.ensures.refused e).4);
     }

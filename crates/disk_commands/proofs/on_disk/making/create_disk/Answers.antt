@@ -3,7 +3,7 @@ use Rattle.disk_commands.proofs.on_disk.making.create_disk.Goals as goal
 
 pub returns-in-Ok-clause-creates : goal.returns-in-Ok-clause-creates
 returns-in-Ok-clause-creates g c =
-    inr (c.in-Ok.prepared, c.in-Ok.ensures.prepared, c.make_disk-status.ensures.makes)
+    inr (c.in-Ok.prepared, c.in-Ok.ensures.prepared, c.make_ordered-status.ensures.makes)
 
 pub returns-in-Err-clause-creates : goal.returns-in-Err-clause-creates
 returns-in-Err-clause-creates g c =

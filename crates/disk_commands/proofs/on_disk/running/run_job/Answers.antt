@@ -1,13 +1,13 @@
 use Rattle.std.proofs.Common.{ap, inl, refl, true}
 use Rattle.std.specs.Io.Buffered.{reader_remaining}
-use Rattle.disk_commands.proofs.ServedLemmas.{job_served, status_untold}
+use Rattle.disk_commands.proofs.ServedLemmas.{job_served}
 use Rattle.disk_commands.proofs.on_disk.running.run_job.Goals as goal
 
 pub returns-in-Ok-clause-runs : goal.returns-in-Ok-clause-runs
 returns-in-Ok-clause-runs g c =
     let source = c.new-source.result in
     let lines = c.args.system.lines in
-    job_served g.D.Disk.medium g.O.Outlet.takes _ c.args.job
+    job_served g.D.Disk.medium g.O.Outlet.takes _ _ c.args.job
     (reader_remaining g.I.Read.remaining lines.reader)
     (reader_remaining g.I.Read.remaining source.requests.reader.reader)
     lines.has_failed source.requests.reader.has_failed source.outside _ _ _ _ _ _ _ _
@@ -18,8 +18,7 @@ returns-in-Ok-clause-runs g c =
 
 pub returns-in-Err-clause-runs : goal.returns-in-Err-clause-runs
 returns-in-Err-clause-runs g c = inl (
-  status_untold (λ path here. true) c.args.job c.args.err.now c.status_file_of.new.err
-      c.in-Err.status c.in-Err.ensures.asked c.in-Err.ensures.said,
+  ((λ path here. true), c.in-Err.ensures.said),
   refl,
   refl,
 )

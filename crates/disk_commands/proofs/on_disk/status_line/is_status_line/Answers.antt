@@ -9,10 +9,12 @@ returns-in-Some-clause-exact c = (
       (c.is_state.ensures.0 yes),
   λ line. c.is_state.ensures.1 (record {
     requests = line.requests;
-    said = line.said;
+    left = line.left;
+    is = line.is;
     requests_fit = line.requests_fit;
+    left_fits = line.left_fits;
     code_fits = line.code_fits;
-    spelled = c.in-Some.ensures.found (state_words line.requests line.said)
+    spelled = c.in-Some.ensures.found (state_words line.requests line.left line.is)
         (parts_of c.args.bytes.now line);
   }),
 )
@@ -25,6 +27,6 @@ returns-in-Some-clause-short c = λ yes.
 pub returns-in-None-clause-exact : goal.returns-in-None-clause-exact
 returns-in-None-clause-exact c = (
   λ no. absurd (false≢true no),
-  λ line. absurd (c.in-None.ensures.found (state_words line.requests line.said)
+  λ line. absurd (c.in-None.ensures.found (state_words line.requests line.left line.is)
       (parts_of c.args.bytes.now line)),
 )

@@ -13,7 +13,7 @@ pub returns-else-is_exit : goal.returns-else-is_exit
 returns-else-is_exit c = (
   λ yes. traps c.args.words.now (c.is_trapped.ensures.0 yes),
   λ words. c.is_trapped.ensures.1 (known_words c.args.words.now
+      (λ on. false≢true (sym c.if-is_on.false ∙ c.is_on.ensures.1 on))
       (λ is. false≢true (sym c.if-is_text.false ∙ c.is_text.ensures.1 is))
-      (λ is. false≢true (sym c.if-is_text-2.false ∙ c.is_text-else-is_text.ensures.1 is))
       (λ is. false≢true (sym c.if-is_exit.false ∙ c.is_exit.ensures.1 is)) words),
 )

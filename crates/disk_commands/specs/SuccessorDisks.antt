@@ -1,0 +1,44 @@
+-- Steps of a succession: what was left is read, and fits.
+use Rattle.std.specs.Prelude.{◌≡◌, ℕ, Bool, List, Result, Ok, Err}
+use Rattle.wasi_abi.specs.rules.Configs.{Settings}
+use Rattle.sector_disk.specs.declared.file.FileDisk.{FileDisk}
+use Rattle.sector_disk.specs.rules.File.{file_medium}
+use Rattle.sector_disk.specs.rules.Known.{KnownFiles, KnownHandles}
+use Rattle.sector_disk.specs.rules.Medium.{Medium}
+use Rattle.worker.specs.declared.handover.Handover.{Handover}
+use Rattle.worker.specs.declared.leave_fault.LeaveFault.{LeaveFault}
+use Rattle.worker.specs.rules.Successions.{ReadsLegacy}
+use Rattle.command_words.specs.declared.preparing.Prepared.{Prepared}
+use Rattle.command_words.specs.rules.Printers.{PrinterState}
+use Rattle.disk_commands.specs.rules.SuccessorDisks.{HasRoomFor, SaysRoomless, SaysUnleft}
+use Rattle.disk_commands.specs.rules.SuccessorDisks.{SucceedsAsLeft}
+
+-- what was left is handed on, or it is said what doesn't fit
+abbrev pub FitsOrSays : Settings → Handover → PrinterState → Result Handover ℕ → PrinterState
+    → Type 0
+FitsOrSays config left err (Ok taken) err' =
+    (taken ≡ left) × HasRoomFor config left.legacy × (err' ≡ err)
+FitsOrSays config left err (Err status) err' = SaysRoomless config left.legacy err status err'
+
+-- the same of what was read, if it was
+abbrev pub TakesLegacy : List ℕ → Settings → Result Handover LeaveFault → PrinterState
+    → Result Handover ℕ → PrinterState → Type 0
+TakesLegacy path config (Ok left) err result err' = FitsOrSays config left err result err'
+TakesLegacy path config (Err why) err (Ok taken) err' = ⊥
+TakesLegacy path config (Err why) err (Err status) err' = SaysUnleft path why err status err'
+
+-- A disk is read, and what its worker leaves is taken over.
+pub record IsTakenOver (path : List ℕ) (config : Settings) (old new : Medium)
+    (err : PrinterState) (result : Result Handover ℕ) (err' : PrinterState) : Type 0 where
+  pub left : Result Handover LeaveFault
+  pub reads : ReadsLegacy left old new
+  pub takes : TakesLegacy path config left err result err'
+
+-- An old disk that was opened is read, and the new worker succeeds the one on it.
+pub record SucceedsOpened {F : Type 0} (handles : KnownHandles F) (files : KnownFiles F)
+    (from : List ℕ) (on_device : Bool) (path bytes : List ℕ) (prepared : Prepared)
+    (old old' : FileDisk F) (out out' err err' : PrinterState) (status : ℕ) : Type 0 where
+  pub left : Result Handover LeaveFault
+  pub reads : ReadsLegacy left (file_medium old) (file_medium old')
+  pub goes_on : SucceedsAsLeft handles files from on_device path bytes prepared left out out' err
+      err' status

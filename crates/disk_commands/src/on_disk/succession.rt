@@ -1,0 +1,245 @@
+//! `wasmhost create --from`: a worker with other code that goes on from what another one left.
+//!
+//! # Promises
+//!
+//! - `succeed_disk`: the disk of the old worker is opened at its path, only synced and read, and
+//!   closed. Where the worker is at rest, and what it leaves fits, the new one is created on its
+//!   disk, as `create_disk` makes one. Else it is said why not, and nothing is made
+//!   (`SucceedsDisk`).
+//!
+//! # Choices
+//!
+//! - **The old disk stays open, and so locked, until the new one is done.** So no `run` takes the
+//!   old worker further meanwhile, and a new worker isn't put over the old one's device. No clause
+//!   says when a disk is closed.
+//! - **What doesn't fit is told before a file is made**, though the creation would refuse a journal
+//!   itself.
+
+ghost use Rattle.std.specs.Prelude.{◌≡◌, ◌↔◌, ◌*◌, ◌≤◌, IfErr, IfOk, IsTrue};
+ghost use Rattle.file_tree.specs.declared.limits.TheConstants.{UNIT_BYTES};
+ghost use Rattle.file_tree.specs.rules.Files.{used};
+ghost use Rattle.disk_commands.specs.SuccessorDisks.{FitsOrSays, IsTakenOver, SucceedsOpened};
+ghost use Rattle.disk_commands.specs.rules.SuccessorDisks.{MakesSuccessor};
+ghost use Rattle.disk_commands.specs.rules.SuccessorDisks.{SucceedsDisk, SucceedsInFile};
+ghost use Rattle.disk_commands.specs.rules.SuccessorDisks.{SucceedsOnDevice};
+
+use crate::on_disk::disk_file::open_disk;
+use crate::on_disk::making::{NewDisk, keep_if_created};
+use crate::on_disk::opening::report_open;
+use crate::on_disk::successor::succeed_on;
+use crate::on_disk::unsucceeded::{report_crowded, report_short, report_unleft};
+use command_words::Printer;
+use disk_layout::takes_records;
+use file_tree::limits::UNIT_BYTES;
+use sector_disk::{Disk, DiskFile, DiskFiles, FileDisk, NewFiles};
+use std::alloc::Global;
+use std::io::Write;
+use wasi_abi::Config;
+use worker::{Handover, read_legacy};
+
+/// A worker that is to succeed another one.
+#[derive(Clone, Copy)]
+pub(super) struct Succession<'a> {
+    /// The path of the disk of the old worker.
+    pub(super) from: &'a str,
+    /// Its own disk, and what it is created with.
+    pub(super) new: NewDisk<'a>,
+    /// Whether that disk is a block device that is there.
+    pub(super) on_device: bool,
+}
+
+/// Whether files of so many bytes fit into those that a configuration allows.
+fn has_room(config: &Config, bytes: u64) -> bool
+    ensures { IsTrue result ↔ (bytes ≤ config.now.files * UNIT_BYTES) }
+{
+    bytes <= u64::from(config.files()) * UNIT_BYTES
+}
+
+/// Hands on what a worker has left, where it fits a configuration. Else it is said what doesn't,
+/// and the error is the exit status.
+fn fitted<E: Write + Drop>(
+    handover: Handover,
+    config: &Config,
+    err: &mut Printer<E>,
+) -> Result<Handover, u8>
+    ensures fits { FitsOrSays config.now handover err.old result err.new }
+    ensures known { IfErr result (λ status. status ≤ 7) }
+{
+    let bytes = handover.legacy.used_bytes();
+    if !has_room(config, bytes) {
+        handover.close();
+        return Err(report_crowded(err, bytes));
+    }
+    if !takes_records(handover.legacy.version(), config.journal()) {
+        handover.close();
+        return Err(report_short(err));
+    }
+    Ok(handover)
+}
+
+/// Reads what the worker on a disk leaves, where it fits a configuration. The disk is only synced
+/// and read. An error is the exit status, and is said.
+fn take_over<D: Disk, E: Write + Drop>(
+    alloc: Global,
+    disk: &mut D,
+    path: &str,
+    config: &Config,
+    err: &mut Printer<E>,
+) -> Result<Handover, u8>
+    ensures takes { IsTakenOver path.now config.now (D.medium disk.old) (D.medium disk.new)
+        err.old result err.new }
+    ensures known { IfErr result (λ status. status ≤ 7) }
+{
+    match read_legacy(alloc, disk) {
+        Ok(handover) => fitted(handover, config, err),
+        Err(fault) => Err(report_unleft(err, path, fault)),
+    }
+}
+
+/// The new worker in a new file: that is removed again where the creation fails. Returns the exit
+/// status.
+fn succeed_in_file<F, R, W, E>(
+    alloc: Global,
+    files: &R,
+    new: NewDisk<'_>,
+    handover: Handover,
+    out: &mut Printer<W>,
+    err: &mut Printer<E>,
+) -> u8
+where
+    F: DiskFile,
+    R: NewFiles<File = F>,
+    W: Write + Drop,
+    E: Write + Drop,
+    requires { used handover.legacy.files ≤ new.prepared.now.config.files * UNIT_BYTES }
+    ensures succeeds { SucceedsInFile F.known (R.known files.now) new.entry.path.now
+        new.entry.wasm.now new.entry.prepared.now handover out.old out.new err.old err.new
+        result }
+    ensures known { result ≤ 7 }
+{
+    let (mut disk, made) = match FileDisk::create(files, new.path, new.prepared.sectors) {
+        Ok(made) => made,
+        Err(fault) => {
+            handover.close();
+            return report_open(err, new.path, fault);
+        }
+    };
+    let status = succeed_on(alloc, &mut disk, new, handover, out, err);
+    keep_if_created(files, made, status);
+    files.close(disk);
+    status
+}
+
+/// The new worker on a block device that is there. Returns the exit status.
+fn succeed_on_device<F, R, W, E>(
+    alloc: Global,
+    files: &R,
+    new: NewDisk<'_>,
+    handover: Handover,
+    out: &mut Printer<W>,
+    err: &mut Printer<E>,
+) -> u8
+where
+    F: DiskFile,
+    R: DiskFiles<File = F>,
+    W: Write + Drop,
+    E: Write + Drop,
+    requires { used handover.legacy.files ≤ new.prepared.now.config.files * UNIT_BYTES }
+    ensures succeeds { SucceedsOnDevice F.known (R.known files.now) new.entry.path.now
+        new.entry.wasm.now new.entry.prepared.now handover out.old out.new err.old err.new
+        result }
+    ensures known { result ≤ 7 }
+{
+    let mut disk = match FileDisk::create_on_device(files, new.path, new.prepared.sectors) {
+        Ok(disk) => disk,
+        Err(fault) => {
+            handover.close();
+            return report_open(err, new.path, fault);
+        }
+    };
+    let status = succeed_on(alloc, &mut disk, new, handover, out, err);
+    files.close(disk);
+    status
+}
+
+/// The new worker on its disk, as that is asked for. Returns the exit status.
+fn make_successor<F, R, W, E>(
+    alloc: Global,
+    files: &R,
+    succession: Succession<'_>,
+    handover: Handover,
+    out: &mut Printer<W>,
+    err: &mut Printer<E>,
+) -> u8
+where
+    F: DiskFile,
+    R: NewFiles<File = F>,
+    W: Write + Drop,
+    E: Write + Drop,
+    requires { used handover.legacy.files
+        ≤ succession.new.prepared.now.config.files * UNIT_BYTES }
+    ensures makes { MakesSuccessor F.known (R.known files.now) succession.entry.on_device
+        succession.entry.new.path.now succession.entry.new.wasm.now
+        succession.entry.new.prepared.now handover out.old out.new err.old err.new result }
+    ensures known { result ≤ 7 }
+{
+    if succession.on_device {
+        succeed_on_device(alloc, files, succession.new, handover, out, err)
+    } else {
+        succeed_in_file(alloc, files, succession.new, handover, out, err)
+    }
+}
+
+/// The new worker succeeds the one on the old disk, which was opened. Returns the exit status.
+fn succeed_open<F, R, W, E>(
+    alloc: Global,
+    files: &R,
+    old: &mut FileDisk<F>,
+    succession: Succession<'_>,
+    out: &mut Printer<W>,
+    err: &mut Printer<E>,
+) -> u8
+where
+    F: DiskFile,
+    R: NewFiles<File = F>,
+    W: Write + Drop,
+    E: Write + Drop,
+    ensures succeeds { SucceedsOpened F.known (R.known files.now) succession.entry.from.now
+        succession.entry.on_device succession.entry.new.path.now succession.entry.new.wasm.now
+        succession.entry.new.prepared.now old.old old.new out.old out.new err.old err.new result }
+    ensures known { result ≤ 7 }
+{
+    let config = &succession.new.prepared.config;
+    match take_over(alloc, old, succession.from, config, err) {
+        Ok(handover) => make_successor(alloc, files, succession, handover, out, err),
+        Err(status) => status,
+    }
+}
+
+/// `wasmhost create --from` of a module and a configuration that were looked at: the new worker
+/// succeeds the one on the old disk, which is only synced and read. Returns the exit status.
+pub(super) fn succeed_disk<F, R, W, E>(
+    alloc: Global,
+    files: &R,
+    succession: Succession<'_>,
+    out: &mut Printer<W>,
+    err: &mut Printer<E>,
+) -> u8
+where
+    F: DiskFile,
+    R: NewFiles<File = F>,
+    W: Write + Drop,
+    E: Write + Drop,
+    ensures succeeds { SucceedsDisk F.known (R.known files.now) succession.entry.from.now
+        succession.entry.on_device succession.entry.new.path.now succession.entry.new.wasm.now
+        succession.entry.new.prepared.now out.old out.new err.old err.new result }
+    ensures known { result ≤ 7 }
+{
+    let mut old = match open_disk(files, succession.from, false, err) {
+        Ok(old) => old,
+        Err(status) => return status,
+    };
+    let status = succeed_open(alloc, files, &mut old, succession, out, err);
+    files.close(old);
+    status
+}

@@ -1,0 +1,88 @@
+//! Why a worker isn't succeeded by another one, told to a person.
+//!
+//! # Choices
+//!
+//! - **Each refusal has a second line that says what to do**, but for steps at their end: nothing
+//!   can be done then. What a recovery finds wrong with the old disk is told as by `show`.
+
+ghost use Rattle.std.specs.Prelude.{◌≡◌, ◌≤◌};
+ghost use Rattle.disk_layout.specs.rules.Journal.{TakesRecords};
+ghost use Rattle.command_words.specs.rules.Reports.{SaysLine};
+ghost use Rattle.disk_commands.specs.rules.SuccessorDisks.{SaysUnleft, crowded_words};
+ghost use Rattle.disk_commands.specs.rules.SuccessorDisks.{restless_words, short_words, units_for};
+
+use crate::on_disk::fault::{OnDiskFault, say_disk_fault};
+use command_words::status::{REFUSED, UNWRITTEN};
+use command_words::{Printer, say_line};
+use file_tree::limits::UNIT_BYTES;
+use std::io::Write;
+use worker::LeaveFault;
+
+/// Says that the worker on the disk at this path isn't at rest.
+fn say_restless<E: Write + Drop>(err: &mut Printer<E>, path: &str) -> u8
+    ensures said { SaysLine (restless_words path.now) 3 err.old result err.new }
+    ensures known { result ≤ 7 }
+{
+    match writeln!(
+        err,
+        "failed N9 NotParked\n{path}: isn't at rest: run it without requests, and keep its lines"
+    ) {
+        Ok(()) => REFUSED,
+        Err(_) => UNWRITTEN,
+    }
+}
+
+/// Prints why the worker on the disk at this path leaves nothing, and answers the exit status, or 7
+/// where a write has failed.
+pub(super) fn report_unleft<E: Write + Drop>(
+    err: &mut Printer<E>,
+    path: &str,
+    fault: LeaveFault,
+) -> u8
+    ensures said { SaysUnleft path.now fault err.old result err.new }
+    ensures known { result ≤ 7 }
+{
+    match fault {
+        LeaveFault::NotParked => say_restless(err, path),
+        LeaveFault::StepsSpent => say_line(err, REFUSED, "failed P3 StepsSpent"),
+        LeaveFault::Recover(fault) => say_disk_fault(err, OnDiskFault::from(fault)),
+    }
+}
+
+/// How many units so many bytes of files take.
+fn units_for(bytes: u64) -> u64
+    ensures { result ≡ units_for bytes }
+{
+    let whole = bytes / UNIT_BYTES;
+    if bytes % UNIT_BYTES == 0 {
+        whole
+    } else {
+        whole + 1
+    }
+}
+
+/// Prints that files of so many bytes don't fit, and answers the exit status, or 7 where a write
+/// has failed.
+pub(super) fn report_crowded<E: Write + Drop>(err: &mut Printer<E>, bytes: u64) -> u8
+    ensures said { SaysLine (crowded_words (units_for bytes)) 3 err.old result err.new }
+    ensures known { result ≤ 7 }
+{
+    let units = units_for(bytes);
+    match writeln!(
+        err,
+        "failed F4 NoRoom\nits files take {units} units: --files {units}"
+    ) {
+        Ok(()) => REFUSED,
+        Err(_) => UNWRITTEN,
+    }
+}
+
+/// Prints that a journal is too small for version 2, and answers the exit status, or 7 where a
+/// write has failed.
+pub(super) fn report_short<E: Write + Drop>(err: &mut Printer<E>) -> u8
+    ensures said { SaysLine short_words 3 err.old result err.new }
+    ensures known { result ≤ 7 }
+{
+    let words = "failed N7 JournalTooSmall\nversion 2 takes at least 133 sectors: --journal 133";
+    say_line(err, REFUSED, words)
+}
