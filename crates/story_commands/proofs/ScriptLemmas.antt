@@ -5,3 +5,4 @@ pub mod Full
 pub mod Reading
 pub mod Calm
 pub mod Fronts
+pub mod ReadBack

@@ -1,3 +1,4 @@
 pub mod Drafts
 pub mod CutRuns
 pub mod SweepEnds
+pub mod ReadBack

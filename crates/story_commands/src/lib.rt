@@ -20,12 +20,14 @@
 //!   of it ended by an error, or that its upgrade was done again without a cut (`IsUnsweepable`). 7
 //!   comes just where a write has failed. `read_sweep`: the lives that the script spells, and which
 //!   one is swept (`AreSweptLives`). `fronts_of`: the fronts that a text spells.
+//! - `laws::answers_are_read_back`: what a script says of an answer is read as that answer.
 //!
 //! # Definitions to read
 //!
 //! In `specs/rules/`: `said_by`, `AreLivesOf`, `IsScript` (`Scripts.antt`); `story_text`,
 //! `TellsStory` (`Stories.antt`); `lives_after`, `cut_at`, `cuts_to`, `AreTextsOf`, `IsSwept`
-//! (`Sweeps.antt`); `TellsSweep` (`SweepTexts.antt`).
+//! (`Sweeps.antt`); `TellsSweep` (`SweepTexts.antt`). In `specs/laws/`: `AnswersAreReadBack`
+//! (`ReadBack.antt`).
 //!
 //! # Who may touch what
 //!
@@ -33,6 +35,7 @@
 //! read and said. It opens no file, and knows nothing of `disk_commands`.
 #![tactic(auto)]
 
+pub mod laws;
 mod stories;
 mod sweeping;
 

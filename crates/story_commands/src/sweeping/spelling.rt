@@ -5,9 +5,9 @@ ghost use Rattle.std.specs.Io.KnownBytes.{Appends};
 ghost use Rattle.story_commands.specs.rules.SweepTexts.{comma_before, quantity, grouped};
 ghost use Rattle.story_commands.specs.rules.SweepTexts.{swept_line};
 
+use command_words::spell_answer;
 use itoa::Buffer;
 use std::io::{self, Write};
-use wasi_abi::Answer;
 use worker::story::{PlannedAct, PlannedLife};
 
 /// A comma, where so many digits are left, and they are groups of three.
@@ -60,31 +60,6 @@ pub(super) fn spell_swept<W: Write>(out: &mut W, cuts: u64, lines: u64) -> io::R
     out.write_all(b", each told with one text\n")
 }
 
-/// Spells random bytes as a line of a script.
-fn spell_random<W: Write>(out: &mut W, bytes: &[u8]) -> io::Result<()> {
-    out.write_all(b"random ")?;
-    for byte in bytes {
-        let value = *byte;
-        write!(out, "{value:02x}")?;
-    }
-    out.write_all(b"\n")
-}
-
-/// Spells an answer as a line of a script.
-fn spell_answer<W: Write>(out: &mut W, answer: &Answer) -> io::Result<()> {
-    match answer {
-        Answer::Request { text } => {
-            out.write_all(b"request ")?;
-            out.write_all(text.as_slice())?;
-            out.write_all(b"\n")
-        }
-        Answer::End => out.write_all(b"end\n"),
-        Answer::Realtime { nanoseconds } => writeln!(out, "realtime {nanoseconds}"),
-        Answer::Monotonic { nanoseconds } => writeln!(out, "monotonic {nanoseconds}"),
-        Answer::Random { bytes } => spell_random(out, bytes.as_slice()),
-    }
-}
-
 /// Spells what a worker is told to do as a line of a script.
 fn spell_act<W: Write>(out: &mut W, act: PlannedAct) -> io::Result<()> {
     match act {
@@ -100,6 +75,7 @@ fn spell_life<W: Write>(out: &mut W, life: &PlannedLife) -> io::Result<()> {
     out.write_all(b"life\n")?;
     for answer in life.answers.as_slice() {
         spell_answer(out, answer)?;
+        out.write_all(b"\n")?;
     }
     for act in life.acts.as_slice() {
         spell_act(out, *act)?;
