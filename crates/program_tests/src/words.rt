@@ -8,7 +8,7 @@ use std::test::Fail;
 /// Words, and the status of what is read: 0 for an order.
 type StatusRow = (&'static [&'static str], u8);
 
-static STATUSES: [StatusRow; 38] = [
+static STATUSES: [StatusRow; 47] = [
     (&["wasmhost"], 2),
     (&["wasmhost", "open", "a"], 2),
     (&["wasmhost", "check"], 2),
@@ -25,6 +25,11 @@ static STATUSES: [StatusRow; 38] = [
         0,
     ),
     (&["wasmhost", "create", "a.disk", "a.wasm", "--device"], 0),
+    (
+        &["wasmhost", "create", "b.disk", "a.wasm", "--from", "a.disk"],
+        0,
+    ),
+    (&["wasmhost", "create", "b.disk", "a.wasm", "--from"], 2),
     (&["wasmhost", "create", "--help"], 0),
     (&["wasmhost", "run"], 2),
     (&["wasmhost", "run", "-h"], 0),
@@ -33,6 +38,8 @@ static STATUSES: [StatusRow; 38] = [
     (&["wasmhost", "run", "a.disk", "--batch", "0"], 2),
     (&["wasmhost", "run", "a.disk", "--batch=65536"], 0),
     (&["wasmhost", "run", "a.disk", "--batch=65537"], 2),
+    (&["wasmhost", "run", "a.disk", "--metrics", "a.prom"], 0),
+    (&["wasmhost", "run", "a.disk", "--metrics"], 2),
     (&["wasmhost", "run", "a.disk", "--", "b"], 2),
     (&["wasmhost", "show", "a.disk"], 0),
     (&["wasmhost", "show"], 2),
@@ -43,8 +50,13 @@ static STATUSES: [StatusRow; 38] = [
     (&["wasmhost", "files", "a.disk"], 0),
     (&["wasmhost", "files", "a.disk", "a/b"], 0),
     (&["wasmhost", "files"], 2),
+    (&["wasmhost", "history", "a.disk"], 0),
+    (&["wasmhost", "history", "a.disk", "--story"], 0),
+    (&["wasmhost", "history"], 2),
     (&["wasmhost", "upgrade", "a.disk"], 0),
     (&["wasmhost", "upgrade"], 2),
+    (&["wasmhost", "save", "a.disk", "b.disk"], 0),
+    (&["wasmhost", "save", "a.disk"], 2),
     (&["wasmhost", "story", "a.story", "a.wasm"], 0),
     (&["wasmhost", "story"], 2),
     (&["wasmhost", "story", "a.story"], 2),

@@ -14,14 +14,15 @@
 //! - `check` and `create` hand over a module's bytes. The rest of `create` is `create_disk`.
 //! - `story` and `sweep` hand over all bytes of a script, and a module's bytes. They read them in
 //!   this order.
-//! - `run` and `upgrade` are `run_file` and `upgrade_file`, and `show`, `inspect` and `files` are
-//!   `look_at_file`, which open the disk's file. One host holds it at a time. `run` also hands over
-//!   the lines of the standard input and the machine's clock.
+//! - `run` and `upgrade` are `run_file` and `upgrade_file`, and `show`, `inspect`, `files` and
+//!   `history` are `look_at_file`, which open the disk's file. `save` is `save_file`, which makes
+//!   one, too. One host holds it at a time. `run` also hands over the lines of the standard input
+//!   and the machine's clock.
 //! - Before all that it takes the numbers of standard streams that are closed (`StreamNumbers`), so
 //!   that no file that it opens gets one. No clause says so: `scripts/runs/closed-streams` does.
 //! - A file that can't be read is told by `report_unread`, want of memory by `report`, and a fault
 //!   of the words by `report_words`. An output that can't be written is told by `report_output`,
-//!   but for `create`, `run` and `upgrade`, which tell it themselves.
+//!   but for `create`, `run`, `upgrade` and `save`, which tell it themselves.
 //! - Each command is handed fresh printers, of which no write has failed. That of the error output
 //!   is told whether it is a terminal.
 //!
@@ -45,7 +46,7 @@ use command_words::{
     report_output, report_words,
 };
 use disk_commands::{
-    Look, System, create_disk, look_at_file, report_unread, run_file, upgrade_file,
+    Look, System, create_disk, look_at_file, report_unread, run_file, save_file, upgrade_file,
 };
 use std::alloc::Global;
 use std::env::{self, FillError};
@@ -61,6 +62,20 @@ use story_commands::{
 
 /// It is read to keep a number from other files. It has no bytes, and takes none from a reader.
 const NULL_DEVICE: &str = "/dev/null";
+
+/// Copies the disk of a worker to a new file.
+fn save<R: Files<File = File>, W: Write + Drop, E: Write + Drop>(
+    rt: &R,
+    alloc: Global,
+    disk: &str,
+    copy: &str,
+    out: &mut W,
+    err: &mut Printer<E>,
+) -> u8
+    ensures { result ≤ 7 }
+{
+    save_file(alloc, rt, disk, copy, &mut Printer::new(out, false), err)
+}
 
 /// How many bytes of its input a run reads ahead.
 const AHEAD: usize = 8_192;
@@ -377,7 +392,11 @@ where
         Ok(Order::Files { disk, path }) => {
             look_at_disk(rt, alloc, disk, Look::Files { path }, out, err)
         }
+        Ok(Order::History { path, as_story }) => {
+            look_at_disk(rt, alloc, path, Look::History { as_story }, out, err)
+        }
         Ok(Order::Upgrade { path }) => upgrade(rt, alloc, path, out, err),
+        Ok(Order::Save { disk, copy }) => save(rt, alloc, disk, copy, out, err),
         Ok(Order::Story(order)) => story(rt, alloc, &order, out, err),
         Ok(Order::Sweep(order)) => sweep(rt, alloc, &order, out, err),
         Err(fault) => explain(alloc, &fault, out, err),
