@@ -10,12 +10,12 @@ from lib.guest_runs import scratch
 COUNT = re.compile(r"^ *([\d,]+) \([ \d.]+%\) +[^:]*:(\S.*?)(?: \[[^]]*\])?$")
 
 
-def counted(words, *options, out="/dev/null"):
-    """The machine instructions of a command, its output and its error output. It has to end with
-    status 0. What each function takes may be left in a file."""
+def counted(words, *options, given="", out="/dev/null"):
+    """The machine instructions of a command that reads a text, its output and its error output. It
+    has to end with status 0. What each function takes may be left in a file."""
     valgrind = ["valgrind", "--tool=callgrind", f"--callgrind-out-file={out}", *options]
     run = subprocess.run(
-        [*valgrind, *words], stdin=subprocess.DEVNULL, capture_output=True, text=True, check=True)
+        [*valgrind, *words], input=given, capture_output=True, text=True, check=True)
     return int(re.search(r"Collected : (\d+)", run.stderr)[1]), run.stdout, run.stderr
 
 

@@ -11,14 +11,15 @@ from model import disk_form as form
 from lib.call_modules import Writer
 from lib.call_sequences import PRINTER, Sequence, Step
 from model.chacha import taken
-from model.disk_form import END, ONE, REALTIME, REQUEST, SECTOR, TWO, Form, echo_image, record
+from model.disk_form import (
+    END, MONOTONIC, ONE, RANDOM, REALTIME, REQUEST, SECTOR, TWO, Form, echo_image, record)
 from lib.guest_runs import ECHO, printed, request_lines
 from lib.small_modules import EXITS, TRAPS
 from lib.disk_steps import (
     ANYTHING, ANY_TEXTS, Bytes, Command, EXISTS, FOLDER, FRESH, LEAST, Locked, MISSING, NoFile,
     PAGES, SMALL, SameFacts, TOO_LARGE, UNENDED, busy, counted, created, disk_of, field, filled,
-    inspected, listed, mistaken, of_length, refused, refuses, runs, sector, shows, too_late,
-    too_long, unopened, written, written_out)
+    inspected, listed, mistaken, of_length, recorded, refused, refuses, runs, scripted, sector,
+    shows, too_late, too_long, unopened, written, written_out)
 
 # What is told of the first entry of an environment, where it has no name.
 UNNAMED = "entry 1 of --env isn't NAME=VALUE\n"
@@ -121,8 +122,8 @@ def paced(words, checkpoints):
         shows(counted(2 + checkpoints, 49, 2, 2, 0))]
 
 
-# The steps after which there are checkpoints: each time that `--every` slices of `--fuel` steps were
-# taken, and where the worker waits at the end of its input.
+# The steps after which there are checkpoints: each time that `--every` slices of `--fuel` steps
+# were taken, and where the worker waits at the end of its input.
 PACES = [
     paced("--fuel 10 --every 1", len([10, 20, 30, 40, 49])),
     paced("--fuel 10 --every 2", len([20, 40, 49])),
@@ -392,7 +393,8 @@ LATE = disk_of((2, None), (3, [b"a"]), (4, [b"a"]), kept=[
 LATE_LINES = "".join(f"{place} o {text.decode()}\n" for place, text in enumerate(LATE_TEXTS, 2))
 HEADS = [sector(number, LATE[number * SECTOR : (number + 1) * SECTOR]) for number in (1, 2)]
 LOST = [sector(number, bytes(SECTOR)) for number in (1, 2)]
-ALL_COMMANDS = ["show", "run", "inspect", "inspect --json", "files", "upgrade"]
+ALL_COMMANDS = [
+    "show", "run", "inspect", "inspect --json", "files", "history", "history --story", "upgrade"]
 
 
 def all_refuse(fault, why=""):
@@ -409,7 +411,8 @@ LOST_HEADS = [
         written(LOST[1]), *all_refuse("S2 Damaged"),
         # The older head is wanted no more.
         written(HEADS[0]), shows(counted(4, 27, 1, 1, 6)), inspected("request"), SameFacts(),
-        listed(), runs(b"8 r h\n", LATE_LINES + "8 o h\n"), shows(counted(6, 181, 8, 8, 0))]),
+        listed(), recorded(), scripted(), runs(b"8 r h\n", LATE_LINES + "8 o h\n"),
+        shows(counted(6, 181, 8, 8, 0))]),
     ("a newest head that is lost, without an answer after it", [
         created(), runs(b"1 r a\n", "1 o a\n"), runs(PAIR, "2 o b\n"),
         written(LOST[1]), shows(counted(4, 27, 1, 1, 1)),
@@ -630,18 +633,40 @@ FULL = [
 NO_FILES = struct.pack("<QIQBI", 2, 1, 1, 3, 0)
 ONE_FOLDER = struct.pack("<QIQBIH5sQQBI", 3, 2, 1, 3, 1, 5, b"notes", 2, 2, 3, 0)
 
+# Texts that a terminal isn't shown as they are: they have control bytes, or are no UTF-8.
+UNSHOWN = [b"a\tb", b"a\nb", b"\x1b[2J", b"\0", b"a\x7f", b"\xc3", b"\xff\xfe", b"\xed\xa0\x80"]
+
 LOOKS = [
     ("the facts of the disks that docs/FORMATS.md has in hex", [
         created(), inspected("nothing"), SameFacts(), listed(),
         runs(b"1 r hello\n", "1 o hello\n"), inspected("request"), SameFacts(),
         Locked(busy("inspect disk")),
-        Locked(busy("files disk"))]),
+        Locked(busy("files disk")), Locked(busy("history disk"))]),
     ("texts and records are facts", [
         created("echo.wasm", "--env", "NAME=Ada", "--", 'r"e\\d', "", "ü"), inspected("nothing"),
         SameFacts(),
         written(journal_of(record(6, REQUEST, b"hello"), record(7, END),
                            record(8, REALTIME, bytes(8)))),
         inspected("nothing"), SameFacts(), shows(counted(1, 0, 0, 0, 3))]),
+    ("records are listed, whatever bytes they have", [
+        created(), recorded(), scripted(),
+        written(journal_of(
+            record(6, REQUEST, "é |\\\"".encode()), record(28, REQUEST, b""),
+            record(9, REQUEST, b" "),
+            *(record(step, REQUEST, data) for step, data in enumerate(UNSHOWN, 50)),
+            record(70, REALTIME, b"\xff" * 8), record(71, MONOTONIC, bytes(8)),
+            record(72, RANDOM, bytes(range(250, 256)) + b"\0\x0a"), record(73, RANDOM, b""),
+            record(74, END), record(75, REQUEST, b"a"))),
+        recorded(), scripted(),
+        # The third record has a step that is over when it is played.
+        Command(["run", "disk"], 3, "1 o é |\\\"\n", "failed Q1 Diverged\n")]),
+    ("requests are counted from those that the snapshot has", [
+        created(), runs(b"1 r a\n", "1 o a\n"), recorded(), scripted(),
+        runs(b"1 r a\n2 r b\n3 r c\nno", "2 o b\n3 o c\n", refused(4), status=6),
+        recorded(), scripted(), Command(["history", "disk"], 0, "28 request 2 r b\n"
+                                        "50 request 3 r c\n"),
+        Command(["history", "disk", "--story"], 0,
+                "life\nrequest b\nrequest c\nslice 100023\n")]),
     ("texts that aren't UTF-8 are bytes", [
         filled(ANY_TEXTS.created(echo_image())), inspected("nothing"), SameFacts()]),
     ("sectors are left behind the last one without a gap", [
@@ -673,15 +698,20 @@ LOOKS = [
         refuses("files disk /notes", "F2 Directory")]),
     ("a disk that is refused", [
         filled(b""), refuses("inspect disk", "Y1 NotAWorker"),
-        refuses("files disk", "Y1 NotAWorker"),
+        refuses("files disk", "Y1 NotAWorker"), refuses("history disk", "Y1 NotAWorker"),
         refuses("files disk notes", "Y1 NotAWorker")]),
+    ("records of no disk", [
+        unopened("history disk", "disk", MISSING), unopened("history .", ".", FOLDER), NoFile()]),
     ("a command line that isn't understood", [
         mistaken("inspect"), mistaken("inspect", "disk", "a"), mistaken("files"),
         mistaken("inspect", "disk", "--json", "--json"), mistaken("files", "disk", "--json"),
-        mistaken("files", "disk", "a", "b")]),
+        mistaken("files", "disk", "a", "b"), mistaken("history"),
+        mistaken("history", "disk", "a"), mistaken("history", "disk", "--json"),
+        mistaken("history", "disk", "--story", "--story")]),
     ("facts that can't be printed", [
         created(), Command(["inspect", "disk"], 7, ANYTHING, ANYTHING, b"", FULL_FILE),
-        Command(["inspect", "disk", "--json"], 7, ANYTHING, ANYTHING, b"", FULL_FILE)]),
+        Command(["inspect", "disk", "--json"], 7, ANYTHING, ANYTHING, b"", FULL_FILE),
+        Command(["history", "disk", "--story"], 7, ANYTHING, ANYTHING, b"", FULL_FILE)]),
 ]
 
 # A disk of `echo` whose journal takes the records of version 2, and the words that create it.

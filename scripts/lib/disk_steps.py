@@ -91,6 +91,16 @@ def listed():
     return Looked(["files", "disk"], facts.listing)
 
 
+def recorded():
+    """The records behind the newest snapshot."""
+    return Looked(["history", "disk"], facts.history)
+
+
+def scripted():
+    """The same as a life of a script."""
+    return Looked(["history", "disk", "--story"], facts.life)
+
+
 def written_out(path, listed=None):
     """One file of the worker, under its path or as it is listed."""
     return Looked(["files", "disk", path], lambda disk: facts.file_at(disk, listed or path))

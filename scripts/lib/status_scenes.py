@@ -1,5 +1,5 @@
-"""Scenes of `run --status FILE` on a disk of `echo`, for `disk-rows`: what may be at FILE and
-beside it, what the run then says, and what it leaves.
+"""Scenes of `run --status FILE` and `--metrics FILE` on a disk of `echo`, for `disk-rows`: what may
+be at FILE and beside it, what the run then says, and what it leaves.
 
 All of it was worked out by hand from docs/COMMANDS.md. In each scene there is a folder with a fresh
 disk. All that is in the folder is compared before and after, but for what a run has to change.
@@ -23,7 +23,7 @@ DISK, FILE = "worker.disk", "standing"
 BESIDE = f"{FILE}.new"
 
 # Why a path isn't taken, on the second line.
-OTHER_BYTES = "has other bytes than a status line"
+OTHER_BYTES = "has other bytes than a status line or metrics"
 LINK, FOLDER, SPECIAL = "is a symbolic link", "is a directory", "isn't a regular file"
 LOCKED = "is locked"
 MISSING, NO_FOLDER = "no such file or directory", "not a directory"
@@ -35,16 +35,50 @@ NULL, FULL = os.makedev(1, 3), os.makedev(1, 7)
 MOST, MOST_CODE = (1 << 64) - 1, (1 << 32) - 1
 
 
-def line(generation=1, steps=2, answers=3, lines=4, words="running", requests=5):
-    """A status line. One of an older program has no requests."""
+# The sectors of a journal of LEAST, all of them left after a checkpoint.
+JOURNAL = 64
+
+# What a worker says that waits.
+WAITS = "waits for a request"
+
+
+def line(generation=1, steps=2, answers=3, lines=4, words="running", requests=5, left=6):
+    """A status line. One of an older program has no sectors, and one of a still older one no
+    requests."""
     counted = "" if requests is None else f"requests {requests} "
+    room = "" if left is None else f"journal_left {left} "
     return (f"generation {generation} steps {steps} answers {answers} lines {lines} "
-            f"{counted}{words}\n").encode()
+            f"{counted}{room}{words}\n").encode()
 
 
-def stands(generation, steps, answers, lines, words="running"):
+def stands(generation, steps, answers, lines, words="running", left=JOURNAL):
     """That of a worker of `echo`: each of its answers is a request."""
-    return line(generation, steps, answers, lines, words, answers)
+    return line(generation, steps, answers, lines, words, answers, left)
+
+
+# The states of metrics, in their order.
+STATES = ["running", "waiting", "parked", "exited", "trapped"]
+
+
+def metrics(disk, generation, steps, answers, lines, left, state, code=0):
+    """The metrics of a worker of `echo`."""
+    def family(name, kind, words, value):
+        return (f"# HELP wasmhost_{name} {words}\n# TYPE wasmhost_{name} {kind}\n"
+                f'wasmhost_{name}{{disk="{disk}"}} {value}\n')
+
+    counts = [
+        ("generation", "gauge", "Number of the worker's newest snapshot.", generation),
+        ("steps_total", "counter", "Steps that the worker has taken.", steps),
+        ("answers_total", "counter", "Answers that it has taken, requests too.", answers),
+        ("requests_total", "counter", "Requests that it has taken.", answers),
+        ("lines_total", "counter", "Lines that it has written.", lines),
+        ("journal_left_bytes", "gauge", "Bytes of its journal that are left.", 512 * left),
+        ("exit_code", "gauge", "Code that it has exited with, or 0.", code)]
+    head = ("# HELP wasmhost_state Whether the worker is in this state.\n"
+            "# TYPE wasmhost_state gauge\n")
+    flags = [f'wasmhost_state{{disk="{disk}",state="{name}"}} {int(name == state)}\n'
+             for name in STATES]
+    return "".join([*[family(*count) for count in counts], head, *flags]).encode()
 
 
 TRAPS = ["unreachable", "integer divide by zero", "integer overflow", "out of bounds memory access",
@@ -52,16 +86,20 @@ TRAPS = ["unreachable", "integer divide by zero", "integer overflow", "out of bo
          "stack exhausted"]
 
 # What a run may replace, or find beside the path and remove: an empty file, and status lines.
-LEFT = [b"", line(), line(words="parked"), line(0, 0, 0, 0, "exited 0", 0), line(words="exited 7"),
-        line(MOST, MOST, MOST, MOST, f"exited {MOST_CODE}", MOST),
-        *[line(MOST, MOST, MOST, MOST, f"trapped {name}", MOST) for name in TRAPS],
-        line(requests=None), line(words="parked", requests=None),
-        line(MOST, MOST, MOST, MOST, f"exited {MOST_CODE}", None),
-        line(words=f"trapped {TRAPS[3]}", requests=None)]
+LINES = [line(), line(words="parked"), line(0, 0, 0, 0, "exited 0", 0, 0), line(words="exited 7"),
+         line(words=WAITS), line(MOST, MOST, MOST, MOST, f"exited {MOST_CODE}", MOST, MOST),
+         *[line(MOST, MOST, MOST, MOST, f"trapped {name}", MOST, MOST) for name in TRAPS],
+         line(left=None), line(words="parked", left=None),
+         line(requests=None, left=None), line(words="parked", requests=None, left=None),
+         line(MOST, MOST, MOST, MOST, f"exited {MOST_CODE}", None, None),
+         line(words=f"trapped {TRAPS[3]}", requests=None, left=None)]
 # The longest one.
-assert max(map(len, LEFT)) == 181
+assert max(map(len, LINES)) == 215
 
-# What it may not: bytes that are nearly a status line.
+METRICS = metrics("a.disk", 3, 27, 1, 1, JOURNAL, "parked")
+LEFT = [b"", *LINES, METRICS, METRICS[:200], METRICS.split(b"\n", 1)[0] + b"\n"]
+
+# What it may not: bytes that are nearly a status line, or nearly metrics.
 NO_LINES = [
     b"\n", b" ", b"notes of a user\n", b"\0" * 512, line()[:-1], line()[:20], line()[1:],
     line() + b"\n", line() * 2, line() + b" ", b" " + line(), line().upper(),
@@ -77,8 +115,13 @@ NO_LINES = [
     line(requests="05"), line(requests=""), line(requests="-1"), line(requests=MOST + 1),
     line().replace(b"requests", b"request"), line().replace(b"requests 5 ", b"requests 5 " * 2),
     line().replace(b"lines 4 requests 5", b"requests 5 lines 4"),
-    line().replace(b"requests 5 running", b"running requests 5"),
-    line(MOST, MOST, MOST, MOST, f"trapped {TRAPS[3]}", MOST) + b"x" * 600]
+    line().replace(b"journal_left 6 running", b"running journal_left 6"),
+    line(left="06"), line(left=""), line(left=MOST + 1), line(requests=None),
+    line().replace(b"journal_left", b"left"), line(words="waits"), line(words="waits for a line"),
+    line().replace(b"requests 5 journal_left 6", b"journal_left 6 requests 5"),
+    METRICS[1:], METRICS.split(b"\n", 1)[0], METRICS.split(b"\n", 1)[1], b"\n" + METRICS,
+    METRICS.upper(), b"# HELP node_load1 1m load average.\n",
+    line(MOST, MOST, MOST, MOST, f"trapped {TRAPS[3]}", MOST, MOST) + b"x" * 600]
 
 
 @dataclasses.dataclass
@@ -172,12 +215,13 @@ class Refused:
     why: str
     disk: str = DISK
     file: str = FILE
+    option: str = "--status"
 
 
 def fault_of_refused(program, folder, scene):
     """What is wrong in a scene of a run that isn't begun, or none."""
     before = all_seen(folder)
-    found = ended_in(folder, [program, "run", scene.disk, "--status", scene.file])
+    found = ended_in(folder, [program, "run", scene.disk, scene.option, scene.file])
     wanted = 4, b"", f"failed K2 Io\n{scene.path}: {scene.why}\n".encode()
     if found != wanted:
         return f"it ends with {found}, wanted {wanted}"
@@ -194,12 +238,13 @@ class Taken:
     given: bytes = b"1 r a\n"
     wanted: tuple = (0, b"1 o a\n", b"parked\n")
     left: object = stands(3, 27, 1, 1, "parked")
+    option: str = "--status"
 
 
 def fault_of_taken(program, folder, scene):
     """What is wrong in such a scene, or none. Nothing is left beside the path."""
     before = all_seen(folder, DISK, FILE, BESIDE)
-    found = ended_in(folder, [program, "run", DISK, "--status", FILE], scene.given)
+    found = ended_in(folder, [program, "run", DISK, scene.option, FILE], scene.given)
     if found != scene.wanted:
         return f"it ends with {found}, wanted {scene.wanted}"
     after = all_seen(folder, DISK)
@@ -246,8 +291,9 @@ REFUSALS = [
     # A status file beside it stays, where the path isn't free.
     Refused("a user's file, and a line that a killed run left", {
         FILE: filled(b"mine\n"), BESIDE: filled(line())}, FILE, OTHER_BYTES),
-    *[Refused(f"{name} is at {path}", {path: act}, path, why)
-      for name, (act, why) in OCCUPIED.items() for path in (FILE, BESIDE)],
+    *[Refused(f"{name} is at {path}", {path: act}, path, why, option=option)
+      for name, (act, why) in OCCUPIED.items() for path in (FILE, BESIDE)
+      for option in ("--status", "--metrics")],
 ]
 
 NOT_A_WORKER = 3, b"", b"failed Y1 NotAWorker\n"
@@ -255,15 +301,18 @@ ENDS = [
     Taken("nothing is there", {}),
     *[Taken(f"{data!r} is at {path}", {path: filled(data)})
       for data in LEFT for path in (FILE, BESIDE)],
+    *[Taken(f"{data[:60]!r} is at {path}, for metrics", {path: filled(data)},
+            left=metrics(DISK, 3, 27, 1, 1, JOURNAL, "parked"), option="--metrics")
+      for data in (b"", line(), METRICS) for path in (FILE, BESIDE)],
     Taken("both are there", {FILE: filled(line()), BESIDE: filled(b"")}),
     Taken("a further name of an old line", {FILE: hard_linked("left")}),
     Taken("the line of a worker that has exited", {}, b"1 e\n", (0, b"", b"exited 0\n"),
           stands(3, 11, 1, 0, "exited 0")),
-    # A run that fails leaves the line before: that of the recovery.
+    # A run that fails leaves the line before: it waited for its first line.
     Taken("a refused line", {}, b"1 r a\n3 e\n",
-          (6, b"1 o a\n", too_late(2, 3, 2).encode()), stands(2, 0, 0, 0)),
+          (6, b"1 o a\n", too_late(2, 3, 2).encode()), stands(2, 5, 0, 0, WAITS)),
     Taken("a refused line over an old file", {FILE: filled(line(words="parked"))}, b"no\n",
-          (6, b"", refused(1).encode()), stands(2, 0, 0, 0)),
+          (6, b"", refused(1).encode()), stands(2, 5, 0, 0, WAITS)),
     # One that is never recovered leaves what was there.
     Taken("a disk without a worker", {DISK: filled(bytes(512))}, b"", NOT_A_WORKER, None),
     Taken("an old line, and a disk without a worker", {
@@ -354,7 +403,8 @@ def held_fault(program, file):
 def waiting_fault(program):
     """What is wrong with the file of a run that saves after each step and waits for requests. Each
     line is a new file, and nothing is left beside it."""
-    lines = stands(7, 5, 0, 0), stands(29, 27, 1, 1), stands(52, 49, 2, 2, "parked")
+    lines = (stands(7, 5, 0, 0, WAITS), stands(29, 27, 1, 1, WAITS),
+             stands(52, 49, 2, 2, "parked"))
     with stage(program, {}) as folder:
         path = os.path.join(folder, FILE)
         words = DISK, "--status", FILE, "--fuel", "1", "--every", "1"
@@ -387,12 +437,14 @@ SPINS, FUEL = small(b"\x03\x40\x0c\x00\x0b"), 1_000
 
 # The line of such a guest after whole slices. By how many seconds two of them may be apart, and how
 # many are looked at.
-SPINNING = re.compile(rb"generation 2 steps ([0-9]+)000 answers 0 lines 0 requests 0 running\n")
-APART, LOOKS = 2, 4
+SPINNING = re.compile(rb"generation 2 steps ([0-9]+)000 answers 0 lines 0 requests 0 "
+                      rb"journal_left 64 running\n")
+APART, LOOKS = 3, 4
 
 # Draws, looks at both clocks and reads a request, and does all that again. It writes seven lines up
 # to the first request, and six from there to the next one.
-OUTSIDE = re.compile(rb"generation 3 steps [0-9]+ answers 7 lines 13 requests 1 parked\n")
+OUTSIDE = re.compile(rb"generation 3 steps [0-9]+ answers 7 lines 13 requests 1 "
+                     rb"journal_left 64 parked\n")
 
 
 def moved(path, seen_last):
@@ -414,38 +466,70 @@ def spinning_fault(program):
         words = "spins.disk", "--status", FILE, "--fuel", str(FUEL), "--every", NEVER
         with begun(program, folder, *words):
             path = os.path.join(folder, FILE)
-            found = [comes_to(path, line(2, 0, 0, 0, requests=0))]
+            found = [comes_to(path, stands(2, 0, 0, 0))]
             found += [moved(path, found[-1])]
             while len(found) < LOOKS and found[-1]:
                 found.append(moved(path, found[-1]))
     steps = [SPINNING.fullmatch(it or b"") for it in found[1:]]
-    if found[0] != line(2, 0, 0, 0, requests=0) or None in steps:
+    if found[0] != stands(2, 0, 0, 0) or None in steps:
         return f"status file of a guest in an endless loop: {found}"
     counts = [int(it[1]) for it in steps]
     return None if counts == sorted(set(counts)) else f"steps of an endless loop: {counts}"
 
 
 def still_fault(program):
-    """What is wrong with the file of a run without checkpoints that waits. It stands still, and
-    after a request it says what the worker has taken, though nothing is saved."""
+    """What is wrong with the file of a run without checkpoints that waits, with or without batches.
+    It stands still, and after a request it says what the worker has taken, though nothing is saved.
+    The record of that request fills a sector of the journal."""
     # The fifth step is the last before the first request, and the 27th before the second one.
-    before = [stands(2, steps, 0, 0) for steps in range(6)]
-    behind = [stands(2, steps, 1, count) for steps in range(6, 28) for count in (0, 1)]
-    with stage(program, {}) as folder:
-        path = os.path.join(folder, FILE)
-        words = DISK, "--status", FILE, "--fuel", "1", "--every", NEVER
-        with begun(program, folder, *words) as run:
-            moved(path, b"")
-            time.sleep(1)
-            first = seen(path)
-            is_still = moved(path, first.content) is None and seen(path) == first
-            out, second = told(run, b"1 r a\n"), moved(path, first.content)
-            end, last = over(run), seen(path).content
-    result = is_still, out, end, last
-    wanted = True, b"1 o a\n", (0, b"", b"parked\n"), stands(3, 27, 1, 1, "parked")
-    if result != wanted or first.content not in before or second not in behind:
-        return f"status file of a run without checkpoints: {first}, {second}, {result}"
+    before, behind = stands(2, 5, 0, 0, WAITS), stands(2, 27, 1, 1, WAITS, JOURNAL - 1)
+    wanted = (before, True, b"1 o a\n", behind, (0, b"", b"parked\n"),
+              stands(3, 27, 1, 1, "parked"))
+    for width in ("1", "64"):
+        with stage(program, {}) as folder:
+            path = os.path.join(folder, FILE)
+            words = DISK, "--status", FILE, "--every", NEVER, "--batch", width
+            with begun(program, folder, *words) as run:
+                found = comes_to(path, before)
+                first = seen(path)
+                is_still = moved(path, found) is None and seen(path) == first
+                out, second = told(run, b"1 r a\n"), comes_to(path, behind)
+                end, last = over(run), seen(path).content
+        result = found, is_still, out, second, end, last
+        if result != wanted:
+            return f"status file of a run without checkpoints: {result}, wanted {wanted}"
     return None
+
+
+def metrics_fault(program):
+    """What is wrong with the metrics of a run that waits, of a disk whose path has a quote and a
+    backslash, and of the next run, which goes on counting."""
+    disk, label = 'a"b\\c.disk', 'a\\"b\\\\c.disk'
+    waits = [metrics(label, 2, 5, 0, 0, JOURNAL, "waiting"),
+             metrics(label, 2, 27, 1, 1, JOURNAL - 1, "waiting"),
+             metrics(label, 4, 27, 1, 1, JOURNAL, "waiting")]
+    ends = [metrics(label, 3, 27, 1, 1, JOURNAL, "parked"),
+            metrics(label, 5, 33, 2, 1, JOURNAL, "exited")]
+    with stage(program, {}) as folder:
+        ended_in(folder, [program, "create", disk, "echo.wasm", *LEAST])
+        path = os.path.join(folder, FILE)
+        words = disk, "--status", "other", "--metrics", FILE
+        with begun(program, folder, *words) as run:
+            found = [comes_to(path, waits[0])]
+            out = [told(run, b"1 r a\n")]
+            found.append(comes_to(path, waits[1]))
+            out.append(over(run))
+            found.append(seen(path).content)
+        with begun(program, folder, *words) as run:
+            found.append(comes_to(path, waits[2]))
+            out.append(run.communicate(b"2 e\n", timeout=SECONDS))
+            found.append(seen(path).content)
+        line_found = seen(os.path.join(folder, "other")).content
+    result = found, out, line_found
+    wanted = ([*waits[:2], ends[0], waits[2], ends[1]],
+              [b"1 o a\n", (0, b"", b"parked\n"), (b"", b"exited 0\n")],
+              stands(5, 33, 2, 1, "exited 0"))
+    return None if result == wanted else f"metrics of a run: {result}, wanted {wanted}"
 
 
 def outside_fault(program):
@@ -465,7 +549,7 @@ def meanwhile_fault(program, name, act):
     with stage(program, {}) as folder:
         path, put = os.path.join(folder, FILE), os.path.join(folder, name)
         with begun(program, folder, DISK, "--status", FILE) as run:
-            comes_to(path, stands(2, 0, 0, 0))
+            comes_to(path, stands(2, 5, 0, 0, WAITS))
             if name == FILE:
                 os.remove(path)
             act(put)
@@ -504,5 +588,5 @@ ACTS = [
     *[lambda program, name=name, act=act: meanwhile_fault(program, name, act)
       for name in (FILE, BESIDE)
       for act in (filled(b"mine\n"), linked("notes"), linked("nowhere"), os.mkdir, os.mkfifo)],
-    waiting_fault, spinning_fault, still_fault, outside_fault, order_fault,
+    waiting_fault, spinning_fault, still_fault, metrics_fault, outside_fault, order_fault,
 ]

@@ -1,4 +1,4 @@
-"""Says what `inspect` and `files` print of the bytes of a worker's disk.
+"""Says what `inspect`, `files` and `history` print of the bytes of a worker's disk.
 
 It is written from docs/FORMATS.md and docs/COMMANDS.md, and uses none of the program's code. Nobody
 may fix it by looking at the code or at an output. What a process waits for follows from its module:
@@ -8,7 +8,7 @@ import hashlib
 import json
 import struct
 
-from model.disk_form import PAYLOAD, SECTOR
+from model.disk_form import END, PAYLOAD, RANDOM, REQUEST, SECTOR
 from model.disk_reader import judged
 
 TRAPS = [
@@ -20,6 +20,9 @@ DIRECTORY, FILE = 3, 4
 ROOT = 1
 UNIT = PAGE = 65_536
 NODES = 1_024
+
+# How many steps the slice of a script takes behind the last record.
+STEPS_BEHIND = 100_000
 
 # The facts that are one number.
 NUMBERS = (
@@ -142,6 +145,23 @@ class Facts:
             kind, content = self.nodes[number]
             yield f"d {path.decode()}" if kind == DIRECTORY else f"f {len(content)} {path.decode()}"
 
+    def history(self):
+        """What `history` prints."""
+        number = self.counts[2]
+        for step, kind, payload in self.records:
+            number += kind in (REQUEST, END)
+            yield f"{step} {RECORDS[kind]} {value_of(kind, payload, number)}"
+
+    def life(self):
+        """What `history --story` prints."""
+        yield "life"
+        for _, kind, payload in self.records:
+            value = spelled(payload) if kind == REQUEST else value_of(kind, payload, None)
+            yield "end" if kind == END else f"{RECORDS[kind]} {value}"
+        steps = self.counts[0]
+        last = self.records[-1][0] if self.records else steps
+        yield f"slice {max(last - steps, 0) + STEPS_BEHIND}"
+
     def file_at(self, path):
         """What `files` writes of a path."""
         number = next(it for it, own in self.paths().items() if own == path.encode())
@@ -151,6 +171,25 @@ class Facts:
 def spelled(data):
     """Bytes as a text. One that is no part of UTF-8 stands for itself."""
     return data.decode(errors="surrogateescape")
+
+
+def value_of(kind, payload, number):
+    """The value of a record, as `history` has it. A request, or their end, has this number."""
+    if kind == REQUEST:
+        letter, text = ("r", payload.decode()) if is_shown(payload) else ("x", payload.hex())
+        return f"{number} {letter} {text}"
+    if kind == END:
+        return f"{number} e"
+    return payload.hex() if kind == RANDOM else str(int.from_bytes(payload, "little"))
+
+
+def is_shown(data):
+    """Whether bytes are UTF-8, and no control byte is among them."""
+    try:
+        data.decode()
+    except UnicodeDecodeError:
+        return False
+    return not any(byte < 32 or byte == 127 for byte in data)
 
 
 def text_of(words):
@@ -232,6 +271,14 @@ def inspected(disk, waits):
 
 def listing(disk):
     return "".join(f"{it}\n" for it in Facts(disk).listed())
+
+
+def history(disk):
+    return "".join(f"{it}\n" for it in Facts(disk).history())
+
+
+def life(disk):
+    return "".join(f"{it}\n" for it in Facts(disk).life())
 
 
 def file_at(disk, path):

@@ -1,0 +1,205 @@
+"""A folder, and what is done in it in a scene of `succession-rows` or of `save_scenes.py`.
+
+A step is a command, and the files that it may make or change: all others have to stay as they
+were.
+"""
+import contextlib
+import dataclasses
+import fcntl
+import os
+import stat
+import subprocess
+import time
+
+from lib.guest_runs import SECONDS, scratch
+
+
+@dataclasses.dataclass
+class Step:
+    """A command, how it has to end, and the files that it may make or change. Of one that is killed
+    nothing is compared but that."""
+
+    words: list
+    status: int = 0
+    out: object = ""
+    err: str = ""
+    given: bytes = b""
+    changes: tuple = ()
+    is_killed: bool = False
+    into: str = ""
+
+
+@dataclasses.dataclass
+class Act:
+    """Something that is done with the folder, by its path."""
+
+    act: object
+
+
+@dataclasses.dataclass
+class Bytes:
+    """All bytes that a file must have."""
+
+    path: str
+    wanted: bytes
+
+
+@dataclasses.dataclass
+class Front:
+    """A file has all bytes of another one, or so many of its first ones."""
+
+    path: str
+    whole: str
+    length: int | None = None
+
+
+@dataclasses.dataclass
+class Locked:
+    """A step, while somebody else has the lock of a disk."""
+
+    path: str
+    step: Step
+
+
+@dataclasses.dataclass
+class AsShow:
+    """A command that is to read a disk ends as `show` of this path does, which refuses it, and
+    makes nothing."""
+
+    path: str
+    words: list
+
+
+def written(path, data):
+    """A file of some bytes."""
+    def act(folder):
+        with open(os.path.join(folder, path), "wb") as file:
+            file.write(data)
+    return Act(act)
+
+
+def linked(path, to):
+    """A symbolic link."""
+    return Act(lambda folder: os.symlink(to, os.path.join(folder, path)))
+
+
+def cut_to(path, length):
+    """A file of another length."""
+    return Act(lambda folder: os.truncate(os.path.join(folder, path), length))
+
+
+def moved(path, to):
+    """A file that takes the place of another."""
+    return Act(lambda folder: os.replace(*(os.path.join(folder, it) for it in (path, to))))
+
+
+def damaged(path, at, end):
+    """Other bytes stand over a part of a file."""
+    def act(folder):
+        with open(os.path.join(folder, path), "r+b") as file:
+            file.seek(at)
+            file.write(b"\xff" * (end - at))
+    return Act(act)
+
+
+def content(path):
+    """What is at a path: the bytes of a file, where a link leads, or its kind."""
+    mode = os.lstat(path).st_mode
+    if stat.S_ISLNK(mode):
+        return os.readlink(path)
+    if not stat.S_ISREG(mode):
+        return stat.S_IFMT(mode)
+    with open(path, "rb") as file:
+        return file.read()
+
+
+class Stage:
+    """A folder with the modules, and what is done in it."""
+
+    def __init__(self, program, folder, modules):
+        self.program, self.folder = program, folder
+        for name, module in modules.items():
+            with open(os.path.join(folder, name), "wb") as file:
+                file.write(module)
+
+    def contents(self):
+        """All that is in the folder."""
+        return {it: content(os.path.join(self.folder, it)) for it in os.listdir(self.folder)}
+
+    def ended(self, step):
+        """How a command ends: status, output and error output. One that is killed runs for a
+        moment."""
+        with contextlib.ExitStack() as stack:
+            pipes = {"stdout": subprocess.PIPE, "stderr": subprocess.PIPE}
+            if step.into:
+                pipes["stdout"] = stack.enter_context(open(step.into, "wb"))
+            if step.is_killed:
+                ran = stack.enter_context(subprocess.Popen(
+                    [self.program, *step.words], cwd=self.folder, stdin=subprocess.PIPE, **pipes))
+                time.sleep(0.5)
+                ran.kill()
+                return step.status, step.out, step.err
+            ran = subprocess.run([self.program, *step.words], cwd=self.folder, check=False,
+                                 timeout=SECONDS, input=step.given, **pipes)
+        return ran.returncode, ran.stdout or b"", ran.stderr
+
+    def step_fault(self, step):
+        """What is wrong with a command, or none."""
+        before = self.contents()
+        found, after = self.ended(step), self.contents()
+        wanted = [step.status, *(
+            it.encode() if isinstance(it, str) and not step.is_killed else it
+            for it in (step.out, step.err))]
+        if [*found] != wanted:
+            return f"{step.words}: {[*found]}, wanted {wanted}"[:1_000]
+        changed = {it for it in {*before, *after} if before.get(it) != after.get(it)}
+        if not changed <= {*step.changes}:
+            return f"{step.words}: it has changed {changed - {*step.changes}}"
+        lacking = [it for it in step.changes if it not in after]
+        return f"{step.words}: there is no {lacking}" if lacking else None
+
+    def show_fault(self, path, words):
+        """What is wrong with a command that reads a disk which `show` refuses, or none."""
+        before = self.contents()
+        shown, found = self.ended(Step(["show", path])), self.ended(Step(words))
+        told = [it[:40] for it in words]
+        if found != shown or shown[0] == 0:
+            return f"{told}: {found}, and show: {shown}"
+        return None if self.contents() == before else f"{told}: a file has changed"
+
+    def fault(self, step):
+        """What is wrong with a step of a scene, or none."""
+        match step:
+            case Step():
+                return self.step_fault(step)
+            case AsShow(path, words):
+                return self.show_fault(path, words)
+            case Act(act):
+                act(self.folder)
+            case Bytes(path, wanted):
+                found = content(os.path.join(self.folder, path))
+                return None if found == wanted else f"{path} has other bytes"
+            case Front(path, whole, length):
+                found, other = (content(os.path.join(self.folder, it)) for it in (path, whole))
+                return None if found == other[:length] else f"{path} has other bytes than {whole}"
+            case Locked(path, behind):
+                with open(os.path.join(self.folder, path), "rb") as file:
+                    fcntl.flock(file, fcntl.LOCK_EX)
+                    try:
+                        return self.step_fault(behind)
+                    finally:
+                        # A child of another thread may have the file until it runs its program.
+                        fcntl.flock(file, fcntl.LOCK_UN)
+        return None
+
+
+def scene_fault(program, modules, scene):
+    """The first thing that is wrong in a scene, or none. Its folder has these modules."""
+    name, steps = scene
+    with scratch() as folder:
+        stage = Stage(program, folder, modules)
+        for number, step in enumerate(steps, 1):
+            fault = stage.fault(step)
+            if fault:
+                return f"{name}, step {number}: {fault}"
+    return None
