@@ -46,7 +46,8 @@ install: $(PROGRAM)
 	install -D -m 644 -t $(DESTDIR)$(DATADIR)/man/man1 docs/wasmhost.1
 	install -D -m 644 -t $(DESTDIR)$(DOCDIR) $(DOCS)
 	[ ! -d licenses ] || cp -r licenses $(DESTDIR)$(DOCDIR)
-	cd examples/deployment && install -D -t $(DESTDIR)$(LIBDIR)/wasmhost feed tell watch worker
+	cd examples/deployment && install -D -t $(DESTDIR)$(LIBDIR)/wasmhost feed tell watch worker \
+		change-code
 	install -d $(DESTDIR)$(UNITDIR)
 	sed 's|/usr/local/bin|$(BINDIR)|; s|/usr/local/lib|$(LIBDIR)|' examples/deployment/$(UNIT) \
 		>$(DESTDIR)$(UNITDIR)/$(UNIT)

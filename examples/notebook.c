@@ -5,13 +5,21 @@
 //     drop N      takes note N out: `dropped`, or `no note N`
 //     clear       takes all notes out: `cleared`
 //
-// It ends with its input. docs/WORKERS.md has the line that builds it.
+// It ends with its input. docs/WORKERS.md has the line that builds it. With -DVERSION=2 it is its
+// next version, which goes on with the same file, and says more:
+//
+//     add TEXT    adds a note: `added note N`
+//     find TEXT   prints each note that holds the text, with its number: or `none`
 
 #include <fcntl.h>
 #include <stdio.h>
 #include <stdlib.h>
 #include <string.h>
 #include <unistd.h>
+
+#ifndef VERSION
+#define VERSION 1
+#endif
 
 enum { LINE = 4096, ROOM = 65536 };
 
@@ -70,14 +78,29 @@ static void say(int is_done, const char *word) {
     printf("%s\n", is_done ? word : "failed");
 }
 
+// How many notes there are.
+static int count_notes(size_t length) {
+    int count = 0;
+    for (size_t at = 0; at < length; at++) {
+        count += notes[at] == '\n';
+    }
+    return count;
+}
+
 static void add(char *text) {
-    size_t length = strlen(text);
-    if (read_notes() + length + 1 > ROOM) {
+    size_t length = strlen(text), before = read_notes();
+    if (before + length + 1 > ROOM) {
         printf("full\n");
         return;
     }
     text[length] = '\n';
-    say(write_all(open("notes", O_WRONLY | O_CREAT | O_APPEND, 0666), text, length + 1), "added");
+    int is_added =
+        write_all(open("notes", O_WRONLY | O_CREAT | O_APPEND, 0666), text, length + 1);
+    if (VERSION >= 2 && is_added) {
+        printf("added note %d\n", count_notes(before) + 1);
+    } else {
+        say(is_added, "added");
+    }
 }
 
 static void list(void) {
@@ -89,6 +112,24 @@ static void list(void) {
         start = end;
     }
     printf("%d notes\n", number);
+}
+
+static void find(const char *text) {
+    size_t length = read_notes(), start = 0;
+    int number = 0, found = 0;
+    while (start < length) {
+        size_t end = end_of(start, length);
+        notes[end - 1] = 0;
+        number++;
+        if (strstr(notes + start, text)) {
+            printf("%d %s\n", number, notes + start);
+            found++;
+        }
+        start = end;
+    }
+    if (found == 0) {
+        printf("none\n");
+    }
 }
 
 static void drop(int number) {
@@ -110,12 +151,15 @@ static void answer(char *request) {
         add(request + 4);
     } else if (strcmp(request, "list") == 0) {
         list();
+    } else if (VERSION >= 2 && strncmp(request, "find ", 5) == 0) {
+        find(request + 5);
     } else if (strncmp(request, "drop ", 5) == 0) {
         drop(atoi(request + 5));
     } else if (strcmp(request, "clear") == 0) {
         say(replace_notes(0), "cleared");
     } else {
-        printf("add TEXT, list, drop N or clear\n");
+        puts(VERSION >= 2 ? "add TEXT, list, find TEXT, drop N or clear"
+                          : "add TEXT, list, drop N or clear");
     }
 }
 
