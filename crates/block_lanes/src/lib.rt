@@ -26,9 +26,9 @@
 //!
 //! # Choices
 //!
-//! - Every lane is looked at. Two equal sectors take 130 of the processor's instructions: 64 loads,
-//!   63 joins and the end. A processor without wider lanes can do no better. Fewer would need
-//!   `memcmp` of C or a newer processor, for neither of which the kit has words.
+//! - Every lane is looked at, and a processor without wider lanes can do no better. The cost is in
+//!   `docs/PERFORMANCE.md`. Less would need `memcmp` of C or a newer processor, for neither of
+//!   which the kit has words.
 #![tactic(auto)]
 
 ghost use Rattle.std.specs.Prelude.{◌≡◌, ◌↔◌, IsTrue};

@@ -33,7 +33,7 @@
 //! # Who may touch what
 //!
 //! There is no representation to hide: integers are Rust's own. `machine_slots` and `machine_frame`
-//! call the operators, and `wasm_semantics` cites the definitions. `wasm_syntax` names operators
+//! call the operators, and `wasm_rules` cites the definitions. `wasm_syntax` names operators
 //! and traps. No memory is taken. The only errors are `Trap::DivideByZero` and
 //! `Trap::IntegerOverflow`.
 #![tactic(auto)]

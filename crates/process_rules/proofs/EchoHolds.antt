@@ -7,12 +7,12 @@ use Rattle.wasm_syntax.specs.declared.instruction.Instruction.{Instruction}
 use Rattle.wasm_syntax.specs.declared.instruction.Instruction.TheVariants as instr
 use Rattle.wasm_syntax.specs.rules.Sequence.{Sequence, Stop, Plain}
 use Rattle.wasm_syntax.specs.laws.Examples.{echo, no_type, transfer_type}
-use Rattle.wasm_semantics.specs.Configuration.{Imported, Own, LabelOf, FrameOf, Thread}
-use Rattle.wasm_semantics.specs.Configuration.{Configuration, Goes, Main}
-use Rattle.wasm_semantics.specs.laws.Examples.{v}
-use Rattle.wasm_semantics.specs.Instantiation.{filled_memory, empty_memory}
-use Rattle.wasm_semantics.specs.Steps.{counted_step, loop_label, IsReduced, here, on}
-use Rattle.wasm_semantics.specs.Validity.{memories_of}
+use Rattle.wasm_rules.specs.Configuration.{Imported, Own, LabelOf, FrameOf, Thread}
+use Rattle.wasm_rules.specs.Configuration.{Configuration, Goes, Main}
+use Rattle.wasm_rules.specs.laws.Examples.{v}
+use Rattle.wasm_rules.specs.Instantiation.{filled_memory, empty_memory}
+use Rattle.wasm_rules.specs.Steps.{counted_step, loop_label, IsReduced, here, on}
+use Rattle.wasm_rules.specs.Validity.{memories_of}
 use Rattle.wasi_abi.specs.declared.answer.Question.{Question}
 use Rattle.wasi_abi.specs.declared.answer.Question.TheVariants as question
 use Rattle.wasi_abi.specs.declared.answer.Answer.{Answer}

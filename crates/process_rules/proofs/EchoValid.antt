@@ -10,9 +10,9 @@ use Rattle.wasm_syntax.specs.declared.instruction.Instruction.{Instruction}
 use Rattle.wasm_syntax.specs.declared.instruction.Instruction.TheVariants as instr
 use Rattle.wasm_syntax.specs.rules.Sequence.{Sequence, Stop, Plain, InLoop, Spells}
 use Rattle.wasm_syntax.specs.laws.Examples.{echo, echo_body, no_type, transfer_type, one_page}
-use Rattle.wasm_semantics.specs.laws.Examples.{const_32}
-use Rattle.wasm_semantics.specs.Typing.{Context, HasType, HasMemory, body_context}
-use Rattle.wasm_semantics.specs.Validity.{IsValid, module_context}
+use Rattle.wasm_rules.specs.laws.Examples.{const_32}
+use Rattle.wasm_rules.specs.Typing.{Context, HasType, HasMemory, body_context}
+use Rattle.wasm_rules.specs.Validity.{IsValid, module_context}
 use Rattle.process_rules.proofs.ExamplesValid.{page_is_valid, names_differ}
 
 -- ---- the body

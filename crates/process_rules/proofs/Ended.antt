@@ -1,7 +1,7 @@
 -- A process that has ended takes no further step.
 use Rattle.std.proofs.Common.{◌≡◌, ℕ, ◌≤◌, List, Some, None, refl, sym, subst, arith}
 use Rattle.wasm_syntax.specs.declared.module.Module.{Module}
-use Rattle.wasm_semantics.specs.Validity.{IsValid}
+use Rattle.wasm_rules.specs.Validity.{IsValid}
 use Rattle.wasi_abi.specs.rules.Configs.{Settings}
 use Rattle.process_rules.specs.Processes.{ProcessState, Guest, Ending}
 use Rattle.process_rules.specs.Origins.{succeeding}

@@ -11,10 +11,10 @@ use Rattle.wasm_syntax.specs.rules.Sequence.{Sequence, Stop, Plain, Spells}
 use Rattle.wasm_syntax.specs.laws.Examples.{hello, hello_body as hello_opcodes, idle_with_code}
 use Rattle.wasm_syntax.specs.laws.Examples.{no_type, transfer_type, exit_type, one_page}
 use Rattle.wasm_syntax.specs.laws.Examples.{exports_from}
-use Rattle.wasm_semantics.specs.laws.Examples.{hello_sequence, rest_behind_call}
-use Rattle.wasm_semantics.specs.Typing.{Context, HasType, body_context}
-use Rattle.wasm_semantics.specs.Validity.{IsValid, IsMemoryTypeValid, HaveDistinctNames}
-use Rattle.wasm_semantics.specs.Validity.{module_context}
+use Rattle.wasm_rules.specs.laws.Examples.{hello_sequence, rest_behind_call}
+use Rattle.wasm_rules.specs.Typing.{Context, HasType, body_context}
+use Rattle.wasm_rules.specs.Validity.{IsValid, IsMemoryTypeValid, HaveDistinctNames}
+use Rattle.wasm_rules.specs.Validity.{module_context}
 
 pub page_is_valid : AllByRecursion IsMemoryTypeValid (one_page ∷ [])
 page_is_valid = ((lit≤ tt, tt), tt)

@@ -1,7 +1,7 @@
 -- The same answers lead to the same process in the same number of steps.
 use Rattle.std.proofs.Common.{◌≡◌, ℕ, ◌+◌, ◌≤◌, List, ◌∷◌, ◌++◌, [], Option, Some, None, refl, sym}
 use Rattle.std.proofs.Common.{ap, ◌∙◌, subst, arith, suc}
-use Rattle.wasm_semantics.proofs.OneRun.{reduces_once}
+use Rattle.wasm_rules.proofs.OneRun.{reduces_once}
 use Rattle.wasi_abi.specs.declared.answer.Answer.{Answer}
 use Rattle.process_rules.specs.Processes.{ProcessState, Guest, closed}
 use Rattle.process_rules.specs.Origins.{Origin, IsSucceeding, succeeding}

@@ -8,15 +8,15 @@ use Rattle.wasm_syntax.specs.declared.module.Import.{Import}
 use Rattle.wasm_syntax.specs.declared.module.Export.{Export}
 use Rattle.wasm_syntax.specs.declared.module.ExportItem.{ExportItem}
 use Rattle.wasm_syntax.specs.declared.module.ExportItem.TheVariants as export
-use Rattle.wasm_semantics.specs.Validity.{HaveDistinctNames, IsValid}
-use Rattle.wasm_semantics.specs.Configuration.{Program, Store, Configuration}
-use Rattle.wasm_semantics.specs.Instantiation.{IsProgram}
-use Rattle.wasm_semantics.specs.Instantiation.{calls_of, Begins}
-use Rattle.wasm_semantics.specs.Steps.{ReducesTo}
-use Rattle.wasm_semantics.specs.Linking.{Exports}
-use Rattle.wasm_semantics.proofs.OneProgram.{one_program}
-use Rattle.wasm_semantics.proofs.OneRun.{reduces_once}
-use Rattle.wasm_semantics.proofs.OneStore.{store_once}
+use Rattle.wasm_rules.specs.Validity.{HaveDistinctNames, IsValid}
+use Rattle.wasm_rules.specs.Configuration.{Program, Store, Configuration}
+use Rattle.wasm_rules.specs.Instantiation.{IsProgram}
+use Rattle.wasm_rules.specs.Instantiation.{calls_of, Begins}
+use Rattle.wasm_rules.specs.Steps.{ReducesTo}
+use Rattle.wasm_rules.specs.Linking.{Exports}
+use Rattle.wasm_rules.proofs.OneProgram.{one_program}
+use Rattle.wasm_rules.proofs.OneRun.{reduces_once}
+use Rattle.wasm_rules.proofs.OneStore.{store_once}
 use Rattle.wasi_abi.specs.declared.call.Call.{Call}
 use Rattle.wasi_abi.specs.declared.call.Call.TheVariants as call
 use Rattle.wasi_abi.specs.rules.Configs.{Settings}

@@ -2,10 +2,10 @@
 use Rattle.std.proofs.Common.{◌≡◌, ℕ, zero, suc, ◌+◌, List, [], ◌∷◌, ◌++◌, Option, None, refl, sym}
 use Rattle.std.proofs.Common.{◌∙◌, ap, subst, arith}
 use Rattle.wasm_syntax.specs.declared.value.Trap.{Trap}
-use Rattle.wasm_semantics.specs.Configuration.{Program, Configuration, Thread, Outcome, Goes}
-use Rattle.wasm_semantics.specs.Configuration.{Traps, Stuck}
-use Rattle.wasm_semantics.specs.Steps.{counted_step, stopped, IsEnded, Steps, none as no_steps}
-use Rattle.wasm_semantics.specs.Steps.{more as more_steps, Advances}
+use Rattle.wasm_rules.specs.Configuration.{Program, Configuration, Thread, Outcome, Goes}
+use Rattle.wasm_rules.specs.Configuration.{Traps, Stuck}
+use Rattle.wasm_rules.specs.Steps.{counted_step, stopped, IsEnded, Steps, none as no_steps}
+use Rattle.wasm_rules.specs.Steps.{more as more_steps, Advances}
 use Rattle.wasi_calls_rules.specs.WasiStates.{WasiState}
 use Rattle.process_rules.specs.Processes.{Ending, ProcessState, Guest, Exited, Trapped, over}
 use Rattle.process_rules.specs.Processes.{closed, closed_at}

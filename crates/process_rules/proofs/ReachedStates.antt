@@ -4,12 +4,12 @@ use Rattle.std.proofs.Common.{ap, subst, ◌∙◌, ◌*◌, arith}
 use Rattle.std.specs.Prelude.{Ok, Err, reverse, map, slice_get}
 use Rattle.wasm_syntax.specs.declared.value.Value.{Value}
 use Rattle.wasm_syntax.specs.declared.module.Module.{Module}
-use Rattle.wasm_semantics.specs.Types.{number_in}
-use Rattle.wasm_semantics.specs.Validity.{IsValid}
-use Rattle.wasm_semantics.specs.Configuration.{Configuration, Store, Thread, Outcome}
-use Rattle.wasm_semantics.specs.Configuration.{Goes, Traps}
-use Rattle.wasm_semantics.specs.Configuration.{Asks, Stuck}
-use Rattle.wasm_semantics.specs.Steps.{counted_step}
+use Rattle.wasm_rules.specs.Types.{number_in}
+use Rattle.wasm_rules.specs.Validity.{IsValid}
+use Rattle.wasm_rules.specs.Configuration.{Configuration, Store, Thread, Outcome}
+use Rattle.wasm_rules.specs.Configuration.{Goes, Traps}
+use Rattle.wasm_rules.specs.Configuration.{Asks, Stuck}
+use Rattle.wasm_rules.specs.Steps.{counted_step}
 use Rattle.wasi_abi.specs.declared.answer.Answer.{Answer}
 use Rattle.wasi_abi.specs.declared.call.Call.{Call}
 use Rattle.wasi_abi.specs.declared.version.Version.TheVariants.{One, Two}

@@ -13,20 +13,20 @@ use Rattle.wasm_syntax.specs.declared.module.ImportItem.{ImportItem}
 use Rattle.wasm_syntax.specs.declared.module.ImportItem.TheVariants as import
 use Rattle.wasm_syntax.specs.declared.module.ExportItem.TheVariants as export
 use Rattle.wasm_syntax.specs.declared.module.Function.{Function}
-use Rattle.wasm_semantics.specs.Types.{AreOf, takes_of, gives_of, number_in}
-use Rattle.wasm_semantics.specs.Types.{with_function_index, imported_functions}
-use Rattle.wasm_semantics.specs.Typing.{Context}
-use Rattle.wasm_semantics.specs.Validity.{module_context}
-use Rattle.wasm_semantics.specs.Configuration.{Callee, Imported, Own, Thread}
-use Rattle.wasm_semantics.specs.Configuration.{Configuration, Outcome, Goes, Traps, Asks, Stuck}
-use Rattle.wasm_semantics.specs.Instantiation.{AreCallees, Begins}
-use Rattle.wasm_semantics.specs.Linking.{Offer, IsItemOffered, IsOffered}
-use Rattle.wasm_semantics.specs.Steps.{counted_step, stopped, IsReduced, IsEnded}
-use Rattle.wasm_semantics.specs.Typed.{IsTypedProgram, IsTypedMemory, IsTyped}
-use Rattle.wasm_semantics.specs.laws.Soundness.{IsSound}
-use Rattle.wasm_semantics.proofs.Soundness.Beginning.{begins_typed}
-use Rattle.wasm_semantics.proofs.Soundness.AdministrativeSound.{never_stuck_holds, answers_typed}
-use Rattle.wasm_semantics.proofs.Soundness.AdministrativeSound.{reduces_typed, goes_typed}
+use Rattle.wasm_rules.specs.Types.{AreOf, takes_of, gives_of, number_in}
+use Rattle.wasm_rules.specs.Types.{with_function_index, imported_functions}
+use Rattle.wasm_rules.specs.Typing.{Context}
+use Rattle.wasm_rules.specs.Validity.{module_context}
+use Rattle.wasm_rules.specs.Configuration.{Callee, Imported, Own, Thread}
+use Rattle.wasm_rules.specs.Configuration.{Configuration, Outcome, Goes, Traps, Asks, Stuck}
+use Rattle.wasm_rules.specs.Instantiation.{AreCallees, Begins}
+use Rattle.wasm_rules.specs.Linking.{Offer, IsItemOffered, IsOffered}
+use Rattle.wasm_rules.specs.Steps.{counted_step, stopped, IsReduced, IsEnded}
+use Rattle.wasm_rules.specs.Typed.{IsTypedProgram, IsTypedMemory, IsTyped}
+use Rattle.wasm_rules.specs.laws.Soundness.{IsSound}
+use Rattle.wasm_rules.proofs.Soundness.Beginning.{begins_typed}
+use Rattle.wasm_rules.proofs.Soundness.AdministrativeSound.{never_stuck_holds, answers_typed}
+use Rattle.wasm_rules.proofs.Soundness.AdministrativeSound.{reduces_typed, goes_typed}
 use Rattle.wasi_abi.specs.declared.answer.Answer.{Answer}
 use Rattle.wasi_abi.specs.declared.call.Call.{Call}
 use Rattle.wasi_abi.specs.declared.call.Call.TheVariants as call

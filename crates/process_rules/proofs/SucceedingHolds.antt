@@ -11,8 +11,8 @@ use Rattle.wasm_syntax.specs.declared.instruction.Instruction.TheVariants as ins
 use Rattle.wasm_syntax.specs.declared.value.Value.{Value}
 use Rattle.wasm_syntax.specs.rules.Sequence.{Sequence, Stop, Plain}
 use Rattle.wasm_syntax.specs.laws.Examples.{hello}
-use Rattle.wasm_semantics.specs.Steps.{here}
-use Rattle.wasm_semantics.specs.laws.Examples.{rest_behind_call, const_32, hello_sequence, v}
+use Rattle.wasm_rules.specs.Steps.{here}
+use Rattle.wasm_rules.specs.laws.Examples.{rest_behind_call, const_32, hello_sequence, v}
 use Rattle.wasi_abi.specs.declared.call.Call.TheVariants as call
 use Rattle.wasi_abi.specs.declared.version.Version.{Version}
 use Rattle.wasi_abi.specs.declared.version.Version.TheVariants.{One, Two}

@@ -7,9 +7,9 @@ use Rattle.wasm_syntax.specs.declared.value.Value.TheVariants as value
 use Rattle.wasm_syntax.specs.declared.instruction.Instruction.TheVariants as instr
 use Rattle.wasm_syntax.specs.rules.Sequence.{Sequence, Stop, Plain, Spells}
 use Rattle.wasm_syntax.specs.laws.Examples.{no_type, transfer_type}
-use Rattle.wasm_semantics.specs.laws.Examples.{const_32}
-use Rattle.wasm_semantics.specs.Typing.{HasType, body_context}
-use Rattle.wasm_semantics.specs.Validity.{IsValid, module_context}
+use Rattle.wasm_rules.specs.laws.Examples.{const_32}
+use Rattle.wasm_rules.specs.Typing.{HasType, body_context}
+use Rattle.wasm_rules.specs.Validity.{IsValid, module_context}
 use Rattle.process_rules.specs.laws.BehindExamples.{syncing, syncing_body, sync_type}
 use Rattle.process_rules.proofs.ExamplesValid.{page_is_valid, names_differ}
 

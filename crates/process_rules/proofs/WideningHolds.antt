@@ -4,8 +4,8 @@ use Rattle.std.proofs.Common.{subst, arith, lit≤}
 use Rattle.wasm_syntax.specs.declared.instruction.Instruction.TheVariants as instr
 use Rattle.wasm_syntax.specs.rules.Sequence.{Stop, Plain}
 use Rattle.wasm_syntax.specs.laws.Examples.{hello}
-use Rattle.wasm_semantics.specs.Steps.{here}
-use Rattle.wasm_semantics.specs.laws.Examples.{rest_behind_call, const_32, v}
+use Rattle.wasm_rules.specs.Steps.{here}
+use Rattle.wasm_rules.specs.laws.Examples.{rest_behind_call, const_32, v}
 use Rattle.wasi_abi.specs.declared.call.Call.TheVariants as call
 use Rattle.wasi_abi.specs.declared.version.Version.TheVariants.{Two}
 use Rattle.wasi_abi.specs.rules.Configs.{Settings}

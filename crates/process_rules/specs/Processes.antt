@@ -5,9 +5,9 @@ use Rattle.wasm_syntax.specs.declared.value.Trap.{Trap}
 use Rattle.wasm_syntax.specs.declared.module.Module.{Module}
 use Rattle.wasm_syntax.specs.declared.module.Import.{Import}
 use Rattle.wasm_syntax.specs.declared.module.ExportItem.TheVariants as export
-use Rattle.wasm_semantics.specs.Configuration.{Program, Configuration, Thread}
-use Rattle.wasm_semantics.specs.Instantiation.{Begins}
-use Rattle.wasm_semantics.specs.Linking.{Exports}
+use Rattle.wasm_rules.specs.Configuration.{Program, Configuration, Thread}
+use Rattle.wasm_rules.specs.Instantiation.{Begins}
+use Rattle.wasm_rules.specs.Linking.{Exports}
 use Rattle.wasi_abi.specs.declared.call.Call.{Call}
 use Rattle.wasi_abi.specs.rules.Configs.{Settings}
 use Rattle.wasi_abi.specs.rules.Calls.{module_name, name_of}

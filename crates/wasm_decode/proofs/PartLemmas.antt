@@ -51,7 +51,8 @@ behind_header bytes after others x e header =
     (parts tt x others after (sym read ∙ e)).1
 
 pub opened : (bytes after : List ℕ) (x : Unit {0}) (bodies : List (Option Span)) (ss : List Section)
-    → fixed_at preamble bytes ≡ Some (x, after) → Splits after bodies ss → OpensSections bytes bodies
+    → fixed_at preamble bytes ≡ Some (x, after) → Splits after bodies ss
+    → OpensSections bytes bodies
 opened bytes after x bodies ss e split = record {
   after = after;
   sections = ss;
@@ -181,7 +182,8 @@ module _ (bytes : List ℕ) (bodies : List (Option Span)) (o : OpensSections byt
       let found = row_found IsImport FitsImport import_within_at Reads-import_within_at
       (held bodies 2) all.0 all.1 in
       subst (λ (is : List Import). HasImports bytes is) same (
-        field_here bytes bodies o 2 (omega arith) (omega arith) (IsVector IsImport) [] all.0 found.0,
+        field_here bytes bodies o 2 (omega arith) (omega arith) (IsVector IsImport) [] all.0
+            found.0,
         found.1,
         leb-true _ _ test.0,
       )

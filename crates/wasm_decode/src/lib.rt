@@ -16,12 +16,13 @@
 //!
 //! - `decode`: the module is spelled by all of the bytes, and is within the limits (`found`). A
 //!   fault other than out of memory comes only where the bytes spell no such module (`only`).
-//! - `decode_types`, `decode_imports`: what this one section holds, whatever the others do (`found`).
-//!   A fault other than out of memory comes only where the bytes are no sections, or this one holds
-//!   no such thing (`only`).
+//! - `decode_types`, `decode_imports`: what this one section holds, whatever the others do
+//!   (`found`). A fault other than out of memory comes only where the bytes are no sections, or
+//!   this one holds no such thing (`only`).
 //! - `find_code_faults`: a fault of each code entry that is no code within the limits, and of no
-//!   other, in their order (`HasCodeFaults`). Each entry is judged by its own bytes, and those before
-//!   and after it change nothing. Where an entry's size can't be read, the list ends, and says so.
+//!   other, in their order (`HasCodeFaults`). Each entry is judged by its own bytes, and those
+//!   before and after it change nothing. Where an entry's size can't be read, the list ends, and
+//!   says so.
 //! - `DecodeFault::place` is the offset that a fault names, where it names one (`place_of`).
 //!   `DecodeFault::passed_limit` is the limit that `B3 Limit` is about, with its offset
 //!   (`passed_of`).

@@ -1,5 +1,5 @@
-//! Parts of a module, each read whatever the others hold (section 5.5.15). So of a module with
-//! several faults more than the first is known.
+//! Parts of a module, each read whatever the others hold (section 5.5.15). Of a module with several
+//! faults more than the first one is then known.
 
 ghost use Rattle.std.specs.Prelude.{IfErr, IfOk, MatchResult};
 ghost use Rattle.wasm_decode.specs.Parts.{FindsPart, HasNoSections, OpensSections, TakesPart};

@@ -6,8 +6,8 @@ use Rattle.std.specs.List.{AllByRecursion}
 use Rattle.wasm_syntax.specs.declared.types.FunctionType.{FunctionType}
 use Rattle.wasm_syntax.specs.declared.module.Module.{Module}
 use Rattle.wasm_syntax.specs.declared.module.Function.{Function}
-use Rattle.wasm_semantics.specs.Typing.{body_context}
-use Rattle.wasm_semantics.specs.Validity.{IsFunctionTypeValid, IsFunctionValid, module_context}
+use Rattle.wasm_rules.specs.Typing.{body_context}
+use Rattle.wasm_rules.specs.Validity.{IsFunctionTypeValid, IsFunctionValid, module_context}
 use Rattle.wasm_validate.specs.declared.parts.fault.ValidFault.{ValidFault}
 use Rattle.wasm_validate.specs.rules.Answers.{Judges}
 use Rattle.wasm_validate.proofs.PartLemmas.Denied.{denies_still}

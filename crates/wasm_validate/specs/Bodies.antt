@@ -3,7 +3,7 @@ use Rattle.std.specs.Prelude.{IfErr, List, Result}
 use Rattle.std.specs.List.{AllByRecursion}
 use Rattle.wasm_syntax.specs.declared.types.FunctionType.{FunctionType}
 use Rattle.wasm_syntax.specs.declared.module.Module.{Module}
-use Rattle.wasm_semantics.specs.Validity.{IsFunctionTypeValid, module_context}
+use Rattle.wasm_rules.specs.Validity.{IsFunctionTypeValid, module_context}
 use Rattle.wasm_validate.specs.declared.parts.context.ModuleContext.{ModuleContext}
 use Rattle.wasm_validate.specs.declared.parts.fault.ValidFault.{ValidFault}
 use Rattle.wasm_validate.specs.rules.Answers.{Judges}

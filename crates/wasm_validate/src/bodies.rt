@@ -1,7 +1,7 @@
 //! The bodies of all functions (section 3.4.1).
 
 ghost use Rattle.std.specs.List.{AllByRecursion};
-ghost use Rattle.wasm_semantics.specs.Validity.{IsFunctionValid};
+ghost use Rattle.wasm_rules.specs.Validity.{IsFunctionValid};
 ghost use Rattle.wasm_validate.specs.Bodies.{FaultIn, JudgesIn};
 ghost use Rattle.wasm_validate.specs.Parts.Parts.{IsFaultInFunctions, IsFaultOfFunction};
 

@@ -29,14 +29,14 @@
 //!
 //! # Definitions to read
 //!
-//! `validate` speaks of `IsValid` of `wasm_semantics` (`specs/Validity.antt`). What a module lacks
+//! `validate` speaks of `IsValid` of `wasm_rules` (`specs/Validity.antt`). What a module lacks
 //! where a fault is told is `Denies` (`specs/rules/Answers.antt`) and `HasFault`
 //! (`specs/rules/Faults.antt`). Other crates use `IsContextOf` (`specs/Parts/Contexts.antt`) and
 //! `HasBody` (`specs/Body/Bodies.antt`).
 //!
 //! # Who may touch what
 //!
-//! Only this crate makes a `ValidModule`. `machine` calls `validate`. It, `process` and
+//! Only this crate makes a `ValidModule`. `machine` calls `validate`. `machine`, `process` and
 //! `state_image` use the type. `machine`, `machine_jumps` and `machine_frame` use the context,
 //! and `machine_jumps` the `Stack` of `body`. Memory is taken in proportion to functions, globals,
 //! exports and the longest body. Out of memory is `V5 Memory`. After any fault the module is gone.

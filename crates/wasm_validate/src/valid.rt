@@ -2,7 +2,7 @@
 
 ghost use Rattle.std.specs.Prelude.{◌≡◌, IfOk, IfErr, OnOk};
 ghost use Rattle.wasm_syntax.specs.rules.Limits.{IsLimited};
-ghost use Rattle.wasm_semantics.specs.Validity.{IsValid};
+ghost use Rattle.wasm_rules.specs.Validity.{IsValid};
 ghost use Rattle.wasm_validate.specs.rules.Answers.{Denies, Judges};
 ghost use Rattle.wasm_validate.specs.rules.Faults.{HasFault};
 
@@ -21,7 +21,7 @@ pub struct ValidModule {
 
 impl Model for ValidModule {
     ghost use Rattle.wasm_syntax.specs.declared.module.Module.{Module as TheModule};
-    ghost use Rattle.wasm_semantics.specs.Validity.{IsValid};
+    ghost use Rattle.wasm_rules.specs.Validity.{IsValid};
 
     ghost Value = { TheModule };
 

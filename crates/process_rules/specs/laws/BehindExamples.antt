@@ -8,9 +8,9 @@ use Rattle.wasm_syntax.specs.declared.instruction.Instruction.TheVariants as ins
 use Rattle.wasm_syntax.specs.declared.module.Module.{Module}
 use Rattle.wasm_syntax.specs.laws.Examples.{i32_const, no_type, transfer_type, one_page}
 use Rattle.wasm_syntax.specs.laws.Examples.{wasi_function, exports_from}
-use Rattle.wasm_semantics.specs.Configuration.{Thread, Asks}
-use Rattle.wasm_semantics.specs.Steps.{counted_step, answered}
-use Rattle.wasm_semantics.specs.laws.Examples.{v}
+use Rattle.wasm_rules.specs.Configuration.{Thread, Asks}
+use Rattle.wasm_rules.specs.Steps.{counted_step, answered}
+use Rattle.wasm_rules.specs.laws.Examples.{v}
 use Rattle.wasi_abi.specs.declared.answer.Answer.TheVariants as answer
 use Rattle.wasi_abi.specs.declared.call.Call.TheVariants as call
 use Rattle.wasi_abi.specs.rules.Configs.{Settings}

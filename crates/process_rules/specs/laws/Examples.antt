@@ -4,7 +4,7 @@ use Rattle.wasm_syntax.specs.declared.value.Trap.TheVariants as trap
 use Rattle.wasm_syntax.specs.declared.instruction.Instruction.TheVariants as instr
 use Rattle.wasm_syntax.specs.declared.module.Module.{Module}
 use Rattle.wasm_syntax.specs.laws.Examples.{hello, echo, idle, idle_with_code}
-use Rattle.wasm_semantics.specs.Configuration.{Configuration}
+use Rattle.wasm_rules.specs.Configuration.{Configuration}
 use Rattle.guest_memory.specs.rules.Bytes.{number_of, part, page_size}
 use Rattle.wasi_abi.specs.declared.answer.Answer.TheVariants as answer
 use Rattle.wasi_abi.specs.rules.Configs.{Settings}

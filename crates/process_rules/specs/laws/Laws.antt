@@ -4,13 +4,13 @@ use Rattle.std.specs.Prelude.{Some, None}
 use Rattle.wasm_syntax.specs.declared.types.FunctionType.{FunctionType}
 use Rattle.wasm_syntax.specs.declared.value.Trap.{Trap}
 use Rattle.wasm_syntax.specs.declared.module.Module.{Module}
-use Rattle.wasm_semantics.specs.Typing.{Context}
-use Rattle.wasm_semantics.specs.Validity.{AreFunctionTypes, module_context, IsValid}
-use Rattle.wasm_semantics.specs.Configuration.{Program, Configuration, Traps}
-use Rattle.wasm_semantics.specs.Linking.{Offer, IsLinkable}
-use Rattle.wasm_semantics.specs.Steps.{counted_step, stopped, IsReduced, IsEnded, Steps}
-use Rattle.wasm_semantics.specs.Typed.{IsTyped}
-use Rattle.wasm_semantics.specs.laws.Soundness.{OffersNoEntry}
+use Rattle.wasm_rules.specs.Typing.{Context}
+use Rattle.wasm_rules.specs.Validity.{AreFunctionTypes, module_context, IsValid}
+use Rattle.wasm_rules.specs.Configuration.{Program, Configuration, Traps}
+use Rattle.wasm_rules.specs.Linking.{Offer, IsLinkable}
+use Rattle.wasm_rules.specs.Steps.{counted_step, stopped, IsReduced, IsEnded, Steps}
+use Rattle.wasm_rules.specs.Typed.{IsTyped}
+use Rattle.wasm_rules.specs.laws.Soundness.{OffersNoEntry}
 use Rattle.wasi_abi.specs.declared.call.Call.{Call}
 use Rattle.wasi_abi.specs.rules.Calls.{module_name, name_of, call_type_of}
 use Rattle.wasi_abi.specs.rules.Configs.{Settings}

@@ -1,5 +1,5 @@
--- Parts of a module that are read whatever its other parts hold (this project's own, in the words of
--- the binary grammar).
+-- Parts of a module that are read whatever its other parts hold (this project's own, in the words
+-- of the binary grammar).
 use Rattle.std.specs.Prelude.{◌≡◌, ◌≢◌, ◌⊎◌, ℕ, ◌+◌, ◌<◌, ◌≤◌, List, [], ◌∷◌, ◌++◌, length}
 use Rattle.std.specs.Prelude.{count_by, Option, Some, None}
 use Rattle.std.specs.List.{AllByRecursion}

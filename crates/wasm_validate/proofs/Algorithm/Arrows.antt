@@ -13,15 +13,15 @@ use Rattle.wasm_syntax.specs.declared.value.Value.{Value}
 use Rattle.wasm_syntax.specs.declared.value.Value.TheVariants as value
 use Rattle.wasm_syntax.specs.declared.instruction.Instruction.{Instruction}
 use Rattle.wasm_syntax.specs.declared.instruction.Instruction.TheVariants as instr
-use Rattle.wasm_semantics.specs.Types.{IsOf, are_same_types, takes_of, gives_of, loaded_width}
-use Rattle.wasm_semantics.specs.Types.{stored_width, bytes_in}
-use Rattle.wasm_semantics.specs.Typing.{Context, HasInstructionType, HasMemory, IsLabel}
-use Rattle.wasm_semantics.specs.Shapes.{type_of}
+use Rattle.wasm_rules.specs.Types.{IsOf, are_same_types, takes_of, gives_of, loaded_width}
+use Rattle.wasm_rules.specs.Types.{stored_width, bytes_in}
+use Rattle.wasm_rules.specs.Typing.{Context, HasInstructionType, HasMemory, IsLabel}
+use Rattle.wasm_rules.specs.Shapes.{type_of}
 use Rattle.wasm_validate.specs.laws.Checking.{Arrow, Fixed, Jump, Dropping, Selecting, Refused}
 use Rattle.wasm_validate.specs.laws.Checking.{arrow_of_some, only, has_table, has_memory}
 use Rattle.wasm_validate.specs.laws.Checking.{is_variable, is_label, are_labels, is_number}
 use Rattle.wasm_validate.specs.laws.Checking.{arrow_of}
-use Rattle.wasm_semantics.proofs.Soundness.ControlSound.{same_types, are_same}
+use Rattle.wasm_rules.proofs.Soundness.ControlSound.{same_types, are_same}
 use Rattle.wasm_syntax.proofs.Grammar.Rising.{both as both_true, there}
 
 -- the operands p are taken and q left

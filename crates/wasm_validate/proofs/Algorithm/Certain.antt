@@ -8,10 +8,10 @@ use Rattle.wasm_syntax.specs.declared.instruction.Instruction.{Instruction}
 use Rattle.wasm_syntax.specs.declared.instruction.Instruction.TheVariants as instr
 use Rattle.wasm_syntax.specs.laws.ReadingItems.{◌>>=◌, check}
 use Rattle.wasm_syntax.proofs.Grammar.Exact.{bind_some}
-use Rattle.wasm_semantics.specs.Types.{takes_of, gives_of}
-use Rattle.wasm_semantics.specs.Typing.{Context, HasInstructionType}
-use Rattle.wasm_semantics.specs.Shapes.{types_behind}
-use Rattle.wasm_semantics.proofs.TypedShape.{value_type, drop_front}
+use Rattle.wasm_rules.specs.Types.{takes_of, gives_of}
+use Rattle.wasm_rules.specs.Typing.{Context, HasInstructionType}
+use Rattle.wasm_rules.specs.Shapes.{types_behind}
+use Rattle.wasm_rules.proofs.TypedShape.{value_type, drop_front}
 use Rattle.wasm_validate.specs.laws.Checking.{Known, Level, popped_of, popped, agrees}
 use Rattle.wasm_validate.specs.laws.Checking.{operand_taken, all_operands_taken, pushed, all_pushed}
 use Rattle.wasm_validate.specs.laws.Checking.{level_unreached, Arrow, Fixed, Jump, Dropping}

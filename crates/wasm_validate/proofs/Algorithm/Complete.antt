@@ -9,8 +9,8 @@ use Rattle.wasm_syntax.specs.declared.instruction.Instruction.TheVariants as ins
 use Rattle.wasm_syntax.specs.rules.Sequence.{Sequence, Stop, Plain, InBlock, InLoop, InIf, InIfElse}
 use Rattle.wasm_syntax.specs.rules.Sequence.{spelled, IsPlain, IsNested}
 use Rattle.wasm_syntax.specs.laws.ReadingItems.{◌>>=◌, check}
-use Rattle.wasm_semantics.specs.Types.{results_of}
-use Rattle.wasm_semantics.specs.Typing.{Context, HasInstructionType, HasType}
+use Rattle.wasm_rules.specs.Types.{results_of}
+use Rattle.wasm_rules.specs.Typing.{Context, HasInstructionType, HasType}
 use Rattle.wasm_validate.specs.laws.Checking.{Known, Level, arrow_of, applied, labels_of, new_level}
 use Rattle.wasm_validate.specs.laws.Checking.{has_no_operands, level_closed, may_end}
 use Rattle.wasm_validate.specs.laws.Checking.{result_returned, levels_after, checked}

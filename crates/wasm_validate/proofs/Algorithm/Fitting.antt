@@ -14,8 +14,8 @@ use Rattle.wasm_validate.specs.laws.Checking.{Selecting}
 use Rattle.wasm_validate.specs.laws.Checking.{Refused, met, operands_selected, applied}
 use Rattle.wasm_validate.specs.laws.Remaining.{Matches, FitsOperands}
 use Rattle.wasm_validate.proofs.Algorithm.Arrows.{Meets}
-use Rattle.wasm_semantics.proofs.Soundness.ControlSound.{is_same}
-use Rattle.wasm_semantics.proofs.Soundness.ControlSound.{same_type}
+use Rattle.wasm_rules.proofs.Soundness.ControlSound.{is_same}
+use Rattle.wasm_rules.proofs.Soundness.ControlSound.{same_type}
 
 abbrev pub FitsLevel : Level → List ValueType → Type 0
 FitsLevel l types = FitsOperands l.is_reached l.operands types

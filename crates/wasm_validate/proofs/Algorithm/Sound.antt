@@ -10,8 +10,8 @@ use Rattle.wasm_syntax.specs.rules.Sequence.{Sequence, Stop, Plain, InBlock, InL
 use Rattle.wasm_syntax.specs.rules.Sequence.{spelled, IsPlain, IsNested}
 use Rattle.wasm_syntax.specs.laws.ReadingItems.{◌>>=◌, check}
 use Rattle.wasm_syntax.proofs.Grammar.Exact.{bind_some}
-use Rattle.wasm_semantics.specs.Types.{results_of}
-use Rattle.wasm_semantics.specs.Typing.{Context, HasInstructionType, HasType}
+use Rattle.wasm_rules.specs.Types.{results_of}
+use Rattle.wasm_rules.specs.Typing.{Context, HasInstructionType, HasType}
 use Rattle.wasm_validate.specs.laws.Checking.{Known, Level, operand_taken, all_operands_taken}
 use Rattle.wasm_validate.specs.laws.Checking.{arrow_of, applied, labels_of, new_level}
 use Rattle.wasm_validate.specs.laws.Checking.{has_no_operands, level_closed, may_end}

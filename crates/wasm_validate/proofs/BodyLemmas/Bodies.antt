@@ -6,8 +6,8 @@ use Rattle.wasm_syntax.specs.declared.types.FunctionType.{FunctionType}
 use Rattle.wasm_syntax.specs.declared.module.Code.{Code}
 use Rattle.wasm_syntax.specs.declared.instruction.Instruction.TheVariants as instr
 use Rattle.wasm_syntax.specs.rules.Sequence.{spelled}
-use Rattle.wasm_semantics.specs.Types.{gives_of, results_of}
-use Rattle.wasm_semantics.specs.Typing.{Context, HasType, body_context}
+use Rattle.wasm_rules.specs.Types.{gives_of, results_of}
+use Rattle.wasm_rules.specs.Typing.{Context, HasType, body_context}
 use Rattle.wasm_validate.specs.Body.Bodies.{HasBody}
 use Rattle.wasm_validate.specs.laws.Checking.{new_level, checked}
 use Rattle.wasm_validate.specs.laws.Remaining.{Closes, Ends, Remains}

@@ -7,7 +7,7 @@ use Rattle.std.specs.Option.{option_map}
 use Rattle.std.proofs.lemmas.Option.{slice_get-map}
 use Rattle.wasm_syntax.specs.declared.types.ValueType.{ValueType}
 use Rattle.wasm_syntax.specs.laws.ReadingItems.{◌>>=◌, check}
-use Rattle.wasm_semantics.specs.Types.{results_of}
+use Rattle.wasm_rules.specs.Types.{results_of}
 use Rattle.wasm_validate.specs.declared.body.levels.Control.{Control}
 use Rattle.wasm_validate.specs.laws.Checking.{Known, Level, labels_of, has_no_operands}
 use Rattle.wasm_validate.specs.Body.Tops.{top_popped, top_pushed, top_unreached, top_closed}

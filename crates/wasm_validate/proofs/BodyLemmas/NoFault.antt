@@ -13,9 +13,9 @@ use Rattle.wasm_syntax.specs.declared.instruction.Instruction.{Instruction}
 use Rattle.wasm_syntax.specs.declared.instruction.Instruction.TheVariants as instr
 use Rattle.wasm_syntax.specs.rules.Sequence.{Sequence, Stop, Plain, InBlock, InLoop, InIf, InIfElse}
 use Rattle.wasm_syntax.specs.rules.Sequence.{spelled, IsPlain, IsNested, Spells}
-use Rattle.wasm_semantics.specs.Types.{gives_of, results_of}
-use Rattle.wasm_semantics.specs.Typing.{Context, HasInstructionType, HasType, IsLabel, body_context}
-use Rattle.wasm_semantics.specs.laws.Examples.{bare_context}
+use Rattle.wasm_rules.specs.Types.{gives_of, results_of}
+use Rattle.wasm_rules.specs.Typing.{Context, HasInstructionType, HasType, IsLabel, body_context}
+use Rattle.wasm_rules.specs.laws.Examples.{bare_context}
 use Rattle.wasm_validate.specs.rules.Faults.{HasDefinedIndices, HaveDefinedIndices, IsAligned}
 use Rattle.wasm_validate.specs.rules.Faults.{WouldHaveBody, extended, labels_behind, unaligned}
 

@@ -7,7 +7,7 @@ use Rattle.wasm_syntax.specs.declared.instruction.Instruction.{Instruction}
 use Rattle.wasm_syntax.specs.declared.instruction.Instruction.TheVariants as instr
 use Rattle.wasm_syntax.specs.rules.Sequence.{IsPlain}
 use Rattle.wasm_syntax.specs.laws.ReadingItems.{◌>>=◌, check}
-use Rattle.wasm_semantics.specs.Typing.{Context}
+use Rattle.wasm_rules.specs.Typing.{Context}
 use Rattle.wasm_validate.specs.laws.Checking.{Known, Level, popped, agrees, operand_taken}
 use Rattle.wasm_validate.specs.laws.Checking.{all_operands_taken, pushed, all_pushed}
 use Rattle.wasm_validate.specs.laws.Checking.{level_unreached}

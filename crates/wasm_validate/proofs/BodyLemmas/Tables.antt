@@ -6,8 +6,8 @@ use Rattle.wasm_syntax.specs.declared.types.ValueType.{ValueType}
 use Rattle.wasm_syntax.specs.declared.types.ValueType.TheVariants.{I32}
 use Rattle.wasm_syntax.specs.declared.instruction.Instruction.TheVariants as instr
 use Rattle.wasm_syntax.specs.laws.ReadingItems.{◌>>=◌}
-use Rattle.wasm_semantics.specs.Types.{are_same_types}
-use Rattle.wasm_semantics.specs.Typing.{Context}
+use Rattle.wasm_rules.specs.Types.{are_same_types}
+use Rattle.wasm_rules.specs.Typing.{Context}
 use Rattle.wasm_validate.specs.declared.parts.fault.ValidFault.{ValidFault}
 use Rattle.wasm_validate.specs.declared.parts.fault.ValidFault.TheVariants.{Typing, Index}
 use Rattle.wasm_validate.specs.laws.Checking.{Jump, Level, are_labels, arrow_of, arrow_of_some}

@@ -18,9 +18,9 @@ use Rattle.wasm_syntax.specs.rules.Sequence.{Sequence, Stop, Plain, InBlock, InL
 use Rattle.wasm_syntax.specs.rules.Sequence.{spelled, IsPlain, IsNested}
 use Rattle.wasm_syntax.specs.laws.ReadingItems.{◌>>=◌, check}
 use Rattle.wasm_syntax.proofs.Grammar.Rising.{both as both_true}
-use Rattle.wasm_semantics.specs.Types.{are_same_types, bytes_in, gives_of, loaded_width}
-use Rattle.wasm_semantics.specs.Types.{results_of, stored_width, takes_of}
-use Rattle.wasm_semantics.specs.Typing.{Context, HasType, body_context}
+use Rattle.wasm_rules.specs.Types.{are_same_types, bytes_in, gives_of, loaded_width}
+use Rattle.wasm_rules.specs.Types.{results_of, stored_width, takes_of}
+use Rattle.wasm_rules.specs.Typing.{Context, HasType, body_context}
 use Rattle.wasm_validate.specs.declared.parts.fault.ValidFault.{ValidFault}
 use Rattle.wasm_validate.specs.declared.parts.fault.ValidFault.TheVariants.{Typing, Index, Limits}
 use Rattle.wasm_validate.specs.rules.Faults.{WouldHaveBody, extended, labels_behind, unaligned}

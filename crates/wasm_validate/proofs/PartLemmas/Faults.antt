@@ -10,10 +10,10 @@ use Rattle.wasm_syntax.specs.declared.instruction.Instruction.{Instruction}
 use Rattle.wasm_syntax.specs.declared.module.Module.{Module}
 use Rattle.wasm_syntax.specs.declared.module.Export.{Export}
 use Rattle.wasm_syntax.specs.rules.Modules.{function_type_of}
-use Rattle.wasm_semantics.specs.Types.{imported_functions}
-use Rattle.wasm_semantics.specs.Validity.{AreFunctionTypes, HaveDistinctNames, IsConstant}
-use Rattle.wasm_semantics.specs.Validity.{IsExportItemValid, IsIndex, IsStartValid}
-use Rattle.wasm_semantics.proofs.OneProgram.{one_list}
+use Rattle.wasm_rules.specs.Types.{imported_functions}
+use Rattle.wasm_rules.specs.Validity.{AreFunctionTypes, HaveDistinctNames, IsConstant}
+use Rattle.wasm_rules.specs.Validity.{IsExportItemValid, IsIndex, IsStartValid}
+use Rattle.wasm_rules.proofs.OneProgram.{one_list}
 use Rattle.wasm_validate.specs.declared.parts.fault.ValidFault.{ValidFault}
 use Rattle.wasm_validate.specs.declared.parts.fault.ValidFault.TheVariants.{Typing, Index, Limits}
 use Rattle.wasm_validate.specs.declared.parts.fault.ValidFault.TheVariants.{DuplicateExport, Memory}

@@ -13,11 +13,11 @@ use Rattle.wasm_syntax.specs.declared.module.Module.{Module}
 use Rattle.wasm_syntax.specs.declared.module.Import.{Import}
 use Rattle.wasm_syntax.specs.declared.module.ImportItem.{ImportItem}
 use Rattle.wasm_syntax.specs.declared.module.ImportItem.TheVariants as import
-use Rattle.wasm_semantics.specs.Types.{imported_functions, imported_tables, imported_memories}
-use Rattle.wasm_semantics.specs.Types.{with_function_index, with_table_type, with_memory_type}
+use Rattle.wasm_rules.specs.Types.{imported_functions, imported_tables, imported_memories}
+use Rattle.wasm_rules.specs.Types.{with_function_index, with_table_type, with_memory_type}
 use Rattle.wasm_syntax.specs.rules.Modules.{function_type_of}
-use Rattle.wasm_semantics.specs.Validity.{AreTypesAt, IsTableTypeValid, IsMemoryTypeValid}
-use Rattle.wasm_semantics.specs.Validity.{IsValid, memories_of, tables_of}
+use Rattle.wasm_rules.specs.Validity.{AreTypesAt, IsTableTypeValid, IsMemoryTypeValid}
+use Rattle.wasm_rules.specs.Validity.{IsValid, memories_of, tables_of}
 use Rattle.wasm_validate.specs.declared.parts.imports.Before.{Before}
 use Rattle.wasm_validate.specs.declared.parts.fault.ValidFault.{ValidFault}
 use Rattle.wasm_validate.specs.declared.parts.fault.ValidFault.TheVariants.{Typing, Index, Limits}

@@ -6,9 +6,9 @@ use Rattle.wasm_syntax.specs.declared.types.MemoryType.{MemoryType}
 use Rattle.wasm_syntax.specs.declared.module.Import.{Import}
 use Rattle.wasm_syntax.specs.declared.module.ImportItem.{ImportItem}
 use Rattle.wasm_syntax.specs.declared.module.ImportItem.TheVariants as import
-use Rattle.wasm_semantics.specs.Types.{imported_tables, imported_memories, with_table_type}
-use Rattle.wasm_semantics.specs.Types.{with_memory_type}
-use Rattle.wasm_semantics.specs.Validity.{IsTableTypeValid, IsMemoryTypeValid}
+use Rattle.wasm_rules.specs.Types.{imported_tables, imported_memories, with_table_type}
+use Rattle.wasm_rules.specs.Types.{with_memory_type}
+use Rattle.wasm_rules.specs.Validity.{IsTableTypeValid, IsMemoryTypeValid}
 use Rattle.wasm_validate.specs.Parts.Parts.{IsImportedTableValid, IsImportedMemoryValid}
 use Rattle.guest_memory.proofs.Lists.{all_both as all_append}
 

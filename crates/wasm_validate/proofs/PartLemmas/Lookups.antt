@@ -8,7 +8,7 @@ use Rattle.std.proofs.lemmas.Option.{slice_get_past, slice_get-get_or, slice_get
 use Rattle.std.proofs.lemmas.List.Elements.{All-head, All-tail, All-cons, All-nil}
 use Rattle.std.proofs.lemmas.Bool.Decides.{nat_tests}
 use Rattle.wasm_syntax.specs.declared.types.FunctionType.{FunctionType}
-use Rattle.wasm_semantics.specs.Validity.{AreTypesAt}
+use Rattle.wasm_rules.specs.Validity.{AreTypesAt}
 use Rattle.wasm_validate.specs.Parts.Contexts.{HaveTypes}
 
 -- the type of a function is the type at its index

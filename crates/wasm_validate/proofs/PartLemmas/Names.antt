@@ -11,7 +11,7 @@ use Rattle.std.proofs.lemmas.Cmp.{tied_itself, nat_list_cmp_total}
 use Rattle.std.proofs.lemmas.Map.Text.{is_eq-slice_cmp}
 use Rattle.std.proofs.lemmas.Slice.Eq.{bytes_eq-Decides}
 use Rattle.wasm_syntax.specs.declared.module.Export.{Export}
-use Rattle.wasm_semantics.specs.Validity.{HaveDistinctNames}
+use Rattle.wasm_rules.specs.Validity.{HaveDistinctNames}
 use denote.Ref.{Bor}
 use Rattle.guest_memory.proofs.Lists.{all_with}
 

@@ -16,11 +16,11 @@ use Rattle.wasm_syntax.specs.declared.module.Global.{Global}
 use Rattle.wasm_syntax.specs.declared.module.Element.{Element}
 use Rattle.wasm_syntax.specs.declared.module.Data.{Data}
 use Rattle.wasm_syntax.specs.rules.Modules.{function_type_of}
-use Rattle.wasm_semantics.specs.Types.{imported_functions, imported_globals}
-use Rattle.wasm_semantics.specs.Validity.{IsConstant, IsDataValid, IsElementValid}
-use Rattle.wasm_semantics.specs.Validity.{IsFunctionValid, IsGlobalValid, IsIndex, IsStartValid}
-use Rattle.wasm_semantics.specs.Validity.{IsValid, globals_of, module_context}
-use Rattle.wasm_semantics.proofs.OneProgram.{one_list}
+use Rattle.wasm_rules.specs.Types.{imported_functions, imported_globals}
+use Rattle.wasm_rules.specs.Validity.{IsConstant, IsDataValid, IsElementValid}
+use Rattle.wasm_rules.specs.Validity.{IsFunctionValid, IsGlobalValid, IsIndex, IsStartValid}
+use Rattle.wasm_rules.specs.Validity.{IsValid, globals_of, module_context}
+use Rattle.wasm_rules.proofs.OneProgram.{one_list}
 use Rattle.wasm_validate.specs.declared.parts.fault.ValidFault.{ValidFault}
 use Rattle.wasm_validate.specs.declared.parts.fault.ValidFault.TheVariants.{Typing, Index, Limits}
 use Rattle.wasm_validate.specs.declared.parts.fault.ValidFault.TheVariants.{DuplicateExport, Memory}

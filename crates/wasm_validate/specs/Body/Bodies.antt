@@ -4,8 +4,8 @@ use Rattle.std.specs.List.{AllByRecursion}
 use Rattle.wasm_syntax.specs.declared.types.FunctionType.{FunctionType}
 use Rattle.wasm_syntax.specs.declared.module.Code.{Code}
 use Rattle.wasm_syntax.specs.rules.Sequence.{Sequence, Spells}
-use Rattle.wasm_semantics.specs.Types.{gives_of}
-use Rattle.wasm_semantics.specs.Typing.{Context, HasType, body_context}
+use Rattle.wasm_rules.specs.Types.{gives_of}
+use Rattle.wasm_rules.specs.Typing.{Context, HasType, body_context}
 use Rattle.wasm_validate.specs.declared.parts.fault.ValidFault.{ValidFault}
 use Rattle.wasm_validate.specs.rules.Answers.{DeniesOne}
 use Rattle.wasm_validate.specs.rules.Faults.{IsAligned, HaveDefinedIndices, WouldHaveBody}

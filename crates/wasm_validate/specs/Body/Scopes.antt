@@ -1,6 +1,6 @@
 -- What a scope of the code stands for.
 use Rattle.std.specs.Prelude.{◌≡◌, ◌++◌, reverse, Option, Some, None, Result, Ok, Err}
-use Rattle.wasm_semantics.specs.Typing.{Context as Typing}
+use Rattle.wasm_rules.specs.Typing.{Context as Typing}
 use Rattle.wasm_validate.specs.declared.parts.fault.ValidFault.{ValidFault}
 use Rattle.wasm_validate.specs.declared.parts.fault.ValidFault.TheVariants.{Index}
 use Rattle.wasm_validate.specs.Parts.Contexts.{IsContextOf}

@@ -2,8 +2,8 @@
 use Rattle.std.specs.Prelude.{◌≡◌, ◌↔◌, ℕ, IsTrue, List}
 use Rattle.wasm_syntax.specs.declared.types.FunctionType.{FunctionType}
 use Rattle.wasm_syntax.specs.declared.module.Module.{Module}
-use Rattle.wasm_semantics.specs.Typing.{Context as Typing, HasTable, HasMemory}
-use Rattle.wasm_semantics.specs.Validity.{AreTypesAt, AreFunctionTypes, module_context}
+use Rattle.wasm_rules.specs.Typing.{Context as Typing, HasTable, HasMemory}
+use Rattle.wasm_rules.specs.Validity.{AreTypesAt, AreFunctionTypes, module_context}
 use Rattle.wasm_validate.specs.declared.parts.context.ModuleContext.{ModuleContext}
 
 -- what typing looks up is what the code looks up

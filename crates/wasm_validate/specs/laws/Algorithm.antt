@@ -1,7 +1,7 @@
 -- Checking from the front is typing.
 use Rattle.std.specs.Prelude.{◌≡◌, List, [], Some}
 use Rattle.wasm_syntax.specs.declared.instruction.Instruction.{Instruction}
-use Rattle.wasm_semantics.specs.Typing.{Context}
+use Rattle.wasm_rules.specs.Typing.{Context}
 use Rattle.wasm_validate.specs.laws.Checking.{Level, checked}
 use Rattle.wasm_validate.specs.laws.Remaining.{Remains}
 

@@ -12,11 +12,11 @@ use Rattle.wasm_syntax.specs.declared.value.Value.TheVariants as value
 use Rattle.wasm_syntax.specs.declared.instruction.Instruction.{Instruction}
 use Rattle.wasm_syntax.specs.declared.instruction.Instruction.TheVariants as instr
 use Rattle.wasm_syntax.specs.laws.ReadingItems.{◌>>=◌, check}
-use Rattle.wasm_semantics.specs.Types.{is_same_type, are_same_types, conversion_takes}
-use Rattle.wasm_semantics.specs.Types.{conversion_gives, loaded_type, loaded_width, stored_type}
-use Rattle.wasm_semantics.specs.Types.{stored_width, bytes_in, takes_of, gives_of, results_of}
-use Rattle.wasm_semantics.specs.Typing.{Context}
-use Rattle.wasm_semantics.specs.Shapes.{type_of}
+use Rattle.wasm_rules.specs.Types.{is_same_type, are_same_types, conversion_takes}
+use Rattle.wasm_rules.specs.Types.{conversion_gives, loaded_type, loaded_width, stored_type}
+use Rattle.wasm_rules.specs.Types.{stored_width, bytes_in, takes_of, gives_of, results_of}
+use Rattle.wasm_rules.specs.Typing.{Context}
+use Rattle.wasm_rules.specs.Shapes.{type_of}
 
 -- ---- operands
 

@@ -1,7 +1,7 @@
 -- Faults and validity.
 use Rattle.std.specs.Prelude.{◌≡◌}
 use Rattle.wasm_syntax.specs.declared.module.Module.{Module}
-use Rattle.wasm_semantics.specs.Validity.{IsValid}
+use Rattle.wasm_rules.specs.Validity.{IsValid}
 use Rattle.wasm_validate.specs.declared.parts.fault.ValidFault.{ValidFault}
 use Rattle.wasm_validate.specs.declared.parts.fault.ValidFault.TheVariants.{Memory}
 use Rattle.wasm_validate.specs.rules.Faults.{HasFault}

@@ -5,8 +5,8 @@ use Rattle.std.specs.Prelude.{slice_get}
 use Rattle.wasm_syntax.specs.declared.types.ValueType.{ValueType}
 use Rattle.wasm_syntax.specs.declared.instruction.Instruction.{Instruction}
 use Rattle.wasm_syntax.specs.declared.instruction.Instruction.TheVariants as instr
-use Rattle.wasm_semantics.specs.Types.{are_same_types, bytes_in, loaded_width, stored_width}
-use Rattle.wasm_semantics.specs.Typing.{Context}
+use Rattle.wasm_rules.specs.Types.{are_same_types, bytes_in, loaded_width, stored_width}
+use Rattle.wasm_rules.specs.Typing.{Context}
 use Rattle.wasm_validate.specs.declared.parts.fault.ValidFault.{ValidFault}
 use Rattle.wasm_validate.specs.declared.parts.fault.ValidFault.TheVariants.{Typing, Index, Limits}
 use Rattle.wasm_validate.specs.laws.Checking.{Level, has_memory, has_table, labels_of, levels_after}

@@ -5,9 +5,9 @@ use Rattle.std.specs.Prelude.{map, take, Option, Some, None}
 use Rattle.wasm_syntax.specs.declared.types.ValueType.{ValueType}
 use Rattle.wasm_syntax.specs.declared.instruction.Instruction.{Instruction}
 use Rattle.wasm_syntax.specs.rules.Sequence.{Sequence, spelled, IsNested}
-use Rattle.wasm_semantics.specs.Types.{results_of}
-use Rattle.wasm_semantics.specs.Typing.{Context, HasType}
-use Rattle.wasm_semantics.specs.Shapes.{Shape, body_shape}
+use Rattle.wasm_rules.specs.Types.{results_of}
+use Rattle.wasm_rules.specs.Typing.{Context, HasType}
+use Rattle.wasm_rules.specs.Shapes.{Shape, body_shape}
 use Rattle.wasm_validate.specs.rules.Operands.{types_below}
 use Rattle.wasm_validate.specs.laws.Checking.{Known, Level, new_level, checked}
 

@@ -16,13 +16,13 @@ use Rattle.wasm_syntax.specs.declared.module.Element.{Element}
 use Rattle.wasm_syntax.specs.declared.module.Data.{Data}
 use Rattle.wasm_syntax.specs.declared.module.Code.{Code}
 use Rattle.wasm_syntax.specs.rules.Sequence.{Sequence, Spells}
-use Rattle.wasm_semantics.specs.Types.{bytes_in, gives_of, imported_globals, loaded_width}
-use Rattle.wasm_semantics.specs.Types.{results_of, stored_width}
-use Rattle.wasm_semantics.specs.Typing.{Context, HasType, body_context}
-use Rattle.wasm_semantics.specs.Validity.{AreFunctionTypes, HaveDistinctNames, IsConstant}
-use Rattle.wasm_semantics.specs.Validity.{IsExportItemValid, IsFunctionTypeValid, IsIndex}
-use Rattle.wasm_semantics.specs.Validity.{IsMemoryTypeValid, IsStartValid, IsTableTypeValid}
-use Rattle.wasm_semantics.specs.Validity.{globals_of, memories_of, module_context, tables_of}
+use Rattle.wasm_rules.specs.Types.{bytes_in, gives_of, imported_globals, loaded_width}
+use Rattle.wasm_rules.specs.Types.{results_of, stored_width}
+use Rattle.wasm_rules.specs.Typing.{Context, HasType, body_context}
+use Rattle.wasm_rules.specs.Validity.{AreFunctionTypes, HaveDistinctNames, IsConstant}
+use Rattle.wasm_rules.specs.Validity.{IsExportItemValid, IsFunctionTypeValid, IsIndex}
+use Rattle.wasm_rules.specs.Validity.{IsMemoryTypeValid, IsStartValid, IsTableTypeValid}
+use Rattle.wasm_rules.specs.Validity.{globals_of, memories_of, module_context, tables_of}
 use Rattle.wasm_validate.specs.declared.parts.fault.ValidFault.{ValidFault}
 use Rattle.wasm_validate.specs.declared.parts.fault.ValidFault.TheVariants.{Typing, Index, Limits}
 use Rattle.wasm_validate.specs.declared.parts.fault.ValidFault.TheVariants.{DuplicateExport, Memory}

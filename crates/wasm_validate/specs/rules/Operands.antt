@@ -3,8 +3,8 @@ use Rattle.std.specs.Prelude.{ℕ, List, [], ◌∷◌, ◌++◌, reverse, Optio
 use Rattle.std.specs.Option.{option_map}
 use Rattle.wasm_syntax.specs.declared.types.ValueType.{ValueType}
 use Rattle.wasm_syntax.specs.rules.Sequence.{Sequence}
-use Rattle.wasm_semantics.specs.Typing.{Context}
-use Rattle.wasm_semantics.specs.Shapes.{Shape, LabelShape, ShapeOf, body_shape}
+use Rattle.wasm_rules.specs.Typing.{Context}
+use Rattle.wasm_rules.specs.Shapes.{Shape, LabelShape, ShapeOf, body_shape}
 
 -- the types of the values below the labels, the last one first
 abbrev pub types_below : List LabelShape → List ValueType

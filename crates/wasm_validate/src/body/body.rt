@@ -2,9 +2,9 @@
 
 ghost use Rattle.std.specs.Prelude.{◌≡◌, ◌≢◌, ◌≤◌, ◌∷◌, [], false, length, IfErr, IfOk};
 ghost use Rattle.std.specs.Prelude.{MatchResult, OnOk};
-ghost use Rattle.wasm_semantics.specs.Types.{gives_of, results_of};
-ghost use Rattle.wasm_semantics.specs.Typing.{Context as Typing, body_context};
-ghost use Rattle.wasm_semantics.specs.Shapes.{body_shape};
+ghost use Rattle.wasm_rules.specs.Types.{gives_of, results_of};
+ghost use Rattle.wasm_rules.specs.Typing.{Context as Typing, body_context};
+ghost use Rattle.wasm_rules.specs.Shapes.{body_shape};
 ghost use Rattle.wasm_validate.specs.declared.parts.fault.ValidFault.TheVariants as faults;
 ghost use Rattle.wasm_validate.specs.rules.Answers.{Judges};
 ghost use Rattle.wasm_validate.specs.rules.Operands.{types_at};

@@ -2,8 +2,8 @@
 
 ghost use Rattle.std.specs.Prelude.{◌≡◌, ◌≢◌, []};
 ghost use Rattle.wasm_syntax.specs.declared.instruction.Instruction.TheVariants as instr;
-ghost use Rattle.wasm_semantics.specs.Types.{are_same_types, results_of};
-ghost use Rattle.wasm_semantics.specs.Typing.{Context as Typing};
+ghost use Rattle.wasm_rules.specs.Types.{are_same_types, results_of};
+ghost use Rattle.wasm_rules.specs.Typing.{Context as Typing};
 ghost use Rattle.wasm_validate.specs.Body.Answers.{LevelsFollow, Performs, Tests};
 ghost use Rattle.wasm_validate.specs.laws.Checking.{are_labels, labels_of, levels_after};
 ghost use Rattle.wasm_validate.specs.laws.FirstFault.{labels_fault};

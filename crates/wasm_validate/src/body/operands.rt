@@ -2,7 +2,7 @@
 
 ghost use Rattle.std.specs.Prelude.{◌≡◌, ◌∷◌, [], reverse, OnOk};
 ghost use Rattle.wasm_syntax.specs.declared.types.ValueType.TheVariants as value_type;
-ghost use Rattle.wasm_semantics.specs.Types.{results_of};
+ghost use Rattle.wasm_rules.specs.Types.{results_of};
 ghost use Rattle.wasm_validate.specs.Body.Answers.{LevelsFollow, OnlyMemory};
 ghost use Rattle.wasm_validate.specs.laws.Checking.{Fixed, Jump, Dropping, Selecting};
 ghost use Rattle.wasm_validate.specs.Body.Tops.{top_taken, top_all_taken, top_all_pushed};

@@ -1,9 +1,9 @@
 //! What loads and stores take and give.
 
 ghost use Rattle.std.specs.Prelude.{◌≡◌, ◌≤◌, ◌^◌, nat_le};
-ghost use Rattle.wasm_semantics.specs.Types.{loaded_type as type_of_load, loaded_width};
-ghost use Rattle.wasm_semantics.specs.Types.{stored_type as type_of_store, stored_width};
-ghost use Rattle.wasm_semantics.specs.Types.{bytes_in, conversion_takes, conversion_gives};
+ghost use Rattle.wasm_rules.specs.Types.{loaded_type as type_of_load, loaded_width};
+ghost use Rattle.wasm_rules.specs.Types.{stored_type as type_of_store, stored_width};
+ghost use Rattle.wasm_rules.specs.Types.{bytes_in, conversion_takes, conversion_gives};
 
 use wasm_syntax::{Conversion, LoadOperator, StoreOperator, ValueType};
 

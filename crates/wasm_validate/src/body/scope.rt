@@ -1,7 +1,7 @@
 //! What the body of a function looks up.
 
 ghost use Rattle.std.specs.Prelude.{◌≡◌, ◌↔◌, IsTrue, slice_get, option_copied};
-ghost use Rattle.wasm_semantics.specs.Typing.{Context as Typing, HasTable, HasMemory};
+ghost use Rattle.wasm_rules.specs.Typing.{Context as Typing, HasTable, HasMemory};
 ghost use Rattle.wasm_validate.specs.Body.Scopes.{IsScopeOf, LooksUp};
 
 use crate::parts::{ModuleContext, ValidFault};

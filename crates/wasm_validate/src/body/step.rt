@@ -1,7 +1,7 @@
 //! One opcode of a body.
 
 ghost use Rattle.std.specs.Prelude.{◌≡◌};
-ghost use Rattle.wasm_semantics.specs.Typing.{Context as Typing};
+ghost use Rattle.wasm_rules.specs.Typing.{Context as Typing};
 ghost use Rattle.wasm_validate.specs.Body.Answers.{LevelsFollow, Performs};
 ghost use Rattle.wasm_validate.specs.laws.Checking.{levels_after};
 ghost use Rattle.wasm_validate.specs.laws.FirstFault.{opcode_fault};

@@ -3,8 +3,8 @@
 ghost use Rattle.std.specs.Prelude.{◌≡◌, ◌≢◌, [], ◌∷◌, MatchOption};
 ghost use Rattle.wasm_syntax.specs.declared.instruction.Instruction.{Instruction as Opcode};
 ghost use Rattle.wasm_syntax.specs.declared.instruction.Instruction.TheVariants as instr;
-ghost use Rattle.wasm_semantics.specs.Types.{IsOf};
-ghost use Rattle.wasm_semantics.specs.Validity.{IsConstant, IsIndex};
+ghost use Rattle.wasm_rules.specs.Types.{IsOf};
+ghost use Rattle.wasm_rules.specs.Validity.{IsConstant, IsIndex};
 ghost use Rattle.wasm_validate.specs.rules.Answers.{Demands, DemandsInTurn};
 ghost use Rattle.wasm_validate.specs.rules.Faults.{NamesGlobal};
 ghost use Rattle.wasm_validate.specs.Parts.Parts.{IsConstantGlobal};

@@ -2,10 +2,10 @@
 
 ghost use Rattle.std.specs.Prelude.{◌≡◌, ◌++◌, ◌↔◌, length, map, IsTrue, IfOk, IfErr, OnOk};
 ghost use Rattle.std.specs.Prelude.{slice_get, option_copied};
-ghost use Rattle.wasm_semantics.specs.Types.{imported_functions};
-ghost use Rattle.wasm_semantics.specs.Typing.{Context as Typing, HasTable, HasMemory};
+ghost use Rattle.wasm_rules.specs.Types.{imported_functions};
+ghost use Rattle.wasm_rules.specs.Typing.{Context as Typing, HasTable, HasMemory};
 ghost use Rattle.wasm_syntax.specs.rules.Modules.{function_type_of};
-ghost use Rattle.wasm_semantics.specs.Validity.{globals_of};
+ghost use Rattle.wasm_rules.specs.Validity.{globals_of};
 ghost use Rattle.wasm_validate.specs.rules.Answers.{IsFor};
 ghost use Rattle.wasm_validate.specs.Parts.Contexts.{IsContextOf, IsContextOfModule};
 ghost use Rattle.wasm_validate.specs.Parts.Contexts.{HasFunctionTypes};

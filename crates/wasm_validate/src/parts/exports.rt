@@ -7,7 +7,7 @@ ghost use Rattle.std.specs.Prelude.{◌↔◌, IsTrue, List};
 ghost use Rattle.std.specs.List.{AllByRecursion};
 ghost use Rattle.wasm_syntax.specs.declared.module.Module.{Module as TheModule};
 ghost use Rattle.wasm_syntax.specs.declared.types.FunctionType.{FunctionType as Signature};
-ghost use Rattle.wasm_semantics.specs.Validity.{IsExportItemValid, HaveDistinctNames};
+ghost use Rattle.wasm_rules.specs.Validity.{IsExportItemValid, HaveDistinctNames};
 ghost use Rattle.wasm_validate.specs.rules.Answers.{JudgesExports};
 ghost use Rattle.wasm_validate.specs.Parts.Parts.{IsModuleContext};
 

@@ -1,7 +1,7 @@
 //! Why a module is not valid.
 //!
 //! **The kind of a fault is one that the module has** (`HasFault`). Indices and limits are read off
-//! the module. A wrong type is harder: what isn't defined has no type. So `Typing` says that no
+//! the module. A wrong type is harder: what isn't defined has no type. `Typing` says that no
 //! context with more in it would give the body a type, nor labels around it. Such a body has a
 //! fault of typing whatever its indices name. The proof checks the body within further open
 //! sequences.

@@ -2,8 +2,8 @@
 
 ghost use Rattle.std.specs.Prelude.{IfErr};
 ghost use Rattle.std.specs.List.{AllByRecursion};
-ghost use Rattle.wasm_semantics.specs.Types.{imported_globals};
-ghost use Rattle.wasm_semantics.specs.Validity.{IsConstant, IsGlobalValid};
+ghost use Rattle.wasm_rules.specs.Types.{imported_globals};
+ghost use Rattle.wasm_rules.specs.Validity.{IsConstant, IsGlobalValid};
 ghost use Rattle.wasm_validate.specs.rules.Answers.{Decides};
 ghost use Rattle.wasm_validate.specs.Parts.Contexts.{HasFunctionTypes, IsContextOfModule};
 ghost use Rattle.wasm_validate.specs.Parts.Parts.{IsFaultInGlobals};

@@ -1,8 +1,8 @@
 //! Indices (section 2.5.1).
 
 ghost use Rattle.std.specs.Prelude.{◌≤◌, ◌<◌, ◌↔◌, IsTrue, All, length};
-ghost use Rattle.wasm_semantics.specs.Typing.{Context as Typing};
-ghost use Rattle.wasm_semantics.specs.Validity.{IsIndex};
+ghost use Rattle.wasm_rules.specs.Typing.{Context as Typing};
+ghost use Rattle.wasm_rules.specs.Validity.{IsIndex};
 ghost use Rattle.wasm_validate.specs.Parts.Contexts.{IsContextOf};
 
 use crate::parts::context::ModuleContext;

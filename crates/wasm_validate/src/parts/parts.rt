@@ -1,6 +1,6 @@
-//! The checks of a whole module but the bodies (section 3.4.10). They go in this order: types,
-//! imports, functions, tables, memories, globals, exports, the start function, element segments,
-//! data segments.
+//! The checks of a whole module but the bodies (section 3.4.10), in this order: types, imports,
+//! functions, tables, memories, globals, exports, the start function, element segments, data
+//! segments.
 //!
 //! Types and imports have a pass of their own before the types of functions are looked up, for the
 //! sake of that order. The clause of this pass (`IsFirstTypeFault`) names its first fault. Of the
@@ -9,7 +9,7 @@
 ghost use Rattle.std.specs.Prelude.{List, IfErr, OnOk};
 ghost use Rattle.std.specs.List.{AllByRecursion};
 ghost use Rattle.wasm_syntax.specs.declared.types.FunctionType.{FunctionType as Signature};
-ghost use Rattle.wasm_semantics.specs.Validity.{AreFunctionTypes, IsFunctionTypeValid, IsValid};
+ghost use Rattle.wasm_rules.specs.Validity.{AreFunctionTypes, IsFunctionTypeValid, IsValid};
 ghost use Rattle.wasm_validate.specs.rules.Answers.{Decides, Denies, Judges};
 ghost use Rattle.wasm_validate.specs.rules.Faults.{HasFault};
 ghost use Rattle.wasm_validate.specs.Parts.Contexts.{HasFunctionTypes, IsContextOfModule};

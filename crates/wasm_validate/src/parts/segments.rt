@@ -4,7 +4,7 @@ ghost use Rattle.std.specs.Prelude.{List, IfErr};
 ghost use Rattle.std.specs.List.{AllByRecursion};
 ghost use Rattle.wasm_syntax.specs.declared.module.Module.{Module as TheModule};
 ghost use Rattle.wasm_syntax.specs.declared.types.FunctionType.{FunctionType as Signature};
-ghost use Rattle.wasm_semantics.specs.Validity.{IsElementValid, IsDataValid};
+ghost use Rattle.wasm_rules.specs.Validity.{IsElementValid, IsDataValid};
 ghost use Rattle.wasm_validate.specs.rules.Answers.{Decides};
 ghost use Rattle.wasm_validate.specs.Parts.Parts.{IsFaultInData, IsFaultInElements, IsFaultOfData};
 ghost use Rattle.wasm_validate.specs.Parts.Parts.{IsFaultOfElement, IsModuleContext};

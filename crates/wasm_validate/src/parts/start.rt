@@ -1,8 +1,8 @@
 //! The start function (section 3.4.7).
 
 ghost use Rattle.std.specs.Prelude.{IfSome};
-ghost use Rattle.wasm_semantics.specs.Typing.{Context as Typing};
-ghost use Rattle.wasm_semantics.specs.Validity.{IsIndex, IsStartValid};
+ghost use Rattle.wasm_rules.specs.Typing.{Context as Typing};
+ghost use Rattle.wasm_rules.specs.Validity.{IsIndex, IsStartValid};
 ghost use Rattle.wasm_validate.specs.rules.Answers.{DemandsInTurn};
 ghost use Rattle.wasm_validate.specs.Parts.Contexts.{IsContextOf};
 

@@ -1,5 +1,5 @@
 use Rattle.std.proofs.Common.{sym, ◌<◌, length, arith}
-use Rattle.wasm_semantics.specs.Validity.{module_context}
+use Rattle.wasm_rules.specs.Validity.{module_context}
 use Rattle.wasm_validate.proofs.Functions.{no_type, many_results, judged, body_told, not_named}
 use Rattle.wasm_validate.proofs.Functions.{too_many}
 use Rattle.wasm_validate.proofs.bodies.check_function.Goals as goal

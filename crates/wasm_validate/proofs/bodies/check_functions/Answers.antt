@@ -1,5 +1,5 @@
 use Rattle.std.proofs.lemmas.Result.{err_from_is_err_and}
-use Rattle.wasm_semantics.specs.Validity.{IsFunctionValid}
+use Rattle.wasm_rules.specs.Validity.{IsFunctionValid}
 use Rattle.wasm_validate.proofs.PartLemmas.Loops.{passes, passed, of_all}
 use Rattle.wasm_validate.proofs.PartLemmas.Denied.{denies_still}
 use Rattle.wasm_validate.specs.rules.Faults.{IsFunctionAligned, AreFunctionIndicesDefined}

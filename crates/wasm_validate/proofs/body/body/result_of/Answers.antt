@@ -1,7 +1,7 @@
 use Rattle.std.proofs.Common.{◌≡◌, ◌≤◌, List, [], ◌∷◌, length, refl, ap, ◌∙◌, arith}
 use Rattle.std.specs.Prelude.{slice_get, reverse}
 use Rattle.wasm_syntax.specs.declared.types.ValueType.{ValueType}
-use Rattle.wasm_semantics.specs.Types.{results_of}
+use Rattle.wasm_rules.specs.Types.{results_of}
 use Rattle.wasm_validate.proofs.body.body.result_of.Goals as goal
 
 only_result : (results : List ValueType) → length results ≤ 1

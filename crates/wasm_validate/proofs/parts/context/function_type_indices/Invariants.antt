@@ -1,5 +1,5 @@
 use Rattle.std.proofs.Common.{◌≡◌, ◌++◌, drop, map}
-use Rattle.wasm_semantics.specs.Types.{imported_functions}
+use Rattle.wasm_rules.specs.Types.{imported_functions}
 use Rattle.wasm_syntax.specs.rules.Modules.{function_type_of}
 use Rattle.wasm_validate.proofs.parts.context.function_type_indices.Given as goal
 

@@ -1,6 +1,6 @@
 use Rattle.std.proofs.Common.{◌≡◌, ◌++◌, drop, map}
-use Rattle.wasm_semantics.specs.Types.{imported_globals, global_type_of}
-use Rattle.wasm_semantics.specs.Validity.{globals_of}
+use Rattle.wasm_rules.specs.Types.{imported_globals, global_type_of}
+use Rattle.wasm_rules.specs.Validity.{globals_of}
 use Rattle.wasm_validate.proofs.parts.context.global_types.Given as goal
 
 abbrev pub invariant-loop-import : goal.invariant-loop-import

@@ -1,5 +1,5 @@
 use Rattle.std.proofs.Common.{◌≡◌, ◌+◌, ◌≤◌, length, drop}
-use Rattle.wasm_semantics.specs.Types.{imported_memories}
+use Rattle.wasm_rules.specs.Types.{imported_memories}
 use Rattle.wasm_validate.proofs.parts.counts.imported_memory_count.Given as goal
 
 abbrev pub invariant-loop-import : goal.invariant-loop-import

@@ -1,7 +1,7 @@
 use Rattle.std.proofs.Common.{◌≡◌, ◌+◌, ℕ, drop, not, List, Bor, sym, ◌∙◌, subst}
 use Rattle.std.specs.BTreeSet.{insert_key}
 use Rattle.wasm_syntax.specs.declared.module.Export.{Export}
-use Rattle.wasm_semantics.specs.Validity.{IsExportItemValid}
+use Rattle.wasm_rules.specs.Validity.{IsExportItemValid}
 use Rattle.wasm_validate.proofs.PartLemmas.Loops.{passes, next}
 use Rattle.wasm_validate.proofs.PartLemmas.Names.{AreNewNames, IsNewName, has_name, name_cmp}
 use Rattle.wasm_validate.proofs.PartLemmas.Names.{not_false, not_true, new_from_absent}

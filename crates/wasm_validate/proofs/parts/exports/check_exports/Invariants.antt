@@ -2,7 +2,7 @@ use Rattle.std.proofs.Common.{◌↔◌, List, drop}
 use Rattle.wasm_syntax.specs.declared.module.Module.{Module}
 use Rattle.wasm_syntax.specs.declared.module.Export.{Export}
 use Rattle.wasm_syntax.specs.declared.types.FunctionType.{FunctionType}
-use Rattle.wasm_semantics.specs.Validity.{IsExportItemValid, HaveDistinctNames}
+use Rattle.wasm_rules.specs.Validity.{IsExportItemValid, HaveDistinctNames}
 use Rattle.wasm_validate.specs.Parts.Parts.{IsModuleContext}
 use Rattle.wasm_validate.proofs.PartLemmas.Loops.{Passed}
 use Rattle.wasm_validate.proofs.PartLemmas.Names.{AreNewNames}

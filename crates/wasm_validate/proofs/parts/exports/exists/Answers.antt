@@ -1,6 +1,6 @@
 use Rattle.std.proofs.Common.{◌↔◌, IsTrue, sym, subst}
 use Rattle.wasm_syntax.specs.declared.module.ExportItem.{ExportItem}
-use Rattle.wasm_semantics.specs.Validity.{module_context, IsExportItemValid}
+use Rattle.wasm_rules.specs.Validity.{module_context, IsExportItemValid}
 use Rattle.wasm_validate.proofs.parts.exports.exists.Goals as goal
 
 pub returns-in-Function : goal.returns-in-Function

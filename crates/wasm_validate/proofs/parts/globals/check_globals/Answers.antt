@@ -2,8 +2,8 @@ use Rattle.std.proofs.Common.{length, map, ap, ◌∙◌, List, subst, take}
 use Rattle.std.specs.List.{AllByRecursion}
 use Rattle.wasm_syntax.specs.declared.types.GlobalType.{GlobalType}
 use Rattle.wasm_syntax.specs.declared.module.Global.{Global}
-use Rattle.wasm_semantics.specs.Types.{imported_globals, global_type_of}
-use Rattle.wasm_semantics.specs.Validity.{module_context, IsConstant}
+use Rattle.wasm_rules.specs.Types.{imported_globals, global_type_of}
+use Rattle.wasm_rules.specs.Validity.{module_context, IsConstant}
 use Rattle.wasm_validate.specs.rules.Answers.{Decides}
 use Rattle.wasm_validate.proofs.PartLemmas.Lookups.{take-front, length-front}
 use Rattle.std.specs.Prelude.{IfErr}

@@ -2,7 +2,7 @@ use Rattle.std.proofs.Common.{sym, subst, List}
 use Rattle.std.proofs.lemmas.Result.{err_from_is_err_and}
 use Rattle.wasm_syntax.specs.declared.instruction.Instruction.{Instruction}
 use Rattle.wasm_syntax.specs.declared.module.Global.{Global}
-use Rattle.wasm_semantics.specs.Validity.{IsConstant}
+use Rattle.wasm_rules.specs.Validity.{IsConstant}
 use Rattle.wasm_validate.proofs.PartLemmas.Loops.{passes, of_all}
 use Rattle.wasm_validate.proofs.PartLemmas.Denied.{turn_as}
 use Rattle.wasm_validate.specs.rules.Answers.{DeniesOne}

@@ -1,5 +1,5 @@
 use Rattle.wasm_syntax.specs.declared.module.Global.{Global}
-use Rattle.wasm_semantics.specs.Validity.{IsConstant}
+use Rattle.wasm_rules.specs.Validity.{IsConstant}
 use Rattle.wasm_validate.proofs.PartLemmas.Loops.{Passed}
 use Rattle.wasm_validate.proofs.parts.globals.check_initial_values.Given as goal
 

@@ -2,7 +2,7 @@ use Rattle.std.proofs.Common.{◌↔◌, IsTrue, List, refl, subst}
 use Rattle.std.specs.List.{AllByRecursion}
 use Rattle.wasm_syntax.specs.declared.types.MemoryType.{MemoryType}
 use Rattle.wasm_syntax.specs.declared.module.Import.{Import}
-use Rattle.wasm_semantics.specs.Validity.{IsMemoryTypeValid}
+use Rattle.wasm_rules.specs.Validity.{IsMemoryTypeValid}
 use Rattle.wasm_validate.proofs.PartLemmas.Imported.{IsMemoryImportValid, memories_by_own}
 use Rattle.wasm_validate.proofs.PartLemmas.Imported.{no_memories}
 use Rattle.wasm_validate.proofs.parts.limits.are_memories_valid.Goals as goal

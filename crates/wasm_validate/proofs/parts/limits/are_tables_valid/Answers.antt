@@ -2,7 +2,7 @@ use Rattle.std.proofs.Common.{◌↔◌, IsTrue, List, refl, subst}
 use Rattle.std.specs.List.{AllByRecursion}
 use Rattle.wasm_syntax.specs.declared.types.TableType.{TableType}
 use Rattle.wasm_syntax.specs.declared.module.Import.{Import}
-use Rattle.wasm_semantics.specs.Validity.{IsTableTypeValid}
+use Rattle.wasm_rules.specs.Validity.{IsTableTypeValid}
 use Rattle.wasm_validate.proofs.PartLemmas.Imported.{IsTableImportValid, tables_by_own, no_tables}
 use Rattle.wasm_validate.proofs.parts.limits.are_tables_valid.Goals as goal
 

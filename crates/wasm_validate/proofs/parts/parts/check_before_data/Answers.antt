@@ -5,8 +5,8 @@ use Rattle.std.proofs.lemmas.Result.{err_from_is_err_and}
 use Rattle.wasm_syntax.specs.declared.types.FunctionType.{FunctionType}
 use Rattle.wasm_syntax.specs.declared.module.Export.{Export}
 use Rattle.wasm_syntax.specs.declared.module.Element.{Element}
-use Rattle.wasm_semantics.specs.Validity.{module_context, IsFunctionTypeValid, IsExportItemValid}
-use Rattle.wasm_semantics.specs.Validity.{HaveDistinctNames, IsElementValid}
+use Rattle.wasm_rules.specs.Validity.{module_context, IsFunctionTypeValid, IsExportItemValid}
+use Rattle.wasm_rules.specs.Validity.{HaveDistinctNames, IsElementValid}
 use Rattle.wasm_validate.specs.rules.Answers.{Decides, JudgesExports}
 use Rattle.wasm_validate.specs.Parts.Parts.{IsFaultInElements, IsModuleContext}
 use Rattle.wasm_validate.proofs.PartLemmas.Denied.{turn_as, denies_as, judges_as}

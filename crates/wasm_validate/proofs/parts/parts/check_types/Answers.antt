@@ -4,7 +4,7 @@ use Rattle.std.proofs.lemmas.Result.{err_from_is_err_and}
 use Rattle.std.specs.Prelude.{IfErr}
 use Rattle.wasm_syntax.specs.declared.types.FunctionType.{FunctionType}
 use Rattle.wasm_syntax.specs.declared.module.Import.{Import}
-use Rattle.wasm_semantics.specs.Validity.{IsFunctionTypeValid}
+use Rattle.wasm_rules.specs.Validity.{IsFunctionTypeValid}
 use Rattle.wasm_validate.specs.declared.parts.fault.ValidFault.TheVariants.{Limits}
 use Rattle.wasm_validate.specs.Parts.Parts.{IsFirstImportFault, nothing_before}
 use Rattle.wasm_validate.proofs.PartLemmas.ImportFaults.{imports_denied, imports_told}

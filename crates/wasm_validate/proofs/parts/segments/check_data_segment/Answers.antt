@@ -1,5 +1,5 @@
 use Rattle.std.proofs.Common.{refl}
-use Rattle.wasm_semantics.specs.Validity.{module_context}
+use Rattle.wasm_rules.specs.Validity.{module_context}
 use Rattle.wasm_validate.specs.rules.Faults.{NamesGlobal}
 use Rattle.wasm_validate.proofs.PartLemmas.Denied.{decides_as}
 use Rattle.wasm_validate.proofs.PartLemmas.Lookups.{is_false}

@@ -1,7 +1,7 @@
 use Rattle.std.proofs.Common.{List}
 use Rattle.wasm_syntax.specs.declared.module.Module.{Module}
 use Rattle.wasm_syntax.specs.declared.types.FunctionType.{FunctionType}
-use Rattle.wasm_semantics.specs.Validity.{IsElementValid}
+use Rattle.wasm_rules.specs.Validity.{IsElementValid}
 use Rattle.wasm_validate.specs.Parts.Parts.{IsModuleContext}
 use Rattle.wasm_validate.proofs.PartLemmas.Loops.{Passed}
 use Rattle.wasm_validate.proofs.parts.segments.check_elements.Given as goal

@@ -1,6 +1,6 @@
 use Rattle.std.proofs.Common.{◌≡◌, List, [], ◌∷◌, Option, Some, None, false, sym, ap, ◌∙◌}
 use Rattle.std.proofs.lemmas.Result.{err_from_is_err_and}
-use Rattle.wasm_semantics.specs.Typing.{body_context}
+use Rattle.wasm_rules.specs.Typing.{body_context}
 use Rattle.wasm_validate.specs.laws.Checking.{Level, new_level, checked}
 use Rattle.wasm_validate.specs.laws.FirstFault.{fault_in}
 use Rattle.wasm_validate.proofs.BodyLemmas.Fails.{denies, denies_one}

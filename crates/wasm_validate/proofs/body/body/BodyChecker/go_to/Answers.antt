@@ -1,8 +1,8 @@
 use Rattle.std.proofs.Common.{◌<◌, ◌∷◌, [], false, length, take, Ok, sym, ap, ◌∙◌, subst, arith}
 use Rattle.std.proofs.lemmas.Result.{err_from_is_err_and}
-use Rattle.wasm_semantics.specs.Types.{results_of}
-use Rattle.wasm_semantics.specs.Typing.{body_context}
-use Rattle.wasm_semantics.specs.Shapes.{body_shape}
+use Rattle.wasm_rules.specs.Types.{results_of}
+use Rattle.wasm_rules.specs.Typing.{body_context}
+use Rattle.wasm_rules.specs.Shapes.{body_shape}
 use Rattle.wasm_validate.specs.Body.Answers.{FailsToCheck, TellsReach}
 use Rattle.wasm_validate.specs.Body.Tops.{top_all_pushed}
 use Rattle.wasm_validate.specs.laws.Checking.{new_level, checked}

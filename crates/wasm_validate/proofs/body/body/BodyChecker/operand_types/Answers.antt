@@ -1,6 +1,6 @@
 use Rattle.std.proofs.Common.{ap, ◌∙◌, subst}
-use Rattle.wasm_semantics.specs.Typing.{body_context}
-use Rattle.wasm_semantics.specs.Shapes.{body_shape}
+use Rattle.wasm_rules.specs.Typing.{body_context}
+use Rattle.wasm_rules.specs.Shapes.{body_shape}
 use Rattle.wasm_validate.specs.Body.Answers.{IsReached}
 use Rattle.wasm_validate.specs.Body.Known.{types_if_known}
 use Rattle.wasm_validate.proofs.BodyLemmas.Positions.{types_found}

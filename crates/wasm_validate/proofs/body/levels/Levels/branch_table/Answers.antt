@@ -1,5 +1,5 @@
 use Rattle.std.proofs.lemmas.Result.{err_from_is_err_and}
-use Rattle.wasm_semantics.specs.Types.{results_of}
+use Rattle.wasm_rules.specs.Types.{results_of}
 use Rattle.wasm_validate.specs.laws.Checking.{labels_of}
 use Rattle.wasm_validate.proofs.BodyLemmas.Tables.{label_fails, number_fails, operands_fail}
 use Rattle.wasm_validate.proofs.body.levels.Levels.branch_table.Goals as goal

@@ -4,7 +4,7 @@ use Rattle.std.specs.Prelude.{slice_get, ◌&&◌}
 use Rattle.std.proofs.lemmas.List.{at_drop_more, at_drop_all}
 use Rattle.std.proofs.lemmas.Result.{err_from_is_err_and}
 use Rattle.wasm_syntax.specs.declared.types.ValueType.{ValueType}
-use Rattle.wasm_semantics.specs.Types.{results_of, are_same_types}
+use Rattle.wasm_rules.specs.Types.{results_of, are_same_types}
 use Rattle.wasm_validate.specs.declared.parts.fault.ValidFault.TheVariants.{Typing, Index}
 use Rattle.wasm_validate.specs.laws.Checking.{labels_of, is_label, are_labels}
 use Rattle.wasm_validate.specs.laws.FirstFault.{fault_at, fault_unless, labels_fault}

@@ -1,5 +1,5 @@
 use Rattle.std.proofs.Common.{◌≡◌, drop}
-use Rattle.wasm_semantics.specs.Types.{results_of}
+use Rattle.wasm_rules.specs.Types.{results_of}
 use Rattle.wasm_validate.specs.laws.Checking.{labels_of, are_labels}
 use Rattle.wasm_validate.specs.laws.FirstFault.{labels_fault}
 use Rattle.wasm_validate.proofs.body.levels.Levels.expect_labels.Given as goal

@@ -3,7 +3,7 @@ use Rattle.std.proofs.lemmas.List.{at_drop_more, at_drop_all}
 use Rattle.std.proofs.lemmas.Result.{err_from_is_err_and}
 use Rattle.wasm_syntax.specs.declared.instruction.Instruction.{Instruction}
 use Rattle.wasm_syntax.specs.laws.ReadingItems.{◌>>=◌}
-use Rattle.wasm_semantics.specs.Typing.{Context as Typing}
+use Rattle.wasm_rules.specs.Typing.{Context as Typing}
 use Rattle.wasm_validate.specs.laws.Checking.{Level, levels_after, checked}
 use Rattle.wasm_validate.specs.laws.FirstFault.{fault_from, fault_in, opcode_fault}
 use Rattle.wasm_validate.proofs.BodyLemmas.Fails.{fails_to}

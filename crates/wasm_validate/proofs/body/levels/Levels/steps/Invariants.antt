@@ -1,5 +1,5 @@
 use Rattle.std.proofs.Common.{◌≡◌, drop}
-use Rattle.wasm_semantics.specs.Typing.{Context as Typing}
+use Rattle.wasm_rules.specs.Typing.{Context as Typing}
 use Rattle.wasm_validate.specs.laws.Checking.{checked}
 use Rattle.wasm_validate.specs.laws.FirstFault.{fault_in}
 use Rattle.wasm_validate.specs.Body.Scopes.{IsScopeOf}

@@ -1,8 +1,8 @@
 use Rattle.std.proofs.Common.{◌≡◌, List, ℕ, All, ◌<◌, length, ◌++◌, map, refl, sym, ◌∙◌, subst}
 use Rattle.std.proofs.Common.{lit<}
-use Rattle.wasm_semantics.specs.Types.{imported_functions}
+use Rattle.wasm_rules.specs.Types.{imported_functions}
 use Rattle.wasm_syntax.specs.rules.Modules.{function_type_of}
-use Rattle.wasm_semantics.specs.Validity.{AreTypesAt}
+use Rattle.wasm_rules.specs.Validity.{AreTypesAt}
 use Rattle.wasm_validate.proofs.PartLemmas.Lookups.{HaveTypes-from_below, below_from_HaveTypes}
 use Rattle.wasm_validate.proofs.PartLemmas.Lookups.{has_first, is_false}
 use Rattle.wasm_validate.specs.Parts.Contexts.{HaveTypes}

@@ -1,8 +1,0 @@
-use Rattle.wasm_semantics.proofs.Soundness.Beginning.{programs_typed, begins_typed}
-use Rattle.wasm_semantics.proofs.laws.valid_modules_begin_typed.Goals as goal
-
-pub returns-clause-programs : goal.returns-clause-programs
-returns-clause-programs c = programs_typed
-
-pub returns-clause-begins : goal.returns-clause-begins
-returns-clause-begins c = begins_typed
