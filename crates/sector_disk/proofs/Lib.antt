@@ -2,6 +2,7 @@ pub mod ExampleLemmas
 mod FirstImageLemmas
 mod LogSteps
 mod MemoryLemmas
+mod PictureLemmas
 mod AnswerLemmas
 mod RewriteLemmas
 mod FrontLemmas

@@ -12,6 +12,7 @@ pub mod Medium
 pub mod Memory
 pub mod Open
 pub mod Pending
+pub mod Pictures
 pub mod Rewrite
 pub mod Run
 pub mod Trouble

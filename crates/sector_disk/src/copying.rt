@@ -1,7 +1,7 @@
 //! The first sectors of a disk, copied onto another disk.
 //!
-//! **The first sector is copied last**, between two syncs. So a copy that is cut off has a part of
-//! it at most.
+//! **The first sector is copied last**, between two syncs. A copy that is cut off has at most a
+//! part of that sector.
 ghost use Rattle.std.specs.Prelude.{◌≡◌, ◌+◌, ◌≤◌, IfErr, OnOk};
 ghost use Rattle.sector_disk.specs.rules.Copying.{CopiesRun, FailsToCopy, IsCopied, WasOnlyRead};
 ghost use Rattle.sector_disk.specs.rules.Copying.{SyncsCopy};

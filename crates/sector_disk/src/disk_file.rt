@@ -3,12 +3,13 @@
 //! # Choices
 //!
 //! - **What a call has said of a file is known by a ghost member that only this call makes true**
-//!   (`known`). The kit's contracts say nothing of what a file answers. So a body that opens a disk
-//!   without its lock, of another length or with a fault that no call has answered isn't proved.
+//!   (`known`). The kit's contracts say nothing of what a file answers. By that member no body is
+//!   proved that opens a disk without its lock, of another length, or with a fault that no call has
+//!   answered.
 //! - **One host at a time has a file**, by the lock of its handle (`flock`). The lock is taken
-//!   before the file is read, and the system frees it when the process ends. It keeps out those that
-//!   ask for it, and not an editor. Where a file system has no locks, its files aren't opened
-//!   (`Other`).
+//!   before the file is read, and the system frees it when the process ends. The lock keeps out
+//!   those that ask for it, and not an editor. Where a file system has no locks, its files aren't
+//!   opened (`Other`).
 //! - **A disk has the length that its file said.** The end is sought, since the length that the
 //!   system tells of a block device is 0.
 //! - **A device is taken only where one is asked for**, since what it holds is lost. Only a handle

@@ -2,13 +2,13 @@
 //!
 //! # Choices
 //!
-//! - **A disk is opened and made by these calls alone.** So what a clause says of a path is what
-//!   the system has answered for it. A body that was given only them can't remove a file, or get
-//!   another handle of it, in a way that its contract doesn't see.
-//! - **A new file is kept or removed, once**: `NewFile` is lent to nobody, and each of the two takes
-//!   it.
-//! - **A disk is closed by a call** (`close`), which only clauses read. It says that the disk had
-//!   these answers in the end.
+//! - **A disk is opened and made by these calls alone.** What a clause says of a path is then what
+//!   the system has answered for it. A body that was given only these calls can't remove a file, or
+//!   get another handle of it, in a way that its contract doesn't see.
+//! - **A new file is kept or removed, once**: `NewFile` is lent to nobody, and each of the two
+//!   calls takes it.
+//! - **A disk is closed by a call** (`close`), which only clauses read. The call says that the disk
+//!   had these answers in the end.
 
 ghost use Rattle.std.specs.Prelude.{◌≡◌};
 
@@ -16,7 +16,8 @@ use crate::FileDisk;
 use crate::folder::folder_of;
 use std::fs::{File, OpenFile, OpenOptions};
 use std::io;
-use std::io::Write;
+use std::io::{Error, ErrorKind, Write};
+use std::os::unix::fs::FileTypeExt;
 use std::rt::Files;
 
 /// Files of which one can be opened.
@@ -34,6 +35,13 @@ pub trait DiskFiles {
     /// Opens the file at a path, to read and to write it.
     fn open_there(&self, path: &str) -> io::Result<Self::File>
         ensures opened { IfOk result (λ file. IsTrue ((known self.now).opened path.now file)) }
+        ensures refused { IfErr result (λ error.
+            IsTrue ((known self.now).refused path.now (Io (open_cause (error_kind error))))) };
+
+    /// Opens the file at a path, to read it and nothing else. It has to be a regular file or a
+    /// block device: no other one is opened, so none lets its reader wait.
+    fn open_to_read(&self, path: &str) -> io::Result<Self::File>
+        ensures opened { IfOk result (λ file. IsTrue ((known self.now).readable path.now file)) }
         ensures refused { IfErr result (λ error.
             IsTrue ((known self.now).refused path.now (Io (open_cause (error_kind error))))) };
 
@@ -97,6 +105,17 @@ impl<R: Files> DiskFiles for R {
 
     fn open_there(&self, path: &str) -> io::Result<R::File> {
         OpenOptions::new().read(true).write(true).open(self, path)
+    }
+
+    fn open_to_read(&self, path: &str) -> io::Result<R::File> {
+        let kind = self.metadata(path)?.file_type();
+        if kind.is_dir() {
+            return Err(Error::from(ErrorKind::IsADirectory));
+        }
+        if !kind.is_file() && !kind.is_block_device() {
+            return Err(Error::from(ErrorKind::InvalidInput));
+        }
+        File::open(self, path)
     }
 
     fn close(&self, disk: FileDisk<R::File>)

@@ -6,7 +6,7 @@ ghost use Rattle.sector_disk.specs.rules.Trouble.{is_met};
 use crate::front::write_front;
 use crate::log::Log;
 use crate::trouble::Trouble;
-use crate::{Disk, DiskFault, Place, SECTOR_SIZE};
+use crate::{Disk, DiskFault, FaultPoint, SECTOR_SIZE};
 
 /// Hands calls on to the disk below, and counts them. It stops at one that it is told. That call
 /// and each later one is `Cut`, and none of them reaches the disk below. But of a stopped write the
@@ -15,8 +15,8 @@ use crate::{Disk, DiskFault, Place, SECTOR_SIZE};
 #[derive(Drop)]
 pub struct FaultDisk<D> {
     inner: D,
-    stop: Option<Place>,
-    fail: Option<Place>,
+    stop: Option<FaultPoint>,
+    fail: Option<FaultPoint>,
     reads: u64,
     writes: u64,
     syncs: u64,
@@ -32,7 +32,7 @@ impl<D> FaultDisk<D> {
     ghost use Rattle.sector_disk.specs.rules.FaultDisk.{call_counts_of, trouble_of, torn_front_of};
 
     /// It stops at the one call, and fails at the other. Where both are the same call, it stops.
-    pub fn new(inner: D, stop: Option<Place>, fail: Option<Place>) -> Self
+    pub fn new(inner: D, stop: Option<FaultPoint>, fail: Option<FaultPoint>) -> Self
         ensures below { disk_below result ≡ inner }
         ensures stop { stop_of result ≡ stop }
         ensures fail { fail_of result ≡ fail }

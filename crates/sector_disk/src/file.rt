@@ -31,7 +31,7 @@ use std::os::unix::fs::FileExt;
 const SECTORS_END: u64 = 1 << 54;
 
 /// Sectors in a file, the first at its start. No call takes memory. It holds the file's lock until
-/// it is dropped.
+/// it is dropped, unless it was opened by `look`.
 ///
 /// Once a write or a sync has failed it is given up: every later call answers `Io`, and the file
 /// isn't asked.
@@ -54,6 +54,7 @@ impl<F: DiskFile> FileDisk<F> {
     ghost use Rattle.sector_disk.specs.rules.DiskImage.{zeros};
     ghost use Rattle.sector_disk.specs.rules.File.{answers_of, file_medium, file_of, first_of};
     ghost use Rattle.sector_disk.specs.rules.Open.{IsMadeAt, IsOpenedAt, IsTakenAt};
+    ghost use Rattle.sector_disk.specs.rules.Open.{IsSeenAt, IsUnseenAt};
     ghost use Rattle.sector_disk.specs.rules.Open.{IsUnmade, IsUnopenedAt, IsUntaken};
 
     /// Makes a file of so many sectors of zeros, locks it, and makes its entry in its folder
@@ -116,6 +117,22 @@ impl<F: DiskFile> FileDisk<F> {
     {
         let file = files.open_there(path)?;
         lock(&file)?;
+        let (bytes, first) = file.measure()?;
+        Ok(FileDisk {
+            file,
+            count: bytes / SECTOR_SIZE as u64,
+            first,
+            past: FileLog::new(),
+        })
+    }
+
+    /// Opens a file to read it and nothing else, and takes no lock: another host may have it, and
+    /// write it at any time. `take_picture` tells what that is worth.
+    pub fn look<R: DiskFiles<File = F>>(files: &R, path: &str) -> Result<FileDisk<F>, OpenFault>
+        ensures seen { IfOk result (IsSeenAt F.known (R.known files.now) path.now) }
+        ensures unseen { IfErr result (IsUnseenAt F.known (R.known files.now) path.now) }
+    {
+        let file = files.open_to_read(path)?;
         let (bytes, first) = file.measure()?;
         Ok(FileDisk {
             file,

@@ -1,10 +1,10 @@
-//! What is on a file as it is opened. Only clauses read it. It has no size, takes no memory, and
-//! its functions do nothing at run time.
+//! What is on a file as it is opened. Only clauses read a first image. The type has no size and
+//! takes no memory, and its functions do nothing at run time.
 //!
 //! **A file has a first image, which no code knows.** The log alone would fit every image. Of a
 //! file that was just opened nothing could be said then, and no law about lives would have had an
-//! instance for it. It comes from the call that measures the file (`DiskFile::measure`), so no body
-//! that opens a file can choose it.
+//! instance for it. The image comes from the call that measures the file (`DiskFile::measure`), so
+//! no body that opens a file can choose it.
 ghost use Rattle.std.specs.Prelude.{◌≡◌};
 ghost use Rattle.std.specs.Borrow.{ftrue};
 ghost use Rattle.sector_disk.specs.rules.DiskImage.{DiskImage, IsDiskImage};

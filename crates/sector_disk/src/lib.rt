@@ -32,6 +32,9 @@
 //!   `create_on_device` give the disk of the file at the path, with its lock (`IsOpenedAt`,
 //!   `IsMadeAt`, `IsTakenAt`). Else a call for that path or of that file has failed, and
 //!   `OpenFault` says so (`IsUnopenedAt`, `IsUnmade`, `IsUntaken`).
+//! - `take_picture` reads a disk that another host may write meanwhile, and writes and syncs
+//!   nothing. The picture has each sector as the file gave it, and the first ones gave the same
+//!   when they were read again (`IsPictured`).
 //! - `rewrite` writes each sector of a disk back as it reads it, and syncs. At no moment does it
 //!   add an image to what reads give or to what a cut may leave (`same`, `any_moment`).
 //! - `store_run` writes sectors one after another, and syncs. A cut at any moment leaves of each
@@ -60,6 +63,7 @@ mod disk_file;
 mod disk_files;
 mod fault;
 mod fault_disk;
+mod fault_point;
 mod file;
 mod file_call;
 mod file_log;
@@ -72,7 +76,7 @@ mod log;
 mod memory;
 mod open_cause;
 mod open_fault;
-mod place;
+mod picture;
 mod rewriting;
 mod run;
 mod sector;
@@ -85,11 +89,12 @@ pub use disk_file::DiskFile;
 pub use disk_files::{DiskFiles, NewFile, NewFiles};
 pub use fault::DiskFault;
 pub use fault_disk::FaultDisk;
+pub use fault_point::FaultPoint;
 pub use file::FileDisk;
 pub use first_image::FirstImage;
 pub use memory::MemDisk;
 pub use open_fault::{OpenCause, OpenFault};
-pub use place::Place;
+pub use picture::{PictureFault, take_picture};
 pub use rewriting::rewrite;
 pub use run::{store_run, write_run};
 pub use sector::SECTOR_SIZE;

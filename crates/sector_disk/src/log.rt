@@ -1,5 +1,5 @@
-//! A list that only clauses read. It has no size, takes no memory, and its methods do nothing at
-//! run time.
+//! A list that only clauses read. The type has no size and takes no memory, and its methods do
+//! nothing at run time.
 ghost use Rattle.std.specs.Prelude.{◌≡◌, List, [], ◌∷◌};
 ghost use Rattle.std.specs.Borrow.{ftrue};
 

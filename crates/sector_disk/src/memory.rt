@@ -1,5 +1,5 @@
-//! A disk in memory. It keeps the sectors of the last good sync and the writes since, so that it
-//! can be cut.
+//! A disk in memory. Kept are the sectors of the last good sync and the writes since, so that the
+//! disk can be cut.
 ghost use Rattle.std.specs.Prelude.{◌≡◌, ◌<◌, ◌≤◌, List, ℕ, [], length, drop, replicate, All};
 ghost use Rattle.std.specs.Prelude.{vec_capacity, IfOk, IfErr, OnOk, OnErr};
 ghost use Rattle.sector_disk.specs.declared.sector.TheConstants.{SECTOR_SIZE};
@@ -136,8 +136,8 @@ impl MemDisk {
         MemDisk::from_sectors(alloc, image, self.limit)
     }
 
-    /// The same cut, in the memory of this disk. It takes none, so it can't fail. It costs as much as
-    /// there were writes since the last good sync.
+    /// The same cut, in the memory of this disk. It takes none, so it can't fail. It costs as much
+    /// as there were writes since the last good sync.
     pub fn into_cut(self, tears: &[u16]) -> MemDisk
         ensures cut { memory_state_of result ≡ after_cut (memory_state_of self) tears.now }
         ensures crash_image { (memory_medium self).crash_images
@@ -168,7 +168,11 @@ impl MemDisk {
         }
     }
 
-    fn from_sectors(alloc: Global, durable: Vec<Sector>, limit: usize) -> Result<MemDisk, DiskFault>
+    pub(crate) fn from_sectors(
+        alloc: Global,
+        durable: Vec<Sector>,
+        limit: usize,
+    ) -> Result<MemDisk, DiskFault>
         requires { IsDiskImage (length durable.items) durable.items }
         ensures made { IfOk result (λ d. memory_state_of d ≡ record {
           durable = durable.items;

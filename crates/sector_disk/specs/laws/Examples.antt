@@ -14,12 +14,12 @@ use Rattle.sector_disk.specs.rules.Pending.{replayed, torn_by}
 use Rattle.sector_disk.specs.rules.Answered.{AnsweredCalls, faults_of, unsynced_of, file_calls}
 use Rattle.sector_disk.specs.rules.Answered.{is_given_up}
 use Rattle.sector_disk.specs.rules.Folder.{folder_of}
-use Rattle.sector_disk.specs.rules.Trouble.{counted, call_number, trouble_at, place_numbers}
+use Rattle.sector_disk.specs.rules.Trouble.{counted, call_number, trouble_at, point_numbers}
 use Rattle.sector_disk.specs.rules.Trouble.{CallCounts, troubled, LeavesFront}
 use Rattle.sector_disk.specs.declared.write.Write.{Write}
 use Rattle.sector_disk.specs.declared.disk_call.DiskCall.{DiskCall}
 use Rattle.sector_disk.specs.declared.disk_call.DiskCall.TheVariants.{WriteOf, Sync}
-use Rattle.sector_disk.specs.declared.place.Place.{Place}
+use Rattle.sector_disk.specs.declared.fault_point.FaultPoint.{FaultPoint}
 use Rattle.sector_disk.specs.declared.trouble.Trouble.TheVariants.{Stops, Stopped, Fails}
 use Rattle.sector_disk.specs.declared.file_call.FileCall.TheVariants.{Read, Wrote, Tore, Synced}
 use Rattle.sector_disk.specs.declared.file_call.FileCall.TheVariants.{Failed}
@@ -92,7 +92,7 @@ pub record RunExamples : Type 0 where
 abbrev pub five_calls : AnsweredCalls
 five_calls = (Tore 1, []) ∷ (Wrote 1, []) ∷ (Failed OfRead, []) ∷ (Synced, []) ∷ (Wrote 0, []) ∷ []
 
-abbrev pub at_third : ℕ → Option Place
+abbrev pub at_third : ℕ → Option FaultPoint
 at_third front = Some (record { call = 3; front = front })
 
 pub record CountExamples : Type 0 where
@@ -109,8 +109,8 @@ pub record CountExamples : Type 0 where
   pub after_a_stop : trouble_at (at_third 7) None 4 ≡ Some Stopped
   pub at_a_failure : trouble_at None (at_third 7) 3 ≡ Some (Fails 7)
   pub after_a_failure : trouble_at None (at_third 7) 4 ≡ None
-  pub fault_plan : place_numbers (at_third 7) ≡ 1 ∷ 3 ∷ 7 ∷ []
-  pub plans_nothing : place_numbers None ≡ 0 ∷ []
+  pub fault_plan : point_numbers (at_third 7) ≡ 1 ∷ 3 ∷ 7 ∷ []
+  pub plans_nothing : point_numbers None ≡ 0 ∷ []
   -- a failed read is not for good, and a failed write or sync is
   pub read_on : is_given_up (drop 1 five_calls) ≡ false
   pub given_up_by_a_write : is_given_up five_calls ≡ true
@@ -139,15 +139,15 @@ pub record FolderExamples : Type 0 where
 
 -- ---- laws of any disk, which no contract can name: they are here with their proofs
 
-pub troubles_are_faults : (below : Medium) (stop fail : Option Place) (n : ℕ)
+pub troubles_are_faults : (below : Medium) (stop fail : Option FaultPoint) (n : ℕ)
     (begun : CallCounts)
     → (troubled below stop fail n begun).faults ≡ below.faults + n
 troubles_are_faults below stop fail n begun = refl
 
-pub both_are_planned : (below : Medium) (stop fail : Option Place) (n : ℕ)
+pub both_are_planned : (below : Medium) (stop fail : Option FaultPoint) (n : ℕ)
     (begun : CallCounts)
     → (troubled below stop fail n begun).fault_plan
-    ≡ place_numbers stop ++ place_numbers fail ++ below.fault_plan
+    ≡ point_numbers stop ++ point_numbers fail ++ below.fault_plan
 both_are_planned below stop fail n begun = refl
 
 -- a front is taken wherever there is room for one more write
@@ -167,13 +167,14 @@ front_is_exact front k bytes is_taken old new shown crashed leaves taken pair =
     (both.0, (old.of_pair both.0 both.1 both.2).0, both.3)
 
 -- a disk that is told where to stop or to fail was asked for what the disk below was asked for
-pub calls_are_below : (below : Medium) (stop fail : Option Place) (n : ℕ)
+pub calls_are_below : (below : Medium) (stop fail : Option FaultPoint) (n : ℕ)
     (begun : CallCounts)
     → (troubled below stop fail n begun).calls ≡ below.calls
 calls_are_below below stop fail n begun = refl
 
 -- and it counts its own calls, also those that the disk below isn't asked for
-pub its_own_are_counted : (below : Medium) (stop fail : Option Place) (n reads writes syncs : ℕ)
+pub its_own_are_counted : (below : Medium) (stop fail : Option FaultPoint)
+    (n reads writes syncs : ℕ)
     → reads + writes + syncs < 2 ^ 64
     → (troubled below stop fail n
     (record { reads = reads; writes = writes; syncs = syncs })).counted

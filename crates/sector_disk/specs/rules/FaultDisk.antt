@@ -1,7 +1,7 @@
 -- What a `FaultDisk` is told and has counted.
 use Rattle.std.specs.Prelude.{Bool, Option}
 use Rattle.sector_disk.specs.rules.Trouble.{CallCounts, call_number, trouble_at}
-use Rattle.sector_disk.specs.declared.place.Place.{Place}
+use Rattle.sector_disk.specs.declared.fault_point.FaultPoint.{FaultPoint}
 use Rattle.sector_disk.specs.declared.trouble.Trouble.{Trouble}
 use Rattle.sector_disk.specs.declared.fault_disk.FaultDisk.{FaultDisk}
 
@@ -11,11 +11,11 @@ module _ {D : Type 0} where
   disk_below f = f.inner
 
   -- where it is to stop, and where to fail
-  abbrev pub stop_of : FaultDisk D → Option Place
+  abbrev pub stop_of : FaultDisk D → Option FaultPoint
   stop_of f = f.stop
 
   -- where it is to fail
-  abbrev pub fail_of : FaultDisk D → Option Place
+  abbrev pub fail_of : FaultDisk D → Option FaultPoint
   fail_of f = f.fail
 
   -- how many calls of each kind were begun

@@ -21,6 +21,8 @@ pub record KnownHandles (F : Type 0) : Type 0 where
 pub record KnownFiles (F : Type 0) : Type 0 where
   -- this handle was opened there
   pub opened : List ℕ → F → Bool
+  -- this one was opened there, to read and nothing else
+  pub readable : List ℕ → F → Bool
   -- this one is of a file that was made there, where there was none
   pub made : List ℕ → F → Bool
   -- the file there couldn't be opened or made
@@ -47,6 +49,7 @@ all_said_of_handles = record {
 abbrev pub all_said_of_files : {F : Type 0} → KnownFiles F
 all_said_of_files = record {
   opened = λ path file. true;
+  readable = λ path file. true;
   made = λ path file. true;
   refused = λ path why. true;
   unsynced = λ path why. true;

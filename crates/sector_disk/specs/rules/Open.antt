@@ -35,6 +35,20 @@ module _ {F : Type 0} (handles : KnownHandles F) (files : KnownFiles F) (path : 
   IsUnopenedAt why = IsTrue (files.refused path why)
       ⊎ ((file : F) × IsTrue (files.opened path file) × IsTrue (handles.failed file why))
 
+  -- The disk in the file at this path, opened to read and nothing else, without its lock, and not
+  -- asked for anything yet.
+  pub record IsSeenAt (disk : FileDisk F) : Type 0 where
+    pub readable : IsTrue (files.readable path (file_of disk))
+    pub bytes : ℕ
+    pub measured : IsTrue (handles.measured (file_of disk) bytes (first_of disk))
+    pub sectors : (file_medium disk).sectors ≡ bytes / SECTOR_SIZE
+    pub untouched : answers_of disk ≡ []
+
+  -- Why none is seen there: the system refuses the path, or a call of the file fails.
+  abbrev pub IsUnseenAt : OpenFault → Type 0
+  IsUnseenAt why = IsTrue (files.refused path why)
+      ⊎ ((file : F) × IsTrue (files.readable path file) × IsTrue (handles.failed file why))
+
   -- The disk in a file that was made at this path, locked and not asked for anything yet: so many
   -- sectors of zeros.
   pub record IsMadeAt (count : ℕ) (disk : FileDisk F) : Type 0 where

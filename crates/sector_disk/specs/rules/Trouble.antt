@@ -7,7 +7,7 @@ use Rattle.sector_disk.specs.rules.Medium.{Medium, BothFollow, BeginsCalls, spar
 use Rattle.sector_disk.specs.declared.disk_call.DiskCall.TheVariants.{WriteOf}
 use Rattle.sector_disk.specs.declared.fault.DiskFault.{DiskFault}
 use Rattle.sector_disk.specs.declared.fault.DiskFault.TheVariants.{Io, Cut}
-use Rattle.sector_disk.specs.declared.place.Place.{Place}
+use Rattle.sector_disk.specs.declared.fault_point.FaultPoint.{FaultPoint}
 use Rattle.sector_disk.specs.declared.trouble.Trouble.{Trouble}
 use Rattle.sector_disk.specs.declared.trouble.Trouble.TheVariants.{Stops, Stopped, Fails}
 use Rattle.sector_disk.specs.declared.sector.TheConstants.{SECTOR_SIZE}
@@ -27,16 +27,16 @@ abbrev pub call_number : CallCounts → ℕ
 call_number calls = min (calls.reads + calls.writes + calls.syncs) (2 ^ 64 - 1)
 
 -- the call of this number fails where it is told
-abbrev pub failure_at : Option Place → ℕ → Option Trouble
+abbrev pub failure_at : Option FaultPoint → ℕ → Option Trouble
 failure_at None n = None
-failure_at (Some place) n = if place.call == n then Some (Fails (min place.front SECTOR_SIZE))
+failure_at (Some point) n = if point.call == n then Some (Fails (min point.front SECTOR_SIZE))
     else None
 
 -- it stops where it is told, and each later one finds the machine stopped
-abbrev pub trouble_at : Option Place → Option Place → ℕ → Option Trouble
+abbrev pub trouble_at : Option FaultPoint → Option FaultPoint → ℕ → Option Trouble
 trouble_at None fail n = failure_at fail n
-trouble_at (Some place) fail n = if nat_lt place.call n then Some Stopped
-    else (if place.call == n then Some (Stops (min place.front SECTOR_SIZE)) else failure_at fail n)
+trouble_at (Some point) fail n = if nat_lt point.call n then Some Stopped
+    else (if point.call == n then Some (Stops (min point.front SECTOR_SIZE)) else failure_at fail n)
 
 -- what such a call answers
 abbrev pub trouble_fault : Trouble → DiskFault
@@ -44,26 +44,26 @@ trouble_fault (Stops front) = Cut
 trouble_fault Stopped = Cut
 trouble_fault (Fails front) = Io
 
--- whether the call of this place has begun
-abbrev pub has_begun : Option Place → ℕ → Bool
+-- whether the call of this point has begun
+abbrev pub has_begun : Option FaultPoint → ℕ → Bool
 has_begun None n = false
-has_begun (Some place) n = nat_le place.call n
+has_begun (Some point) n = nat_le point.call n
 
 -- whether a call that is told to stop or to fail has begun
-abbrev pub is_met : Option Place → Option Place → CallCounts → Bool
+abbrev pub is_met : Option FaultPoint → Option FaultPoint → CallCounts → Bool
 is_met stop fail calls = has_begun stop (call_number calls) || has_begun fail (call_number calls)
 
--- a place as numbers
-abbrev pub place_numbers : Option Place → List ℕ
-place_numbers None = 0 ∷ []
-place_numbers (Some place) = 1 ∷ place.call ∷ place.front ∷ []
+-- a point as numbers
+abbrev pub point_numbers : Option FaultPoint → List ℕ
+point_numbers None = 0 ∷ []
+point_numbers (Some point) = 1 ∷ point.call ∷ point.front ∷ []
 
 -- the disk below, told where to stop and to fail, which has met trouble so often and begun so many
 -- calls
-abbrev pub troubled : Medium → Option Place → Option Place → ℕ → CallCounts → Medium
+abbrev pub troubled : Medium → Option FaultPoint → Option FaultPoint → ℕ → CallCounts → Medium
 troubled below stop fail n begun =
     record below {
-      fault_plan = place_numbers stop ++ place_numbers fail ++ below.fault_plan;
+      fault_plan = point_numbers stop ++ point_numbers fail ++ below.fault_plan;
       faults = below.faults + n;
       counted = call_number begun;
     }

@@ -10,7 +10,8 @@ loop-k-init c = (omega arith, λ k lt. absurd (omega (arith, lt)))
 pub loop-k-preserved : goal.loop-k-preserved
 loop-k-preserved c = (
   length-set c.loop-k.sectors.items c.loop-k.k _ ∙ c.loop-k.invariant.0,
-  zeros_more c.loop-k.k c.loop-k.sectors.items (omega (arith, c.loop-k-test.true)) c.loop-k.invariant.1,
+  zeros_more c.loop-k.k c.loop-k.sectors.items (omega (arith, c.loop-k-test.true))
+      c.loop-k.invariant.1,
 )
 
 pub returns : goal.returns

@@ -1,0 +1,41 @@
+-- A picture of a disk that another host may write meanwhile, by the answers of its file.
+use Rattle.std.specs.Prelude.{◌≡◌, ◌≢◌, ◌⊎◌, ◌<◌, ◌++◌, ℕ, zero, suc, List, [], ◌∷◌, min}
+use Rattle.std.specs.Prelude.{Result, Ok, Err}
+use Rattle.sector_disk.specs.declared.fault.DiskFault.{DiskFault}
+use Rattle.sector_disk.specs.declared.fault.DiskFault.TheVariants.{Io, Memory}
+use Rattle.sector_disk.specs.declared.file_call.FileCall.TheVariants.{Read}
+use Rattle.sector_disk.specs.declared.memory.MemDisk.{MemDisk}
+use Rattle.sector_disk.specs.declared.picture.PictureFault.{PictureFault}
+use Rattle.sector_disk.specs.declared.picture.PictureFault.TheVariants as why
+use Rattle.sector_disk.specs.rules.Answered.{AnsweredCalls, faults_of}
+use Rattle.sector_disk.specs.rules.DiskImage.{DiskImage, IsDiskImage, sector_at}
+use Rattle.sector_disk.specs.rules.Memory.{memory_medium}
+use Rattle.sector_disk.specs.rules.Medium.{IsAllSynced}
+
+-- The first sectors were read, so many, once each and in rising order, and gave those of this
+-- image. The newest answer is the first of the list.
+abbrev pub reads_of : ℕ → DiskImage → AnsweredCalls
+reads_of zero image = []
+reads_of (suc k) image = (Read k, sector_at image k) ∷ reads_of k image
+
+-- there was no memory, or a read has failed
+abbrev pub FailsToSee : AnsweredCalls → AnsweredCalls → DiskFault → Type 0
+FailsToSee old new fault = (fault ≡ Memory) ⊎ ((fault ≡ Io) × (faults_of old < faults_of new))
+
+-- A disk in memory shows just this, and a cut leaves it.
+pub record IsShownBy (image : DiskImage) (picture : MemDisk) : Type 0 where
+  pub shows : (shown : DiskImage) → (memory_medium picture).shows shown → shown ≡ image
+  pub there : (memory_medium picture).shows image
+  pub synced : IsAllSynced (memory_medium picture)
+
+-- So many sectors were read, and then the first few again: they gave the same, and the picture has
+-- them. Or one had changed; or a read has failed, or there was no memory.
+abbrev pub IsPictured : ℕ → ℕ → Result MemDisk PictureFault → AnsweredCalls → AnsweredCalls
+    → Type 0
+IsPictured count again (Ok picture) old new = (image : DiskImage) × IsDiskImage count image
+    × IsShownBy image picture
+    × (new ≡ reads_of (min again count) image ++ reads_of count image ++ old)
+IsPictured count again (Err why.Changed) old new = (image : DiskImage) × (k : ℕ) × (bytes : List ℕ)
+    × IsDiskImage count image × (k < min again count) × (bytes ≢ sector_at image k)
+    × (new ≡ (Read k, bytes) ∷ reads_of k image ++ reads_of count image ++ old)
+IsPictured count again (Err (why.Disk fault)) old new = FailsToSee old new fault
