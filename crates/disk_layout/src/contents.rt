@@ -5,8 +5,8 @@
 //! - Configuration and module are taken apart, and each sector is built of a part of each: no
 //!   joined copy is made.
 //! - The sync is left to the caller, so that one sync serves all that a new disk is given. The
-//!   clause speaks of reads and of a cut together (`BothFollow`). So a later sync, with other
-//!   writes before it or not, makes durable what reads give.
+//!   clause speaks of reads and of a cut together (`BothFollow`). A later sync, with other writes
+//!   before it or not, then makes durable what reads give.
 
 ghost use Rattle.std.specs.Prelude.{◌≡◌, ◌≤◌, ◌+◌, ◌^◌, ◌++◌, length};
 ghost use Rattle.guest_memory.specs.rules.Bytes.{part};

@@ -27,8 +27,8 @@
 //! - `read_super`, `read_contents` only read (`reads`). The answer is true of what the disk shows:
 //!   the bytes under their digest, or what is wrong with them (`finds`, `gives`). Of a damaged disk
 //!   it is the first field that disagrees, or that the digest does (`HasDamage`).
-//! - `test_sectors` says whether a disk has so many sectors (`enough`, `too_few`). It makes no call
-//!   of the disk. The crates above ask it before they touch one.
+//! - `test_sectors` says whether a disk has so many sectors (`enough`, `too_few`), without a call
+//!   of the disk. The crates above ask it before they touch a disk.
 //! - `config_bytes_of` gives a configuration's bytes. `config_from` finds the configuration that
 //!   any bytes spell, or that there is none.
 //! - `laws`: a torn stamp never shows a newer generation (`torn_stamps`). Fields are read back, a

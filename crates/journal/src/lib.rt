@@ -19,8 +19,8 @@
 //!   stood, and a prefix of those kept, and no other sector is changed (`any_moment`). After Ok all
 //!   are held (`durable`). Sectors are written in rising order, each once, and then one sync is
 //!   made (`calls`).
-//! - `barrier` fails for a cause: an earlier error, too little journal, a disk with too few sectors
-//!   or no room for its writes, or the disk itself (`failed`, `full`, `cause`).
+//! - `barrier` fails for a cause (`failed`, `full`, `cause`). Causes are an earlier error, too
+//!   little journal, and a disk that fails, has too few sectors or no room for the writes.
 //! - A disk with fewer sectors than the layout takes is left alone. `scan`, `barrier` and
 //!   `count_filled` answer `Range` there, but a barrier of too many records is `Full` (`too_few`).
 //! - `Journal::scan` gives the records that the journal of the disk holds (`scans`), which are one

@@ -23,7 +23,9 @@ texts_within (t ∷ texts) short =
     let few : length t ≤ 1024 = short.0 in
     omega (arith, here, one, rest, few)
 
-config_within : (s : Settings) → AreSettingsWithinLimits s → length (config_bytes s) < 2 ^ 31
+-- the largest configuration
+pub config_within : (s : Settings) → AreSettingsWithinLimits s
+    → length (config_bytes s) ≤ 131348
 config_within s limits =
     let range = limits.in_range in
     let arguments = texts_within s.arguments range.short_arguments in
@@ -35,7 +37,7 @@ config_within s limits =
     in
     let two = length-append (u32_bytes (length s.environment))
     (flat_map short_text_bytes s.environment) in
-    omega (arith, arguments, environment, both, one, two)
+    omega (arith, arguments, environment, few, also, both, one, two)
 
 super_fits : (config : Settings) (wasm : List ℕ) → AreSettingsWithinLimits config
     → length wasm < 2 ^ 32 → SuperFits (record {
