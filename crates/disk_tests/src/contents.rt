@@ -6,7 +6,7 @@ use crate::layouts::{
 };
 use crate::rows::assert_row;
 use disk_layout::{Contents, Damage, LayoutFault, config_bytes_of, config_from, read_contents};
-use sector_disk::{Disk, DiskFault, FaultDisk, Place};
+use sector_disk::{Disk, DiskFault, FaultDisk, FaultPoint};
 use std::alloc::{AllocError, Global};
 use wasi_abi::Config;
 use wasm_syntax::ItemList;
@@ -243,7 +243,7 @@ fn is_changed_so(
         Change::Spelling(at, byte) if *at < 28 => spelled[*at] = *byte,
         Change::Numbers(others) => numbers = *others,
         Change::Call(call) => {
-            fail = Some(Place {
+            fail = Some(FaultPoint {
                 call: *call,
                 front: 0,
             });

@@ -1,7 +1,7 @@
 //! Cuts, stops and failures of disks in memory.
 
 use crate::rows::assert_row;
-use sector_disk::{Disk, DiskFault, FaultDisk, MemDisk, Place, rewrite, store_run, write_run};
+use sector_disk::{Disk, DiskFault, FaultDisk, FaultPoint, MemDisk, rewrite, store_run, write_run};
 use std::alloc::Global;
 
 /// How many bytes of 5, of 9 and of 3 a sector holds, one after another. Behind them are zeros.
@@ -289,8 +289,8 @@ fn a_memory_disk_tells_want_of_memory(rt: HostRuntime) {
 
 /// A disk that may stop at a call or fail one, what is seen of it, and what a cut then leaves.
 struct Trouble {
-    stop: Option<Place>,
-    fail: Option<Place>,
+    stop: Option<FaultPoint>,
+    fail: Option<FaultPoint>,
     /// How many writes there is room for between two syncs.
     room: usize,
     calls: &'static [(Call, Answer)],
@@ -334,7 +334,7 @@ static TROUBLES: [Trouble; 12] = [
     // A failed sync makes nothing durable.
     Trouble {
         stop: None,
-        fail: Some(Place { call: 2, front: 0 }),
+        fail: Some(FaultPoint { call: 2, front: 0 }),
         room: 3,
         calls: &[(Call::Write(1, 9), DONE), (Call::Sync, Err(DiskFault::Io))],
         counts: (0, 1, 1),
@@ -347,7 +347,7 @@ static TROUBLES: [Trouble; 12] = [
     // A failed write leaves its front and counts: the first number of the cut is its own.
     Trouble {
         stop: None,
-        fail: Some(Place { call: 1, front: 0 }),
+        fail: Some(FaultPoint { call: 1, front: 0 }),
         room: 3,
         calls: &[
             (Call::Write(1, 9), Err(DiskFault::Io)),
@@ -362,7 +362,7 @@ static TROUBLES: [Trouble; 12] = [
     },
     Trouble {
         stop: None,
-        fail: Some(Place { call: 1, front: 5 }),
+        fail: Some(FaultPoint { call: 1, front: 5 }),
         room: 3,
         calls: &[
             (Call::Write(1, 9), Err(DiskFault::Io)),
@@ -377,7 +377,7 @@ static TROUBLES: [Trouble; 12] = [
     },
     Trouble {
         stop: None,
-        fail: Some(Place {
+        fail: Some(FaultPoint {
             call: 1,
             front: 512,
         }),
@@ -395,7 +395,7 @@ static TROUBLES: [Trouble; 12] = [
     },
     Trouble {
         stop: None,
-        fail: Some(Place {
+        fail: Some(FaultPoint {
             call: 1,
             front: 600,
         }),
@@ -413,7 +413,7 @@ static TROUBLES: [Trouble; 12] = [
     },
     // A stop leaves its front and lasts.
     Trouble {
-        stop: Some(Place { call: 3, front: 0 }),
+        stop: Some(FaultPoint { call: 3, front: 0 }),
         fail: None,
         room: 3,
         calls: &[
@@ -432,7 +432,7 @@ static TROUBLES: [Trouble; 12] = [
         after_cut: [ZEROS, OLD, ZEROS, ZEROS],
     },
     Trouble {
-        stop: Some(Place { call: 3, front: 7 }),
+        stop: Some(FaultPoint { call: 3, front: 7 }),
         fail: None,
         room: 3,
         calls: &[
@@ -451,7 +451,7 @@ static TROUBLES: [Trouble; 12] = [
         after_cut: [ZEROS, (0, 7, 505), ZEROS, ZEROS],
     },
     Trouble {
-        stop: Some(Place {
+        stop: Some(FaultPoint {
             call: 3,
             front: 512,
         }),

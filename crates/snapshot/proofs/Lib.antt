@@ -7,6 +7,7 @@ pub mod SpareLemmas
 pub mod WriterLemmas
 pub mod ByteLemmas
 pub mod SnapshotLemmas
+pub mod PushLemmas
 pub mod LawLemmas
 mod ExampleLemmas
 mod HashingLemmas

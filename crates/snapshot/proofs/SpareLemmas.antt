@@ -1,5 +1,5 @@
 -- Sectors that are spared, one call after another.
-use Rattle.std.proofs.Common.{◌≡◌, ℕ, ◌+◌, ◌*◌, ◌<◌, ◌≤◌, max, List, [], length, refl, sym, ap, ◌∙◌}
+use Rattle.std.proofs.Common.{◌≡◌, ℕ, ◌+◌, ◌<◌, ◌≤◌, max, List, [], length, refl, sym, ap, ◌∙◌}
 use Rattle.std.proofs.Common.{subst, arith}
 use Rattle.std.proofs.lemmas.List.{set-get_or}
 use Rattle.sector_disk.specs.rules.DiskImage.{DiskImage, sector_at, with_sector, IsTorn, IsWritten}
@@ -8,9 +8,6 @@ use Rattle.sector_disk.specs.laws.Fronts.{sector-with_sector, sector-with_other}
 use Rattle.sector_disk.proofs.Moments.{shows_follow, shows_crashed}
 use Rattle.sector_disk.proofs.CountLemmas.{counts_same, counts_then, unsynced_within}
 use Rattle.snapshot.specs.Writing.{GaveSectors, SparesSectors, SparesAllButHead}
-use Rattle.snapshot.specs.declared.snapshots.State.{State}
-use Rattle.snapshot.specs.declared.snapshots.State.TheVariants as state
-use Rattle.snapshot.specs.rules.Snapshots.{length_in, sectors_in}
 
 -- no call
 pub spares_none : (place n : ℕ) (m : Medium) → SparesSectors place n n m m
@@ -113,15 +110,3 @@ spares_all_but_head place a b c old mid new ab bc later one two = record {
         (last.1.0, first.1, same),
       );
 }
-
--- the sectors that are filled are no more than the bytes take
-pub filled_within : (t : State) → 512 * sectors_in t ≤ length_in t
-filled_within (state.Begun w) = omega arith
-filled_within state.Idle = omega arith
-filled_within state.Failed = omega arith
-
--- and those bytes are less than one sector more
-pub filled_only : (t : State) → length_in t < 512 * sectors_in t + 512
-filled_only (state.Begun w) = let open_one = w.open in omega (arith, open_one)
-filled_only state.Idle = omega arith
-filled_only state.Failed = omega arith

@@ -1,5 +1,6 @@
 -- What the calls of a commit ask the disk for, one after another.
 use Rattle.std.proofs.Common.{◌≡◌, ◌≤◌, ℕ, zero, suc, ◌+◌, ◌-◌, List, [], ◌∷◌, ◌++◌, Result}
+use Rattle.std.specs.Prelude.{Ok, Err}
 use Rattle.std.proofs.Common.{refl, sym, ap, ◌∙◌, subst, inl, inr, ⊎_elim, arith, append_assoc}
 use Rattle.sector_disk.specs.rules.Medium.{Medium, BeginsCalls}
 use Rattle.sector_disk.specs.rules.Calls.{rising_writes}
@@ -139,6 +140,17 @@ module _ (writing : Writing) (at n m : ℕ) (old mid new : Medium)
     both_are two.0 two.1,
     performed_then one.0 (with_head g two.0) result old mid new one.2 two.2,
   )
+
+pub performs_then : {T E : Type 0} (writing : Writing) (at n m : ℕ) (old mid new : Medium)
+    → HasStored writing at n old mid → (result : Result T E)
+    → PerformsStores (stores writing (at + n) m) result mid new
+    → PerformsStores (stores writing at (n + m)) result old new
+performs_then writing at n m old mid new one (Ok done) two =
+    let all = stored_then writing at n m old mid new one (two.0, two.1, two.2.all) in
+    (all.0, all.1, record { all = all.2; begun = (0, all.2) })
+performs_then writing at n m old mid new one (Err fault) two =
+    let begun = begun_stores_then writing at n m old mid new one (two.0, two.1, two.2.begun) in
+    (begun.0, begun.1, record { all = tt; begun = begun.2 })
 
 -- the head is never begun
 abbrev pub BeginsStoresAndHead : AreaStores → ℕ → Medium → Medium → Type 0

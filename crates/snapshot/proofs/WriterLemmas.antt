@@ -1,5 +1,5 @@
 -- Bytes that are given to a writer, and its last sector and head.
-use Rattle.std.proofs.Common.{◌≡◌, ◌≢◌, ◌⊎◌, ℕ, ◌+◌, ◌-◌, ◌*◌, ◌/◌, ◌^◌, ◌<◌, ◌≤◌, List, ◌++◌}
+use Rattle.std.proofs.Common.{◌≡◌, ◌≢◌, ◌⊎◌, ℕ, ◌+◌, ◌-◌, ◌*◌, ◌^◌, ◌<◌, ◌≤◌, List, ◌++◌}
 use Rattle.std.proofs.Common.{length, take, drop, sym, ap, ◌∙◌, subst, inl, inr, ⊎_elim, arith}
 use Rattle.std.proofs.Common.{append_assoc, length-append}
 use Rattle.std.proofs.Math.Seq.{take-append-add, take-append_seam}
@@ -90,13 +90,6 @@ more_fills geometry g old mid new one two =
     (λ image crashed. (image, crashed, fills_none geometry g image))
 
 -- ---- bytes that are given
-
--- What is unsynced now (u), and the sectors that are still to be filled. s sectors are written and
--- f bytes wait, of t and e before.
-pub sectors_left : (u v s t f e at len bytes_left : ℕ) → u + t ≤ v + s → 512 * s + f
-    ≡ 512 * t + e + at → at ≤ len → f < 512 → e < 512 → bytes_left ≡ len - at → u
-    + (f + bytes_left) / 512 ≤ v + (e + len) / 512
-sectors_left u v s t f e at len bytes_left few is within less was bytes_left-is = omega arith
 
 -- a sector's front with bytes put after it
 pub put_behind : (filled : ℕ) (sector chunk : List ℕ) → filled + length chunk ≤ length sector

@@ -1,9 +1,9 @@
 //! The digest of an image that is written piece by piece.
 //!
-//! A digest takes 48 of the processor's instructions a byte, and a recovery without records saves
-//! the image again that it has read. For that `begin` takes an image whose digest is known
-//! (`HashedImage`). What is pushed is compared with it, and hashed only from the first piece on
-//! that differs. No contract has to say that it is the same image.
+//! A digest is most of what a checkpoint costs (`docs/PERFORMANCE.md`), and a recovery without
+//! records saves the image again that it has read. For that `begin` takes an image whose digest is
+//! known (`HashedImage`). What is pushed is compared with it, and hashed only from the first piece
+//! on that differs. No contract has to say that it is the same image.
 
 ghost use Rattle.std.specs.Prelude.{◌≡◌, ◌↔◌, ◌+◌, ◌≤◌, ◌++◌, [], ℕ, List, IsTrue, length, take};
 ghost use Rattle.sha2.specs.Sha256.{sha256};

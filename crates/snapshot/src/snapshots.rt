@@ -38,10 +38,9 @@ pub struct Snapshots {
 }
 
 impl Snapshots {
-    ghost use Rattle.std.specs.Prelude.{◌≡◌, ◌≤◌, ◌<◌, ◌⊎◌, ◌+◌, ◌*◌, ◌↔◌, false};
+    ghost use Rattle.std.specs.Prelude.{◌≡◌, ◌≤◌, ◌<◌, ◌⊎◌, ◌+◌, ◌↔◌, false};
     ghost use Rattle.std.specs.Prelude.{IsTrue, OnOk, IfOk, IsErr};
     ghost use Rattle.wasi_abi.specs.declared.numbers.TheConstants.{NUMBERS_END};
-    ghost use Rattle.sector_disk.specs.declared.sector.TheConstants.{SECTOR_SIZE};
     ghost use Rattle.sector_disk.specs.rules.DiskImage.{DiskImage};
     ghost use Rattle.sector_disk.specs.rules.Medium.{CallsUpTo};
     ghost use Rattle.sector_disk.specs.declared.fault.DiskFault.{DiskFault};
@@ -51,8 +50,10 @@ impl Snapshots {
     ghost use Rattle.snapshot.specs.rules.Heads.{FindsHead};
     ghost use Rattle.snapshot.specs.rules.Images.{PushesBytes, EndsImage, CommitsImage};
     ghost use Rattle.snapshot.specs.rules.Newest.{ReadsProcessImage, FindsNewest};
-    ghost use Rattle.snapshot.specs.rules.Snapshots.{is_idle, is_failed, length_of, IsBegun};
-    ghost use Rattle.snapshot.specs.rules.Snapshots.{StaysFailed};
+    ghost use Rattle.snapshot.specs.declared.writer.AreaWriter.{AreaWriter};
+    ghost use Rattle.snapshot.specs.declared.writing.Writing.TheVariants.{Changes};
+    ghost use Rattle.snapshot.specs.rules.Snapshots.{is_idle, is_failed, IsBegun, BeginsImage};
+    ghost use Rattle.snapshot.specs.rules.Snapshots.{CanEnd, StaysFailed};
 
     pub fn new() -> Snapshots
         ensures idle { IsTrue (is_idle result) }
@@ -165,7 +166,7 @@ impl Snapshots {
         writing: Writing,
         known: Option<HashedImage>,
     ) -> Result<(), SnapshotFault>
-        ensures begun { OnOk result (IsBegun generation version writing self.new) }
+        ensures begun { OnOk result (BeginsImage generation version writing self.new) }
         ensures too_big { (result ≡ Err SnapshotFault.TooBig)
             ↔ ((is_failed self.old ≡ false) × (NUMBERS_END ≤ generation)) }
         ensures fails { StaysFailed result self.old self.new }
@@ -218,10 +219,13 @@ impl Snapshots {
         disk: &mut D,
         geometry: &Geometry,
     ) -> Result<(), SnapshotFault>
-        requires begun { is_idle self.old ≡ false }
-        requires within { length_of self.old ≤ SECTOR_SIZE * geometry.now.area_sectors }
-        ensures ends { EndsImage geometry.now result self.old self.new (D.medium disk.old)
-            (D.medium disk.new) }
+        requires { CanEnd geometry.now self.old.state }
+        ensures ends { (image : AreaWriter) → IsBegun self.old image
+            → EndsImage geometry.now result image (D.medium disk.old) (D.medium disk.new) }
+        ensures idle { OnOk result (IsTrue (is_idle self.new)) }
+        ensures fails { StaysFailed result self.old self.new }
+        ensures cause { IsErr result → IsTrue (is_failed self.old)
+            ⊎ ((fault : DiskFault) × (result ≡ Err (SnapshotFault.Disk fault))) }
         ensures untouched { IsTrue (is_failed self.old) → disk.new ≡ disk.old }
         ensures too_few { is_failed self.old ≡ false
             → (D.medium disk.old).sectors < journal_place geometry.now
@@ -248,6 +252,7 @@ impl Snapshots {
         ensures commits { CommitsImage geometry.now (record {
           generation = generation;
           version = version;
+          writing = Changes;
           bytes = process_image.now;
         }) result self.old self.new (D.medium disk.old) (D.medium disk.new) }
         ensures untouched { IsTrue (is_failed self.old) ⊎ (result ≡ Err SnapshotFault.TooBig)

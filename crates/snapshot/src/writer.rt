@@ -30,20 +30,17 @@ pub(crate) struct AreaWriter {
 }
 
 impl AreaWriter {
-    ghost use Rattle.std.specs.Prelude.{◌≡◌, ◌⊎◌, ◌↔◌, ◌+◌, ◌-◌, ◌*◌, ◌/◌, ◌++◌, ℕ, List, length};
-    ghost use Rattle.std.specs.Prelude.{take, drop, replicate, IfOk, OnOk, IsErr};
+    ghost use Rattle.std.specs.Prelude.{◌≡◌, ◌⊎◌, ◌+◌, ◌-◌, List, ℕ, length};
+    ghost use Rattle.std.specs.Prelude.{OnOk, IsErr};
     ghost use Rattle.sha2.specs.Sha256.{sha256};
-    ghost use Rattle.guest_memory.specs.rules.Bytes.{with_part};
-    ghost use Rattle.sector_disk.specs.rules.DiskImage.{DiskImage, front_over};
-    ghost use Rattle.sector_disk.specs.rules.Medium.{LeavesOnly, After, Follows, CountsUpTo};
-    ghost use Rattle.sector_disk.specs.rules.Medium.{CallsUpTo, IsAllSynced, spare};
+    ghost use Rattle.sector_disk.specs.rules.DiskImage.{DiskImage};
     ghost use Rattle.sector_disk.specs.declared.fault.DiskFault.{DiskFault};
-    ghost use Rattle.disk_layout.specs.rules.Places.{journal_place, area_place, rounded_up};
-    ghost use Rattle.snapshot.specs.rules.Calls.{AsksForSectors, PerformsStores};
-    ghost use Rattle.snapshot.specs.rules.Calls.{PerformsStoresAndHead};
-    ghost use Rattle.snapshot.specs.rules.Steps.{HoldsWithZeros, Fills, Commits, Replaces};
-    ghost use Rattle.snapshot.specs.Writing.{written_length, Starts, SparesSectors};
-    ghost use Rattle.snapshot.specs.Writing.{SparesAllButHead, IsGiven};
+    ghost use Rattle.disk_layout.specs.rules.Places.{journal_place, rounded_up};
+    ghost use Rattle.snapshot.specs.rules.Images.{part_behind, StoresSectors, PushesNext};
+    ghost use Rattle.snapshot.specs.rules.Images.{PushesWithin, EndsImage, FailsInArea};
+    ghost use Rattle.snapshot.specs.rules.Snapshots.{FitsArea};
+    ghost use Rattle.snapshot.specs.rules.Steps.{HoldsWithZeros};
+    ghost use Rattle.snapshot.specs.Writing.{written_length, Starts, IsGiven};
     ghost use Rattle.snapshot.specs.Hashing.{Hashes};
 
     /// Begins an image, which may be the known one again.
@@ -82,48 +79,12 @@ impl AreaWriter {
         geometry: &Geometry,
         bytes: &[u8],
     ) -> Result<(), SnapshotFault>
-        ensures too_big { (result ≡ Err SnapshotFault.TooBig)
-            ↔ (SECTOR_SIZE * geometry.now.area_sectors < written_length self.old
-            + length bytes.now) }
+        ensures pushes { PushesWithin geometry.now bytes.now result self.old self.new
+            (D.medium disk.old) (D.medium disk.new) }
         ensures too_few { (D.medium disk.old).sectors < journal_place geometry.now
             → (disk.new ≡ disk.old) × ((result ≡ Err SnapshotFault.TooBig)
             ⊎ (result ≡ Err (SnapshotFault.Disk DiskFault.Range))) }
         ensures untouched { result ≡ Err SnapshotFault.TooBig → disk.new ≡ disk.old }
-        ensures given { OnOk result ((before : List ℕ)
-            → IsGiven geometry.now (D.medium disk.old) self.old before
-            → IsGiven geometry.now (D.medium disk.new) self.new (before ++ bytes.now)) }
-        ensures length { OnOk result (written_length self.new
-            ≡ written_length self.old + length bytes.now) }
-        ensures generation { OnOk result (self.new.generation ≡ self.old.generation) }
-        ensures version { OnOk result (self.new.version ≡ self.old.version) }
-        ensures writing { OnOk result (self.new.writing ≡ self.old.writing) }
-        ensures whole { self.old.writing ≡ Writing.Whole → OnOk result
-            ((D.medium disk.new).unsynced + self.old.sectors ≡ (D.medium disk.old).unsynced +
-            self.new.sectors) }
-        ensures spared { self.old.writing ≡ Writing.Changes → OnOk result
-            (SparesSectors (area_place geometry.now self.old.generation) self.old.sectors
-            self.new.sectors (D.medium disk.old) (D.medium disk.new)) }
-        ensures unsynced { OnOk result ((D.medium disk.new).unsynced + self.old.sectors
-            ≤ (D.medium disk.old).unsynced + self.new.sectors) }
-        ensures any_moment { LeavesOnly (D.medium disk.old) (D.medium disk.new)
-            (After (Fills geometry.now self.old.generation) (D.medium disk.old).crash_images) }
-        ensures counts { CountsUpTo ((D.medium disk.old).unsynced +
-            (self.old.filled + length bytes.now) / SECTOR_SIZE) (D.medium disk.old)
-            (D.medium disk.new) }
-        ensures calls { PerformsStores (record {
-          writing = self.old.writing;
-          first = area_place geometry.now self.old.generation + self.old.sectors;
-          count = (self.old.filled + length bytes.now) / SECTOR_SIZE;
-        }) result (D.medium disk.old) (D.medium disk.new) }
-        ensures cause { IsErr result → result ≡ Err SnapshotFault.TooBig
-            ⊎ ((fault : DiskFault) × (result ≡ Err (SnapshotFault.Disk fault))
-            × (((D.medium disk.old).sectors < journal_place geometry.now)
-            ⊎ (spare (D.medium disk.old) + self.old.sectors < geometry.now.area_sectors)
-            ⊎ ((D.medium disk.old).faults < (D.medium disk.new).faults))) }
-        ensures asked { OnOk result (AsksForSectors self.old.sectors self.new.sectors
-            (D.medium disk.old) (D.medium disk.new)) }
-        ensures asks { CallsUpTo (2 * (geometry.now.area_sectors - self.old.sectors))
-            (D.medium disk.old) (D.medium disk.new) }
     {
         let total = self.length().saturating_add(bytes.len() as u64);
         if total > SECTOR_SIZE as u64 * u64::from(geometry.area_sectors) {
@@ -132,108 +93,60 @@ impl AreaWriter {
         test_sectors(disk, geometry.journal_place())?;
         let mut at = 0;
         while at < bytes.len() {
-            at += self.take_in(disk, geometry, &bytes[at..])?;
+            let end = bytes.len().min(at + (SECTOR_SIZE - self.filled));
+            self.take_in(disk, geometry, &bytes[at..end])?;
+            at = end;
         }
         Ok(())
     }
 
-    /// Takes as many of the bytes as its sector has room for, and stores it once it is full. It
-    /// gives their number.
+    /// Takes bytes that its sector has room for, and stores it once it is full.
     fn take_in<D: Disk>(
         &mut self,
         disk: &mut D,
         geometry: &Geometry,
         bytes: &[u8],
-    ) -> Result<usize, DiskFault>
-        requires some { 0 < length bytes.now }
+    ) -> Result<(), SnapshotFault>
+        requires few { self.old.filled + length bytes.now ≤ SECTOR_SIZE }
         requires room { self.old.sectors < geometry.now.area_sectors }
         requires small { geometry.now.area_sectors ≤ 2 ^ 32 }
         requires places { journal_place geometry.now ≤ (D.medium disk.old).sectors }
-        ensures count { IfOk result (λ n. (0 < n) × (n ≤ length bytes.now)) }
-        ensures length { IfOk result (λ n. written_length self.new ≡ written_length self.old + n) }
-        ensures given { IfOk result (λ n. (before : List ℕ)
-            → IsGiven geometry.now (D.medium disk.old) self.old before
-            → IsGiven geometry.now (D.medium disk.new) self.new (before ++ take n bytes.now)) }
-        ensures generation { self.new.generation ≡ self.old.generation }
-        ensures version { self.new.version ≡ self.old.version }
-        ensures writing { self.new.writing ≡ self.old.writing }
-        ensures whole { self.old.writing ≡ Writing.Whole → OnOk result
-            ((D.medium disk.new).unsynced + self.old.sectors ≡ (D.medium disk.old).unsynced +
-            self.new.sectors) }
-        ensures spared { self.old.writing ≡ Writing.Changes → OnOk result
-            (SparesSectors (area_place geometry.now self.old.generation) self.old.sectors
-            self.new.sectors (D.medium disk.old) (D.medium disk.new)) }
-        ensures unsynced { OnOk result ((D.medium disk.new).unsynced + self.old.sectors
-            ≤ (D.medium disk.old).unsynced + self.new.sectors) }
-        ensures any_moment { LeavesOnly (D.medium disk.old) (D.medium disk.new)
-            (After (Fills geometry.now self.old.generation) (D.medium disk.old).crash_images) }
-        ensures counts { CountsUpTo ((D.medium disk.old).unsynced +
-            (self.old.filled + length bytes.now) / SECTOR_SIZE) (D.medium disk.old)
-            (D.medium disk.new) }
-        ensures calls { (n : ℕ) × (n ≤ (self.old.filled + length bytes.now) / SECTOR_SIZE)
-            × OnOk result (self.new.sectors ≡ self.old.sectors + n)
-            × PerformsStores (record {
-              writing = self.old.writing;
-              first = area_place geometry.now self.old.generation + self.old.sectors;
-              count = n;
-            }) result (D.medium disk.old) (D.medium disk.new) }
-        ensures cause { IsErr result
-            → (spare (D.medium disk.old) + self.old.sectors < geometry.now.area_sectors)
-            ⊎ ((D.medium disk.old).faults < (D.medium disk.new).faults) }
-        ensures asked { OnOk result (AsksForSectors self.old.sectors self.new.sectors
-            (D.medium disk.old) (D.medium disk.new)) }
-        ensures asks { CallsUpTo 2 (D.medium disk.old) (D.medium disk.new) }
+        ensures pushes { PushesNext geometry.now bytes.now result self.old self.new
+            (D.medium disk.old) (D.medium disk.new) }
+        ensures cause { IsErr result → (fault : DiskFault)
+            × (result ≡ Err (SnapshotFault.Disk fault))
+            × FailsInArea geometry.now self.old (D.medium disk.old) (D.medium disk.new) }
     {
-        let filled = self.filled;
-        let room = SECTOR_SIZE - filled;
-        let count = if bytes.len() < room {
-            bytes.len()
-        } else {
-            room
-        };
-        let taken = &bytes[..count];
-        self.hasher.update(taken);
-        put(&mut self.sector, filled, taken);
-        if count < room {
-            self.filled = filled + count;
-            return Ok(count);
+        self.hasher.update(bytes);
+        put(&mut self.sector, self.filled, bytes);
+        let filled = self.filled + bytes.len();
+        if filled < SECTOR_SIZE {
+            self.filled = filled;
+            return Ok(());
         }
         let at = geometry.area_place(self.generation) + self.sectors;
         store_sector(disk, at, &self.sector, self.writing)?;
         self.sectors += 1;
         self.filled = 0;
-        Ok(count)
+        Ok(())
     }
 
     /// Stores the sector that isn't full, with zeros after the image's last byte. A disk with too
     /// few sectors is left alone.
     fn store_last<D: Disk>(&self, disk: &mut D, geometry: &Geometry) -> Result<(), DiskFault>
-        requires { written_length self.now ≤ SECTOR_SIZE * geometry.now.area_sectors }
+        requires { FitsArea geometry.now self.now }
         ensures enough { OnOk result (journal_place geometry.now ≤ (D.medium disk.old).sectors) }
         ensures too_few { (D.medium disk.old).sectors < journal_place geometry.now
             → (disk.new ≡ disk.old) × (result ≡ Err DiskFault.Range) }
         ensures holds { OnOk result ((bytes : List ℕ) → IsGiven geometry.now (D.medium disk.old)
             self.now bytes → (image : DiskImage) → (D.medium disk.new).shows image → HoldsWithZeros
             geometry.now self.now.generation bytes image) }
-        ensures any_moment { LeavesOnly (D.medium disk.old) (D.medium disk.new)
-            (After (Fills geometry.now self.now.generation) (D.medium disk.old).crash_images) }
-        ensures counts { CountsUpTo ((D.medium disk.old).unsynced + 1) (D.medium disk.old)
-            (D.medium disk.new) }
-        ensures spared { self.now.writing ≡ Writing.Changes → OnOk result
-            (SparesSectors (area_place geometry.now self.now.generation) self.now.sectors
-            (rounded_up (written_length self.now)) (D.medium disk.old) (D.medium disk.new)) }
-        ensures whole { self.now.writing ≡ Writing.Whole → 0 < self.now.filled → OnOk result
-            ((D.medium disk.new).unsynced ≡ (D.medium disk.old).unsynced + 1) }
-        ensures calls { PerformsStores (record {
-          writing = self.now.writing;
-          first = area_place geometry.now self.now.generation + self.now.sectors;
-          count = rounded_up (written_length self.now) - self.now.sectors;
-        }) result (D.medium disk.old) (D.medium disk.new) }
+        ensures stores { StoresSectors geometry.now
+            (part_behind self.now (rounded_up (written_length self.now) - self.now.sectors)) result
+            (D.medium disk.old) (D.medium disk.new) }
         ensures cause { IsErr result
             → ((D.medium disk.old).sectors < journal_place geometry.now)
-            ⊎ (spare (D.medium disk.old) + self.now.sectors < geometry.now.area_sectors)
-            ⊎ ((D.medium disk.old).faults < (D.medium disk.new).faults) }
-        ensures asks { CallsUpTo 2 (D.medium disk.old) (D.medium disk.new) }
+            ⊎ FailsInArea geometry.now self.now (D.medium disk.old) (D.medium disk.new) }
     {
         test_sectors(disk, geometry.journal_place())?;
         if self.filled == 0 {
@@ -276,38 +189,10 @@ impl AreaWriter {
     /// Stores the last sector, syncs, writes the head, and syncs. A disk with too few sectors is
     /// left alone.
     pub(crate) fn finish<D: Disk>(self, disk: &mut D, geometry: &Geometry) -> Result<(), DiskFault>
-        requires { written_length self ≤ SECTOR_SIZE * geometry.now.area_sectors }
+        requires { FitsArea geometry.now self }
+        ensures ends { EndsImage geometry.now result self (D.medium disk.old) (D.medium disk.new) }
         ensures too_few { (D.medium disk.old).sectors < journal_place geometry.now
             → (disk.new ≡ disk.old) × (result ≡ Err DiskFault.Range) }
-        ensures any_moment { (bytes : List ℕ) → IsGiven geometry.now (D.medium disk.old) self bytes
-            →
-            LeavesOnly (D.medium disk.old) (D.medium disk.new)
-            (After (Commits geometry.now self.generation self.version bytes)
-            (D.medium disk.old).crash_images) }
-        ensures done { OnOk result ((bytes : List ℕ)
-            → IsGiven geometry.now (D.medium disk.old) self bytes →
-            Follows (Replaces geometry.now self.generation self.version bytes)
-            (D.medium disk.old).crash_images (D.medium disk.new).crash_images) }
-        ensures all_synced { OnOk result (IsAllSynced (D.medium disk.new)) }
-        ensures counts { CountsUpTo ((D.medium disk.old).unsynced + 1) (D.medium disk.old)
-            (D.medium disk.new) }
-        ensures spared { self.writing ≡ Writing.Changes → OnOk result
-            (SparesAllButHead (area_place geometry.now self.generation) self.sectors
-            (rounded_up (written_length self)) (D.medium disk.old) (D.medium disk.new)) }
-        ensures whole { self.writing ≡ Writing.Whole → 0 < self.filled → OnOk result
-            ((D.medium disk.new).unsynced_since (D.medium disk.old).moment
-            ((D.medium disk.old).unsynced + 1)) }
-        ensures calls { PerformsStoresAndHead (record {
-          writing = self.writing;
-          first = area_place geometry.now self.generation + self.sectors;
-          count = rounded_up (written_length self) - self.sectors;
-        }) self.generation result (D.medium disk.old) (D.medium disk.new) }
-        ensures cause { IsErr result
-            → ((D.medium disk.old).sectors < journal_place geometry.now)
-            ⊎ (spare (D.medium disk.old) + self.sectors < geometry.now.area_sectors)
-            ⊎ ((D.medium disk.old).room ≡ 0)
-            ⊎ ((D.medium disk.old).faults < (D.medium disk.new).faults) }
-        ensures asks { CallsUpTo 5 (D.medium disk.old) (D.medium disk.new) }
     {
         self.store_last(disk, geometry)?;
         let head = self.head();

@@ -3,7 +3,7 @@
 use crate::journals::{Given, Sector, Step, Trouble, is_small_so, is_so};
 use crate::rows::assert_row;
 use journal::JournalFault;
-use sector_disk::{DiskFault, Place};
+use sector_disk::{DiskFault, FaultPoint};
 
 /// What is done, what befalls the disk, and what is seen of what is left.
 struct Case {
@@ -166,7 +166,7 @@ static CASES: [Case; 34] = [
             Step::Barrier(Err(JournalFault::Disk(DiskFault::Cut))),
         ],
         trouble: Trouble {
-            stop: Some(Place { call: 1, front: 0 }),
+            stop: Some(FaultPoint { call: 1, front: 0 }),
             fail: None,
             tears: None,
         },
@@ -179,7 +179,7 @@ static CASES: [Case; 34] = [
             Step::Barrier(Err(JournalFault::Disk(DiskFault::Cut))),
         ],
         trouble: Trouble {
-            stop: Some(Place { call: 2, front: 0 }),
+            stop: Some(FaultPoint { call: 2, front: 0 }),
             fail: None,
             tears: None,
         },
@@ -192,7 +192,7 @@ static CASES: [Case; 34] = [
             Step::Barrier(Err(JournalFault::Disk(DiskFault::Cut))),
         ],
         trouble: Trouble {
-            stop: Some(Place { call: 3, front: 0 }),
+            stop: Some(FaultPoint { call: 3, front: 0 }),
             fail: None,
             tears: None,
         },
@@ -205,7 +205,7 @@ static CASES: [Case; 34] = [
             Step::Barrier(Err(JournalFault::Disk(DiskFault::Cut))),
         ],
         trouble: Trouble {
-            stop: Some(Place { call: 4, front: 0 }),
+            stop: Some(FaultPoint { call: 4, front: 0 }),
             fail: None,
             tears: None,
         },
@@ -224,7 +224,7 @@ static CASES: [Case; 34] = [
             Step::Append(4, Given::Letters(1), Err(JournalFault::Failed)),
         ],
         trouble: Trouble {
-            stop: Some(Place { call: 4, front: 0 }),
+            stop: Some(FaultPoint { call: 4, front: 0 }),
             fail: None,
             tears: Some(&[512, 499, 512]),
         },
@@ -247,7 +247,7 @@ static CASES: [Case; 34] = [
             Step::Append(4, Given::Letters(1), Err(JournalFault::Failed)),
         ],
         trouble: Trouble {
-            stop: Some(Place { call: 4, front: 0 }),
+            stop: Some(FaultPoint { call: 4, front: 0 }),
             fail: None,
             tears: Some(&[512, 499, 512]),
         },
@@ -413,7 +413,7 @@ static CASES: [Case; 34] = [
         ],
         trouble: Trouble {
             stop: None,
-            fail: Some(Place { call: 4, front: 0 }),
+            fail: Some(FaultPoint { call: 4, front: 0 }),
             tears: None,
         },
         then: &[],
@@ -428,7 +428,7 @@ static CASES: [Case; 34] = [
         ],
         trouble: Trouble {
             stop: None,
-            fail: Some(Place { call: 5, front: 0 }),
+            fail: Some(FaultPoint { call: 5, front: 0 }),
             tears: None,
         },
         then: &[],
@@ -443,7 +443,7 @@ static CASES: [Case; 34] = [
         ],
         trouble: Trouble {
             stop: None,
-            fail: Some(Place { call: 6, front: 0 }),
+            fail: Some(FaultPoint { call: 6, front: 0 }),
             tears: None,
         },
         then: &[],
@@ -458,7 +458,7 @@ static CASES: [Case; 34] = [
         ],
         trouble: Trouble {
             stop: None,
-            fail: Some(Place { call: 7, front: 0 }),
+            fail: Some(FaultPoint { call: 7, front: 0 }),
             tears: None,
         },
         then: &[],

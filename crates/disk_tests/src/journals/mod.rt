@@ -6,7 +6,7 @@ use crate::layouts::is_laid_out;
 use crate::rows::assert_row;
 use disk_layout::{Geometry, Record, journal_sector};
 use journal::{Journal, JournalFault};
-use sector_disk::{Disk, DiskFault, FaultDisk, MemDisk, Place};
+use sector_disk::{Disk, DiskFault, FaultDisk, FaultPoint, MemDisk};
 use std::alloc::{AllocError, Global};
 use wasi_abi::{Answer, Version};
 use wasm_syntax::ItemList;
@@ -31,8 +31,8 @@ fn journal_fault(fault: DiskFault) -> JournalFault {
 fn faulty_disk(
     alloc: Global,
     sectors: u64,
-    stop: Option<Place>,
-    fail: Option<Place>,
+    stop: Option<FaultPoint>,
+    fail: Option<FaultPoint>,
 ) -> Result<FaultDisk<MemDisk>, JournalFault> {
     match MemDisk::new(alloc, sectors, 16) {
         Ok(disk) => Ok(FaultDisk::new(disk, stop, fail)),
@@ -287,8 +287,8 @@ fn are_steps_so<D: Disk>(
 /// write that wasn't synced.
 #[derive(Clone, Copy)]
 pub(crate) struct Trouble {
-    pub(crate) stop: Option<Place>,
-    pub(crate) fail: Option<Place>,
+    pub(crate) stop: Option<FaultPoint>,
+    pub(crate) fail: Option<FaultPoint>,
     pub(crate) tears: Option<&'static [u16]>,
 }
 
@@ -475,7 +475,7 @@ static FRONTS: [(u16, bool); 23] = [
 const ALL: &[u16] = &[];
 
 fn is_kept_so(alloc: Global, kept: &Kept, front: &(u16, bool)) -> Result<bool, JournalFault> {
-    let place = Some(Place {
+    let place = Some(FaultPoint {
         call: kept.0,
         front: front.0,
     });

@@ -4,7 +4,7 @@ use crate::rows::assert_row;
 use crate::snapshots::{
     CUT, DONE, FAILED, Image, LONG, LONG_HEAD, NEW, OLD, SHORT, Step, is_small_so, is_so,
 };
-use sector_disk::{DiskFault, Place};
+use sector_disk::{DiskFault, FaultPoint};
 use snapshot::SnapshotFault;
 
 /// The mark, version 1, 600 bytes and their digest.
@@ -18,8 +18,8 @@ const SHORT_HEAD: [u8; 56] = *b"DWAREA..\
 /// image that a cut leaves, if it is cut.
 struct Case {
     name: &'static str,
-    stop: Option<Place>,
-    fail: Option<Place>,
+    stop: Option<FaultPoint>,
+    fail: Option<FaultPoint>,
     steps: &'static [Step],
     left: Option<Image>,
 }
@@ -30,8 +30,8 @@ static CASES: [Case; 35] = [
     // it.
     Case {
         name: "a failed sync of a head",
-        stop: Some(Place { call: 24, front: 5 }),
-        fail: Some(Place { call: 16, front: 0 }),
+        stop: Some(FaultPoint { call: 24, front: 5 }),
+        fail: Some(FaultPoint { call: 16, front: 0 }),
         steps: &[
             Step::Commit(OLD, DONE),
             Step::Commit(NEW, Err(SnapshotFault::Disk(DiskFault::Io))),
@@ -302,7 +302,7 @@ static CASES: [Case; 35] = [
     Case {
         name: "read 1 fails",
         stop: None,
-        fail: Some(Place { call: 8, front: 0 }),
+        fail: Some(FaultPoint { call: 8, front: 0 }),
         steps: &[
             Step::Commit(OLD, DONE),
             Step::Fails(SnapshotFault::Disk(DiskFault::Io)),
@@ -312,7 +312,7 @@ static CASES: [Case; 35] = [
     Case {
         name: "read 2 fails",
         stop: None,
-        fail: Some(Place { call: 9, front: 0 }),
+        fail: Some(FaultPoint { call: 9, front: 0 }),
         steps: &[
             Step::Commit(OLD, DONE),
             Step::Fails(SnapshotFault::Disk(DiskFault::Io)),
@@ -322,7 +322,7 @@ static CASES: [Case; 35] = [
     Case {
         name: "read 3 fails",
         stop: None,
-        fail: Some(Place { call: 10, front: 0 }),
+        fail: Some(FaultPoint { call: 10, front: 0 }),
         steps: &[
             Step::Commit(OLD, DONE),
             Step::Fails(SnapshotFault::Disk(DiskFault::Io)),
@@ -332,7 +332,7 @@ static CASES: [Case; 35] = [
     Case {
         name: "read 4 fails",
         stop: None,
-        fail: Some(Place { call: 11, front: 0 }),
+        fail: Some(FaultPoint { call: 11, front: 0 }),
         steps: &[
             Step::Commit(OLD, DONE),
             Step::Fails(SnapshotFault::Disk(DiskFault::Io)),
@@ -342,7 +342,7 @@ static CASES: [Case; 35] = [
     Case {
         name: "read 5 fails",
         stop: None,
-        fail: Some(Place { call: 12, front: 0 }),
+        fail: Some(FaultPoint { call: 12, front: 0 }),
         steps: &[Step::Commit(OLD, DONE), Step::Newest(OLD)],
         left: None,
     },

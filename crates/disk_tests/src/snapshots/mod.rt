@@ -6,7 +6,7 @@ use crate::disks::{damage, is_made_of};
 use crate::layouts::is_laid_out;
 use crate::rows::assert_row;
 use disk_layout::{Geometry, Head};
-use sector_disk::{Disk, DiskFault, FaultDisk, MemDisk, Place};
+use sector_disk::{Disk, DiskFault, FaultDisk, FaultPoint, MemDisk};
 use snapshot::{Snapshot, SnapshotFault, Snapshots, Writing};
 use std::alloc::Global;
 use std::mem;
@@ -38,8 +38,8 @@ fn snapshot_fault(fault: DiskFault) -> SnapshotFault {
 fn faulty_disk(
     alloc: Global,
     sectors: u64,
-    stop: Option<Place>,
-    fail: Option<Place>,
+    stop: Option<FaultPoint>,
+    fail: Option<FaultPoint>,
 ) -> Result<FaultDisk<MemDisk>, SnapshotFault> {
     match MemDisk::new(alloc, sectors, 20) {
         Ok(disk) => Ok(FaultDisk::new(disk, stop, fail)),
@@ -371,8 +371,8 @@ fn leaves_each_time(alloc: Global, disk: &MemDisk, image: &Image) -> Result<bool
 /// Whether the steps are so, and what is left where this is looked at.
 pub(crate) fn is_so(
     alloc: Global,
-    stop: Option<Place>,
-    fail: Option<Place>,
+    stop: Option<FaultPoint>,
+    fail: Option<FaultPoint>,
     steps: &[Step],
     left: &Option<Image>,
 ) -> Result<bool, SnapshotFault> {
@@ -437,7 +437,7 @@ static STOPS: [Stop; 17] = [
 static FRONTS: [u16; 8] = [0, 1, 496, 497, 504, 505, 511, 512];
 
 fn is_stopped_so(alloc: Global, stop: &Stop, front: u16) -> Result<bool, SnapshotFault> {
-    let place = Place {
+    let place = FaultPoint {
         call: stop.0,
         front,
     };

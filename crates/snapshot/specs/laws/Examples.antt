@@ -10,7 +10,8 @@ use Rattle.snapshot.specs.declared.writing.Writing.TheVariants.{Whole, Changes}
 use Rattle.snapshot.specs.rules.Calls.{AreStores, with_head}
 use Rattle.snapshot.specs.rules.Heads.{HasNone, heads_to, IsReadyForHead}
 use Rattle.snapshot.specs.rules.Newest.{ReadsProcessImage}
-use Rattle.snapshot.specs.rules.Snapshots.{is_failed, is_idle, length_of, sectors_of, filled_by}
+use Rattle.snapshot.specs.rules.Snapshots.{is_failed, is_idle, filled_by, CanEnd}
+use Rattle.snapshot.specs.Writing.{written_length}
 use Rattle.snapshot.specs.declared.fault.SnapshotFault.TheVariants.{TooBig}
 use Rattle.snapshot.specs.declared.snapshots.Snapshots.{Snapshots}
 use Rattle.snapshot.specs.declared.snapshots.State.{State}
@@ -77,9 +78,19 @@ pub record CommitCallExamples : Type 0 where
 
 -- ---- areas
 
--- two areas of two sectors, from sector 3 and from sector 5 on, and nothing after them
+-- two areas of so many sectors, from sector 3 on, and nothing after them
+abbrev pub with_sectors : ℕ → Geometry
+with_sectors n = record {
+  config = 0;
+  wasm = 0;
+  module_sectors = 0;
+  area_sectors = n;
+  journal_sectors = 0;
+}
+
+-- two areas of two sectors, from sector 3 and from sector 5 on
 abbrev pub areas : Geometry
-areas = record { config = 0; wasm = 0; module_sectors = 0; area_sectors = 2; journal_sectors = 0 }
+areas = with_sectors 2
 
 -- a disk without heads, and these four sectors in its areas
 abbrev pub area_disk : List ℕ → List ℕ → List ℕ → List ℕ → DiskImage
@@ -128,11 +139,14 @@ pub record StateExamples : Type 0 where
   pub failed_is_not_idle : is_idle (in_state state.Failed) ≡ false
   pub begun : (w : AreaWriter) → is_idle (in_state (state.Begun w)) ≡ false
   pub begun_has_not_failed : (w : AreaWriter) → is_failed (in_state (state.Begun w)) ≡ false
-  pub bytes : (w : AreaWriter) → HasThree w → length_of (in_state (state.Begun w)) ≡ 1636
-  pub sectors : (w : AreaWriter) → HasThree w → sectors_of (in_state (state.Begun w)) ≡ 3
-  pub none_filled : (w : AreaWriter) → HasThree w → filled_by (in_state (state.Begun w)) 411 ≡ 0
-  pub one_filled : (w : AreaWriter) → HasThree w → filled_by (in_state (state.Begun w)) 412 ≡ 1
-  pub two_filled : (w : AreaWriter) → HasThree w → filled_by (in_state (state.Begun w)) 924 ≡ 2
+  pub bytes : (w : AreaWriter) → HasThree w → written_length w ≡ 1636
+  pub none_filled : (w : AreaWriter) → HasThree w → filled_by w 411 ≡ 0
+  pub one_filled : (w : AreaWriter) → HasThree w → filled_by w 412 ≡ 1
+  pub two_filled : (w : AreaWriter) → HasThree w → filled_by w 924 ≡ 2
+  -- four sectors have room for it, and three don't
+  pub room : (w : AreaWriter) → HasThree w → CanEnd (with_sectors 4) (state.Begun w)
+  pub no_room : (w : AreaWriter) → HasThree w → CanEnd (with_sectors 3) (state.Begun w) → ⊥
+  pub nothing_to_end : CanEnd (with_sectors 4) state.Idle → ⊥
   -- an image that is read is never too big
   pub read_too_big : (geometry : Geometry) (image : DiskImage) (h : Head)
       → ReadsProcessImage geometry image h (Err TooBig) → ⊥

@@ -1,5 +1,5 @@
 -- What a commit asks the disk for (this project's own). The newest call is the first.
-use Rattle.std.specs.Prelude.{◌≡◌, ◌⊎◌, ◌≤◌, ◌*◌, ℕ, zero, suc, ◌+◌, List, [], ◌∷◌, Result}
+use Rattle.std.specs.Prelude.{◌≡◌, ◌⊎◌, ℕ, zero, suc, ◌+◌, List, [], ◌∷◌, Result}
 use Rattle.sector_disk.specs.rules.Medium.{Medium, PerformsCalls}
 use Rattle.sector_disk.specs.rules.Calls.{rising_writes}
 use Rattle.sector_disk.specs.declared.disk_call.DiskCall.{DiskCall}
@@ -40,8 +40,3 @@ abbrev pub PerformsStoresAndHead : {T E : Type 0} → AreaStores → ℕ → Res
 PerformsStoresAndHead stores g result old new = (calls : List DiskCall)
     × AreStores stores.writing stores.first stores.count calls
     × PerformsCalls (with_head g calls) result old new
-
--- where so many sectors of an area were stored, and now are, each of them took two calls at most: a
--- read and a write
-abbrev pub AsksForSectors : ℕ → ℕ → Medium → Medium → Type 0
-AsksForSectors before now old new = new.counted + 2 * before ≤ old.counted + 2 * now

@@ -1,63 +1,35 @@
-use Rattle.std.proofs.Common.{◌+◌, ◌-◌, arith, rules}
-use Rattle.std.proofs.lemmas.Grind.{common_steps}
-use Rattle.disk_layout.specs.rules.Places.{area_place, rounded_up}
-use Rattle.snapshot.specs.rules.Snapshots.{writing_of, generation_of, version_of, length_of}
-use Rattle.snapshot.specs.rules.Snapshots.{sectors_of}
-use Rattle.snapshot.proofs.SnapshotLemmas.{none_commits}
-use Rattle.snapshot.proofs.StoreCalls.{none_stored, no_head}
+use Rattle.std.proofs.Common.{◌≡◌, refl, sym, subst}
+use Rattle.std.specs.Prelude.{Result, Ok, Err}
+use Rattle.sector_disk.specs.declared.fault.DiskFault.{DiskFault}
+use Rattle.snapshot.specs.declared.fault.SnapshotFault.{SnapshotFault}
+use Rattle.snapshot.specs.declared.snapshots.State.TheVariants as state
+use Rattle.snapshot.specs.declared.writer.AreaWriter.{AreaWriter}
+use Rattle.snapshot.specs.rules.Images.{EndsImage}
+use Rattle.snapshot.proofs.PushLemmas.{on_err, one_image, ends_as}
 use Rattle.snapshot.proofs.snapshots.Snapshots.finish.Goals as goal
 
-pub returns-in_default-clause-ends : goal.returns-in_default-clause-ends
-returns-in_default-clause-ends g c =
-    let m = g.D.Disk.medium c.args.disk.now in
-    let s = c.args.self.now in
-    let place = area_place c.args.geometry.now (generation_of s) + sectors_of s in
-    let count = rounded_up (length_of s) - sectors_of s in
-    let none = no_head (writing_of s) place count (generation_of s) m m
-    (none_stored (writing_of s) place count m) in
-    record {
-      any_moment = λ bytes given.
-          none_commits c.args.geometry.now (generation_of s) (version_of s) bytes m;
-      done = search rules;
-      all_synced = search rules;
-      counts = search rules;
-      spared = search rules;
-      whole = search rules;
-      calls = (none.0, none.1, record { all = tt; begun = none.2 });
-      idle = search rules;
-      fails = first_of (search rules, grind (arith, common_steps));
-      cause = first_of (search rules, grind (arith, common_steps));
-      asks = search rules;
-    }
-
 pub returns-in_err-finish-clause-ends : goal.returns-in_err-finish-clause-ends
-returns-in_err-finish-clause-ends g c =
-    record {
-      any_moment = first_of (search rules, grind (arith, common_steps));
-      done = first_of (search rules, grind (arith, common_steps));
-      all_synced = first_of (search rules, grind (arith, common_steps));
-      counts = first_of (search rules, grind (arith, common_steps));
-      spared = first_of (search rules, grind (arith, common_steps));
-      whole = first_of (search rules, grind (arith, common_steps));
-      calls = first_of (search rules, grind (arith, common_steps));
-      idle = first_of (search rules, grind (arith, common_steps));
-      fails = first_of (search rules, grind (arith, common_steps));
-      cause = first_of (search rules, grind (arith, common_steps));
-      asks = first_of (search rules, grind (arith, common_steps));
-    }
+returns-in_err-finish-clause-ends g c image begun =
+    let old = g.D.Disk.medium c.args.disk.now in
+    let new = g.D.Disk.medium c.finish.new.disk in
+    let w = c.in-Begun.writer in
+    let was : c.args.self.now.state ≡ state.Begun w = sym c.in-Begun.ensures.value in
+    let said = c.from_residual.result in
+    let told : Result (Unit {0}) DiskFault = Err c.in_err-finish.field-0.0 in
+    subst (λ (x : AreaWriter). EndsImage c.args.geometry.now said x old new)
+    (one_image c.args.self.now.state w image was begun)
+    (ends_as c.args.geometry.now told said w old new
+    (λ P ok. on_err P said c.from_residual.ensures.0) (λ err. refl) c.in_err-finish.ensures.ends)
 
 pub returns-clause-ends : goal.returns-clause-ends
-returns-clause-ends g c =
-    record {
-      any_moment = first_of (search rules, grind (arith, common_steps));
-      done = first_of (search rules, grind (arith, common_steps));
-      all_synced = first_of (search rules, grind (arith, common_steps));
-      counts = first_of (search rules, grind (arith, common_steps));
-      spared = first_of (search rules, grind (arith, common_steps));
-      whole = first_of (search rules, grind (arith, common_steps));
-      calls = first_of (search rules, grind (arith, common_steps));
-      idle = first_of (search rules, grind (arith, common_steps));
-      fails = first_of (search rules, grind (arith, common_steps));
-      cause = first_of (search rules, grind (arith, common_steps));
-      asks = first_of (search rules, grind (arith, common_steps));
-    }
+returns-clause-ends g c image begun =
+    let old = g.D.Disk.medium c.args.disk.now in
+    let new = g.D.Disk.medium c.finish.new.disk in
+    let w = c.in-Begun.writer in
+    let was : c.args.self.now.state ≡ state.Begun w = sym c.in-Begun.ensures.value in
+    let told : Result (Unit {0}) DiskFault = Ok tt in
+    let said : Result (Unit {0}) SnapshotFault = Ok tt in
+    subst (λ (x : AreaWriter). EndsImage c.args.geometry.now said x old new)
+    (one_image c.args.self.now.state w image was begun)
+    (ends_as c.args.geometry.now told said w old new (λ P ok. ok) (λ err. err)
+    c.in_ok-finish.ensures.ends)

@@ -1,71 +1,60 @@
-use Rattle.std.proofs.Common.{◌+◌, length, arith, rules}
+use Rattle.std.proofs.Common.{◌≡◌, refl, sym, subst, arith, rules}
+use Rattle.std.specs.Prelude.{Result, Ok, Err}
 use Rattle.std.proofs.lemmas.Grind.{common_steps}
-use Rattle.disk_layout.specs.rules.Places.{area_place}
-use Rattle.snapshot.specs.rules.Snapshots.{writing_of, generation_of, sectors_of, filled_by}
-use Rattle.snapshot.proofs.StoreCalls.{none_stored}
-use Rattle.snapshot.proofs.WriterLemmas.{none_fills}
+use Rattle.snapshot.specs.declared.fault.SnapshotFault.{SnapshotFault}
+use Rattle.snapshot.specs.declared.snapshots.State.TheVariants as state
+use Rattle.snapshot.specs.declared.writer.AreaWriter.{AreaWriter}
+use Rattle.snapshot.specs.rules.Images.{PushesWithin}
+use Rattle.snapshot.proofs.PushLemmas.{on_err, one_image}
+use Rattle.snapshot.proofs.ReadLemmas.{is_fault}
 use Rattle.snapshot.proofs.snapshots.Snapshots.push.Goals as goal
-
-pub returns-in_default-clause-pushes : goal.returns-in_default-clause-pushes
-returns-in_default-clause-pushes g c =
-    let s = c.args.self.now in
-    let none = none_stored (writing_of s) (area_place c.args.geometry.now (generation_of s)
-    + sectors_of s) (filled_by s (length c.args.bytes.now)) (g.D.Disk.medium c.args.disk.now) in
-    record {
-      any_moment = none_fills c.args.geometry.now (generation_of s)
-          (g.D.Disk.medium c.args.disk.now);
-      pushed = search rules;
-      same = search rules;
-      longer = search rules;
-      within = search rules;
-      unsynced = search rules;
-      whole = search rules;
-      spared = search rules;
-      counts = search rules;
-      calls = (none.0, none.1, record { all = tt; begun = none.2 });
-      too_big = first_of (search rules, grind (arith, common_steps));
-      fails = first_of (search rules, grind (arith, common_steps));
-      cause = first_of (search rules, grind (arith, common_steps));
-      asked = search rules;
-      asks = search rules;
-    }
 
 pub returns-in_err-push-clause-pushes : goal.returns-in_err-push-clause-pushes
 returns-in_err-push-clause-pushes g c =
+    let geometry = c.args.geometry.now in
+    let bytes = c.args.bytes.now in
+    let old = g.D.Disk.medium c.args.disk.now in
+    let new = g.D.Disk.medium c.push.new.disk in
+    let v = c.push.new.self in
+    let before = c.args.self.now.state in
+    let w = c.in-Begun.writer in
+    let was : before ≡ state.Begun w = sym c.in-Begun.ensures.value in
+    let said = c.from_residual.result in
+    let is_err = c.from_residual.ensures.0 in
+    let fault = c.in_err-push.field-0.0 in
+    let same : said ≡ Err fault = is_fault said fault c.from_residual.ensures.1 in
     record {
-      any_moment = first_of (search rules, grind (arith, common_steps));
-      pushed = first_of (search rules, grind (arith, common_steps));
-      same = first_of (search rules, grind (arith, common_steps));
-      longer = first_of (search rules, grind (arith, common_steps));
-      within = first_of (search rules, grind (arith, common_steps));
-      unsynced = first_of (search rules, grind (arith, common_steps));
-      whole = first_of (search rules, grind (arith, common_steps));
-      spared = first_of (search rules, grind (arith, common_steps));
-      counts = first_of (search rules, grind (arith, common_steps));
-      calls = first_of (search rules, grind (arith, common_steps));
-      too_big = first_of (search rules, grind (arith, common_steps));
+      pushes = λ x begun. (
+        v,
+        subst (λ (a : AreaWriter). PushesWithin geometry bytes said a v old new)
+            (one_image before w x was begun)
+            (subst (λ (r : Result (Unit {0}) SnapshotFault).
+            PushesWithin geometry bytes r w v old new) (sym same) c.in_err-push.ensures.pushes),
+        on_err _ said is_err,
+      );
+      begun = on_err _ said is_err;
+      can_end = on_err _ said is_err;
       fails = first_of (search rules, grind (arith, common_steps));
-      cause = first_of (search rules, grind (arith, common_steps));
-      asked = first_of (search rules, grind (arith, common_steps));
-      asks = first_of (search rules, grind (arith, common_steps));
     }
 
 pub returns-clause-pushes : goal.returns-clause-pushes
 returns-clause-pushes g c =
+    let geometry = c.args.geometry.now in
+    let old = g.D.Disk.medium c.args.disk.now in
+    let new = g.D.Disk.medium c.push.new.disk in
+    let before = c.args.self.now.state in
+    let w = c.in-Begun.writer in
+    let was : before ≡ state.Begun w = sym c.in-Begun.ensures.value in
+    let said : Result (Unit {0}) SnapshotFault = Ok tt in
     record {
-      any_moment = first_of (search rules, grind (arith, common_steps));
-      pushed = first_of (search rules, grind (arith, common_steps));
-      same = first_of (search rules, grind (arith, common_steps));
-      longer = first_of (search rules, grind (arith, common_steps));
-      within = first_of (search rules, grind (arith, common_steps));
-      unsynced = first_of (search rules, grind (arith, common_steps));
-      whole = first_of (search rules, grind (arith, common_steps));
-      spared = first_of (search rules, grind (arith, common_steps));
-      counts = first_of (search rules, grind (arith, common_steps));
-      calls = first_of (search rules, grind (arith, common_steps));
-      too_big = first_of (search rules, grind (arith, common_steps));
+      pushes = λ x begun. (
+        c.push.new.self,
+        subst (λ (a : AreaWriter).
+            PushesWithin geometry c.args.bytes.now said a c.push.new.self old new)
+            (one_image before w x was begun) c.in_ok-push.ensures.pushes,
+        refl,
+      );
+      begun = refl;
+      can_end = c.in_ok-push.ensures.pushes.room;
       fails = first_of (search rules, grind (arith, common_steps));
-      cause = first_of (search rules, grind (arith, common_steps));
-      asked = first_of (search rules, grind (arith, common_steps));
-      asks = first_of (search rules, grind (arith, common_steps));
     }

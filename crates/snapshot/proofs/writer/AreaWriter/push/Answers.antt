@@ -1,199 +1,134 @@
-use Rattle.std.proofs.Common.{◌≡◌, ◌≤◌, ◌+◌, ◌-◌, ◌/◌, ◌++◌, ◌∙◌, ℕ, List, length, take, drop, refl}
-use Rattle.std.proofs.Common.{ap, subst, arith, rules, append_assoc}
-use Rattle.std.proofs.lemmas.List.{take_all, length-drop}
-use Rattle.sector_disk.specs.rules.Medium.{After, LeavesOnly}
-use Rattle.sector_disk.proofs.CountLemmas.{counts_then}
+use Rattle.std.proofs.Common.{◌≡◌, ◌≤◌, ◌+◌, ◌-◌, ◌++◌, ◌∙◌, ℕ, List, length, take, drop, refl}
+use Rattle.std.proofs.Common.{ap, subst, inl, inr, arith, rules}
+use Rattle.std.specs.Prelude.{Result, Ok, Err}
+use Rattle.std.proofs.lemmas.Grind.{common_steps}
+use Rattle.std.proofs.lemmas.List.{take_all, length-take-le}
 use Rattle.disk_layout.proofs.ReadLemmas.{parts_joined}
-use Rattle.disk_layout.specs.rules.Places.{area_place}
-use Rattle.snapshot.specs.rules.Steps.{Fills}
-use Rattle.snapshot.specs.Writing.{SparesSectors, IsGiven}
-use Rattle.snapshot.proofs.SpareLemmas.{spares_then}
-use Rattle.snapshot.proofs.WriterLemmas.{more_fills, sectors_left}
-use Rattle.snapshot.proofs.StoreCalls.{HasStored, same_stores, has_stored_at, stored_then}
-use Rattle.snapshot.proofs.StoreCalls.{none_stored, begun_at, begun_longer, begun_stores_then}
+use Rattle.snapshot.specs.declared.fault.SnapshotFault.{SnapshotFault}
+use Rattle.snapshot.specs.declared.fault.SnapshotFault.TheVariants.{TooBig}
+use Rattle.snapshot.specs.rules.Images.{PushesNext}
+use Rattle.snapshot.proofs.PushLemmas.{pushes_none, pushes_then, pushes_longer, pushes_nothing}
+use Rattle.snapshot.proofs.PushLemmas.{on_err, fails_then}
+use Rattle.snapshot.proofs.ReadLemmas.{is_fault}
 use Rattle.snapshot.proofs.writer.AreaWriter.push.Goals as goal
 
-pub returns-in_err-at-clause-any_moment : goal.returns-in_err-at-clause-any_moment
-returns-in_err-at-clause-any_moment g c =
-    let i = c.loop-at.invariant in
-    let old = g.D.Disk.medium c.args.disk.now in
-    let mid = g.D.Disk.medium c.loop-at.disk in
-    let new = g.D.Disk.medium c.take_in.new.disk in
-    let two = subst (λ (n : ℕ).
-    LeavesOnly mid new (After (Fills c.args.geometry.now n) mid.crash_images)) i.generation
-    c.take_in.ensures.any_moment in
-    more_fills c.args.geometry.now c.args.self.now.generation old mid new i.leaves two
+-- a front and the next piece
+front_and_piece : (at end : ℕ) (bytes : List ℕ) → at ≤ end
+    → take at bytes ++ take (end - at) (drop at bytes) ≡ take end bytes
+front_and_piece at end bytes le =
+    parts_joined at (end - at) bytes
+    ∙ ap (λ n. take n bytes) (let e : at + (end - at) ≡ end = omega (arith, le) in e)
 
-pub returns-in_err-at-clause-counts : goal.returns-in_err-at-clause-counts
-returns-in_err-at-clause-counts g c =
-    let i = c.loop-at.invariant in
-    let old = g.D.Disk.medium c.args.disk.now in
-    let mid = g.D.Disk.medium c.loop-at.disk in
-    let new = g.D.Disk.medium c.take_in.new.disk in
-    let bytes = c.args.bytes.now in
-    let rest : take (length bytes - c.loop-at.at) (drop c.loop-at.at bytes)
-    ≡ drop c.loop-at.at bytes = take_all (length bytes - c.loop-at.at) (drop c.loop-at.at bytes)
-    (omega (arith, length-drop c.loop-at.at bytes)) in
-    let joined : length (take (length bytes - c.loop-at.at) (drop c.loop-at.at bytes))
-    ≡ length bytes - c.loop-at.at = ap (λ (l : List ℕ). length l) rest
-    ∙ length-drop c.loop-at.at bytes in
-    let bytes_left = length (take (length bytes - c.loop-at.at) (drop c.loop-at.at bytes)) in
-    let most = old.unsynced + (c.args.self.now.filled + length bytes) / 512 in
-    let few : mid.unsynced + (c.loop-at.self.filled + bytes_left) / 512 ≤ most =
-    sectors_left _ _ _ _ _ _ c.loop-at.at (length bytes) _ i.unsynced i.length i.within
-    c.loop-at.self.open c.args.self.now.open joined in
-    let p = i.leaves.passes in
-    counts_then most (mid.unsynced + (c.loop-at.self.filled + bytes_left) / 512) most old mid new
-    (omega arith) few p.later i.counts c.take_in.ensures.counts
+pub loop-at-init : goal.loop-at-init
+loop-at-init g c = record {
+  within = omega arith;
+  length = omega arith;
+  sectors = refl;
+  pushes = pushes_none c.args.geometry.now c.args.self.now (g.D.Disk.medium c.args.disk.now);
+}
 
 pub loop-at-preserved : goal.loop-at-preserved
 loop-at-preserved g c =
     let i = c.loop-at.invariant in
+    let a = c.args.self.now in
+    let v = c.take_in.new.self in
     let old = g.D.Disk.medium c.args.disk.now in
     let mid = g.D.Disk.medium c.loop-at.disk in
     let new = g.D.Disk.medium c.take_in.new.disk in
-    let two = subst (λ (n : ℕ).
-    LeavesOnly mid new (After (Fills c.args.geometry.now n) mid.crash_images)) i.generation
-    c.take_in.ensures.any_moment in
-    let n = c.in_ok-at.field-0 in
-    let ok = c.in_ok-at.ensures in
-    let count = ok.count in
-    let len = ok.length in
-    let sync = ok.unsynced in
+    let geometry = c.args.geometry.now in
     let bytes = c.args.bytes.now in
-    let rest : take (length bytes - c.loop-at.at) (drop c.loop-at.at bytes)
-    ≡ drop c.loop-at.at bytes = take_all (length bytes - c.loop-at.at) (drop c.loop-at.at bytes)
-    (omega (arith, length-drop c.loop-at.at bytes)) in
-    let joined : length (take (length bytes - c.loop-at.at) (drop c.loop-at.at bytes))
-    ≡ length bytes - c.loop-at.at = ap (λ (l : List ℕ). length l) rest
-    ∙ length-drop c.loop-at.at bytes in
-    let more = count.1 in
+    let at = c.loop-at.at in
+    let end = c.min-end.result in
+    let is = c.min-end.ensures in
     let test = c.loop-at-test.true in
-    let most = old.unsynced + (c.args.self.now.filled + length bytes) / 512 in
-    let few : mid.unsynced
-    + (c.loop-at.self.filled
-    + length (take (length bytes - c.loop-at.at) (drop c.loop-at.at bytes))) / 512 ≤ most =
-    sectors_left _ _ _ _ _ _ c.loop-at.at (length bytes) _ i.unsynced i.length i.within
-    c.loop-at.self.open c.args.self.now.open joined in
+    let open_one = c.loop-at.self.open in
+    let le : at ≤ end = omega (arith, is, test, open_one) in
+    let most : end ≤ length bytes = omega (arith, is) in
+    let said : Result (Unit {0}) SnapshotFault = Ok tt in
+    let both = pushes_then geometry (take at bytes) (take (end - at) (drop at bytes)) said a
+    c.loop-at.self v old mid new i.pushes c.in_ok-take_in.ensures.pushes in
+    let all = subst (λ (l : List ℕ). PushesNext geometry l said a v old new)
+    (front_and_piece at end bytes le) both in
+    let stores = all.stores in
+    let leaves = stores.any_moment in
+    let p = leaves.passes in
     record {
-      within = omega (arith, joined, more, test);
-      length = omega (arith, len, i.length);
-      generation = ok.generation ∙ i.generation;
-      version = ok.version ∙ i.version;
-      writing = ok.writing ∙ i.writing;
-      spared = λ is.
-          let two = subst (λ (n : ℕ).
-          SparesSectors (area_place c.args.geometry.now n) c.loop-at.self.sectors
-          c.take_in.new.self.sectors mid new) i.generation (ok.spared (i.writing ∙ is)) in
-          let p = i.leaves.passes in
-          let begun = c.args.self.now.open in
-          let was = c.loop-at.self.open in
-          let is_open = c.take_in.new.self.open in
-          spares_then (area_place c.args.geometry.now c.args.self.now.generation)
-          c.args.self.now.sectors c.loop-at.self.sectors c.take_in.new.self.sectors old mid new
-          (omega (arith, i.length, begun, was)) (omega (
-            arith,
-            len,
-            was,
-            is_open,
-          )) p.later (i.spared is) two;
-      whole = λ is. let one = i.whole is in let two = ok.whole (i.writing ∙ is) in
-          omega (arith, one, two);
-      given = λ before given.
-          let next = ok.given (before ++ take c.loop-at.at bytes) (i.given before given) in
-          let is : (before ++ take c.loop-at.at bytes)
-          ++ take n (take (length bytes - c.loop-at.at) (drop c.loop-at.at bytes)) ≡ before
-          ++ take (c.loop-at.at + n) bytes =
-          append_assoc before (take c.loop-at.at bytes)
-          (take n (take (length bytes - c.loop-at.at) (drop c.loop-at.at bytes)))
-          ∙ ap (λ (l : List ℕ). before ++ (take c.loop-at.at bytes ++ take n l)) rest
-          ∙ ap (λ (l : List ℕ). before ++ l) (parts_joined c.loop-at.at n bytes) in
-          subst (λ (l : List ℕ). IsGiven c.args.geometry.now new c.take_in.new.self l) is next;
-      calls =
-          let made = i.calls in
-          let here = ok.calls in
-          let place = area_place c.args.geometry.now c.args.self.now.generation
-          + c.args.self.now.sectors in
-          let was = area_place c.args.geometry.now c.loop-at.self.generation
-          + c.loop-at.self.sectors in
-          let at : was ≡ place + made.0 =
-          omega (arith, ap (λ j. area_place c.args.geometry.now j) i.generation, made.1) in
-          let w = c.args.self.now.writing in
-          let same = same_stores w c.loop-at.self.writing (place
-          + made.0) was here.0 here.0 i.writing at refl in
-          let next = has_stored_at mid new same (here.3.0, here.3.1, here.3.2.all) in (
-            made.0 + here.0,
-            omega (arith, made.1, here.2),
-            stored_then w place made.0 here.0 old mid new made.2 next,
-          );
-      asked = omega (arith, i.asked, ok.asked);
-      unsynced = omega (arith, sync, i.unsynced);
-      counts = let p = i.leaves.passes in
-          counts_then most (mid.unsynced
-          + (c.loop-at.self.filled
-          + length (take (length bytes - c.loop-at.at) (drop c.loop-at.at bytes))) / 512) most old
-          mid new (omega arith) few p.later i.counts c.take_in.ensures.counts;
-      leaves = more_fills c.args.geometry.now c.args.self.now.generation old mid new i.leaves two;
+      within = most;
+      length = omega (arith, all.longer, length-take-le end bytes most);
+      sectors = p.sectors;
+      pushes = all;
     }
 
-pub returns-then-total-from-clause-calls : goal.returns-then-total-from-clause-calls
-returns-then-total-from-clause-calls g c =
-    let w = c.args.self.now in
-    let none = none_stored w.writing (area_place c.args.geometry.now w.generation + w.sectors)
-    ((w.filled + length c.args.bytes.now) / 512) (g.D.Disk.medium c.args.disk.now) in
-    (none.0, none.1, record { all = tt; begun = none.2 })
+pub returns-then-total-from-clause-pushes : goal.returns-then-total-from-clause-pushes
+returns-then-total-from-clause-pushes g c =
+    let said : Result (Unit {0}) SnapshotFault = Err TooBig in
+    record {
+      pushes = pushes_nothing c.args.geometry.now c.args.bytes.now said c.args.self.now
+          (g.D.Disk.medium c.args.disk.now) refl;
+      room = tt;
+      too_big = first_of (search rules, grind (arith, common_steps));
+      cause = λ err. inl refl;
+    }
 
-pub returns-in_err-test_sectors-clause-calls : goal.returns-in_err-test_sectors-clause-calls
-returns-in_err-test_sectors-clause-calls g c =
-    let w = c.args.self.now in
-    let none = none_stored w.writing (area_place c.args.geometry.now w.generation + w.sectors)
-    ((w.filled + length c.args.bytes.now) / 512) (g.D.Disk.medium c.args.disk.now) in
-    (none.0, none.1, record { all = search rules; begun = none.2 })
+pub returns-in_err-test_sectors-clause-pushes : goal.returns-in_err-test_sectors-clause-pushes
+returns-in_err-test_sectors-clause-pushes g c = record {
+  pushes = pushes_nothing c.args.geometry.now c.args.bytes.now c.from_residual.result
+      c.args.self.now (g.D.Disk.medium c.args.disk.now) c.from_residual.ensures.0;
+  room = search rules;
+  too_big = first_of (search rules, grind (arith, common_steps));
+  cause = first_of (search rules, grind (arith, common_steps));
+}
 
-pub returns-in_err-at-clause-calls : goal.returns-in_err-at-clause-calls
-returns-in_err-at-clause-calls g c =
+pub returns-in_err-take_in-clause-pushes : goal.returns-in_err-take_in-clause-pushes
+returns-in_err-take_in-clause-pushes g c =
     let i = c.loop-at.invariant in
+    let a = c.args.self.now in
+    let v = c.take_in.new.self in
     let old = g.D.Disk.medium c.args.disk.now in
     let mid = g.D.Disk.medium c.loop-at.disk in
     let new = g.D.Disk.medium c.take_in.new.disk in
-    let w = c.args.self.now in
-    let now = c.loop-at.self in
+    let geometry = c.args.geometry.now in
     let bytes = c.args.bytes.now in
-    let rest : take (length bytes - c.loop-at.at) (drop c.loop-at.at bytes)
-    ≡ drop c.loop-at.at bytes = take_all (length bytes - c.loop-at.at) (drop c.loop-at.at bytes)
-    (omega (arith, length-drop c.loop-at.at bytes)) in
-    let joined : length (take (length bytes - c.loop-at.at) (drop c.loop-at.at bytes))
-    ≡ length bytes - c.loop-at.at = ap (λ (l : List ℕ). length l) rest
-    ∙ length-drop c.loop-at.at bytes in
-    let many = (w.filled + length bytes) / 512 in
-    let made = i.calls in
-    let here = c.take_in.ensures.calls in
-    let place = area_place c.args.geometry.now w.generation + w.sectors in
-    let was = area_place c.args.geometry.now now.generation + now.sectors in
-    let at : was ≡ place + made.0 =
-    omega (arith, ap (λ j. area_place c.args.geometry.now j) i.generation, made.1) in
-    let same = same_stores w.writing now.writing (place + made.0) was here.0 here.0 i.writing at
-    refl in
-    let next = begun_at mid new same (here.3.0, here.3.1, here.3.2.begun) in
-    let both = begun_stores_then w.writing place made.0 here.0 old mid new made.2 next in
-    let few : made.0 + here.0 ≤ many =
-    omega (arith, made.1, here.1, i.length, i.within, w.open, now.open, joined) in
-    let all = begun_longer w.writing place (made.0 + here.0) many old new few both in
-    (all.0, all.1, record { all = search rules; begun = all.2 })
+    let at = c.loop-at.at in
+    let end = c.min-end.result in
+    let is = c.min-end.ensures in
+    let test = c.loop-at-test.true in
+    let open_one = c.loop-at.self.open in
+    let le : at ≤ end = omega (arith, is, test, open_one) in
+    let most : end ≤ length bytes = omega (arith, is) in
+    let said = c.from_residual-in_err-take_in.result in
+    let both = pushes_then geometry (take at bytes) (take (end - at) (drop at bytes))
+    c.take_in.result a c.loop-at.self v old mid new i.pushes c.take_in.ensures.pushes in
+    let all = subst (λ (l : List ℕ). PushesNext geometry l c.take_in.result a v old new)
+    (front_and_piece at end bytes le) both in
+    let cause = c.in_err-take_in.ensures.cause refl in
+    let same = is_fault said c.in_err-take_in.field-0.0 c.from_residual-in_err-take_in.ensures.1 in
+    record {
+      pushes = pushes_longer geometry (take end bytes) bytes c.take_in.result said a v old new
+          (omega (arith, length-take-le end bytes most, most))
+          c.from_residual-in_err-take_in.ensures.0 all;
+      room = on_err _ said c.from_residual-in_err-take_in.ensures.0;
+      too_big = first_of (search rules, grind (arith, common_steps));
+      cause = λ err. inr (
+        cause.0,
+        same ∙ cause.1,
+        inr (fails_then geometry (take at bytes) a
+            c.loop-at.self old mid new i.pushes cause.2),
+      );
+    }
 
-pub returns-clause-calls : goal.returns-clause-calls
-returns-clause-calls g c =
+pub returns-clause-pushes : goal.returns-clause-pushes
+returns-clause-pushes g c =
     let i = c.loop-at.invariant in
     let old = g.D.Disk.medium c.args.disk.now in
     let new = g.D.Disk.medium c.loop-at.disk in
-    let w = c.args.self.now in
-    let now = c.loop-at.self in
     let bytes = c.args.bytes.now in
-    let many = (w.filled + length bytes) / 512 in
-    let made = i.calls in
     let test = c.loop-at-test.false in
-    let all : made.0 ≡ many = omega (arith, made.1, i.length, i.within, w.open, now.open, test) in
-    let stored =
-    subst (λ (n : ℕ). HasStored w.writing (area_place c.args.geometry.now w.generation
-    + w.sectors) n old new) all made.2 in
-    (stored.0, stored.1, record { all = stored.2; begun = (0, stored.2) })
+    let said : Result (Unit {0}) SnapshotFault = Ok tt in
+    record {
+      pushes = subst (λ (l : List ℕ). PushesNext c.args.geometry.now l said c.args.self.now
+          c.loop-at.self old new) (take_all c.loop-at.at bytes (omega (arith, test))) i.pushes;
+      room = first_of (search rules, grind (arith, common_steps));
+      too_big = first_of (search rules, grind (arith, common_steps));
+      cause = first_of (search rules, grind (arith, common_steps));
+    }

@@ -1,20 +1,20 @@
-use Rattle.std.proofs.Common.{◌≡◌, ◌≤◌, ◌<◌, ◌+◌, ◌-◌, ◌/◌, ◌++◌, ◌∙◌, ℕ, List, length, take, sym}
+use Rattle.std.proofs.Common.{◌≡◌, ◌≤◌, ◌<◌, ◌+◌, ◌++◌, ◌∙◌, ℕ, List, length, take, refl, sym}
 use Rattle.std.proofs.Common.{subst, arith, length-append}
-use Rattle.std.proofs.lemmas.List.{append-nil, length-take-le, take_all}
+use Rattle.std.specs.Prelude.{Result, Ok}
+use Rattle.std.proofs.lemmas.List.{append-nil, take_all}
+use Rattle.sector_disk.specs.declared.fault.DiskFault.{DiskFault}
 use Rattle.sector_disk.specs.rules.DiskImage.{IsWritten, IsTorn}
 use Rattle.sector_disk.specs.rules.Medium.{BothFollow}
 use Rattle.guest_memory.specs.rules.Bytes.{with_part}
 use Rattle.disk_layout.specs.rules.Places.{area_place}
 use Rattle.disk_layout.specs.rules.Sectors.{bytes_from}
-use Rattle.sector_disk.proofs.CountLemmas.{counts_more}
-use Rattle.snapshot.specs.declared.writing.Writing.{Writing}
-use Rattle.snapshot.specs.declared.writing.Writing.TheVariants.{Changes}
-use Rattle.snapshot.specs.Store.{IsStoredAs}
-use Rattle.snapshot.proofs.SpareLemmas.{spares_none, spares_one}
+use Rattle.snapshot.specs.declared.fault.SnapshotFault.{SnapshotFault}
+use Rattle.snapshot.specs.rules.Images.{part_behind, StoresSectors}
+use Rattle.snapshot.specs.rules.Snapshots.{filled_by}
 use Rattle.snapshot.proofs.AreaLemmas.{area_in}
-use Rattle.snapshot.proofs.WriterLemmas.{store_fills, stored_more, put_behind, length-put}
+use Rattle.snapshot.proofs.PushLemmas.{on_err, one_stored, stores_no_sector}
+use Rattle.snapshot.proofs.WriterLemmas.{stored_more, given_more, put_behind, length-put}
 use Rattle.snapshot.proofs.writer.AreaWriter.take_in.Goals as goal
-use Rattle.snapshot.proofs.writer.AreaWriter.take_in.Goals.{then-bytes-room, else-bytes-room}
 
 pub overflow_add-at : goal.overflow_add-at
 overflow_add-at g c =
@@ -29,131 +29,104 @@ overflow_add-at g c =
       fits,
     )
 
-pub returns-in_err-store_sector-clause-any_moment :
-    goal.returns-in_err-store_sector-clause-any_moment
-returns-in_err-store_sector-clause-any_moment g c =
+pub returns-then-filled-lt-SECTOR_SIZE-clause-pushes :
+    goal.returns-then-filled-lt-SECTOR_SIZE-clause-pushes
+returns-then-filled-lt-SECTOR_SIZE-clause-pushes g c =
+    let m = g.D.Disk.medium c.args.disk.now in
+    let w = c.args.self.now in
+    let bytes = c.args.bytes.now in
     let r = c.requires in
-    let at = c.area_place.ensures in
-    store_fills c.args.geometry.now c.args.self.now.generation (c.area_place.result
-    + c.args.self.now.sectors) c.put.new.sector (g.D.Disk.medium c.args.disk.now)
-    (g.D.Disk.medium c.store_sector.new.disk) (omega (arith, at)) (omega (arith, at, r.room))
-    c.store_sector.ensures.any_moment
+    let less = c.if-filled-lt-SECTOR_SIZE.true in
+    let none : 0 ≡ filled_by w (length bytes) = omega (arith, less) in
+    let said : Result (Unit {0}) SnapshotFault = Ok tt in
+    let place = area_place c.args.geometry.now w.generation in
+    let room : w.filled + length bytes ≤ length w.sector = omega (arith, c.put.ensures.long, less)
+    in
+    record {
+      stores = subst (λ n. StoresSectors c.args.geometry.now (part_behind w n) said m m) none
+          (stores_no_sector c.args.geometry.now w.generation w.writing w.sectors said m);
+      same = record { generation = refl; version = refl; writing = refl };
+      pushed = λ before given. record {
+        hashed = c.update.ensures before given.hashed;
+        count = length-append before bytes ∙ (let n = given.count in omega (arith, n));
+        held = λ image shows.
+            subst (λ (l : List ℕ). bytes_from image place w.sectors
+            ++ take (w.filled + length bytes) l ≡ before ++ bytes) (sym c.put.ensures.bytes)
+            (given_more (bytes_from image place w.sectors) w.filled w.sector bytes before room
+            (given.held image shows));
+      };
+      longer = omega arith;
+      fits = λ fits. omega (arith, r.room, less);
+    }
 
-pub returns-clause-any_moment : goal.returns-clause-any_moment
-returns-clause-any_moment g c =
-    let r = c.requires in
-    let at = c.area_place.ensures in
-    store_fills c.args.geometry.now c.args.self.now.generation (c.area_place.result
-    + c.args.self.now.sectors) c.put.new.sector (g.D.Disk.medium c.args.disk.now)
-    (g.D.Disk.medium c.store_sector.new.disk) (omega (arith, at)) (omega (arith, at, r.room))
-    c.store_sector.ensures.any_moment
-
-pub returns-clause-given : goal.returns-clause-given
-returns-clause-given g c = λ before given.
+pub returns-in_err-store_sector-clause-pushes : goal.returns-in_err-store_sector-clause-pushes
+returns-in_err-store_sector-clause-pushes g c =
     let old = g.D.Disk.medium c.args.disk.now in
     let new = g.D.Disk.medium c.store_sector.new.disk in
     let w = c.args.self.now in
-    let r = c.requires in
     let geometry = c.args.geometry.now in
+    let bytes = c.args.bytes.now in
+    let r = c.requires in
+    let least = c.if-filled-lt-SECTOR_SIZE.false in
+    let one : 1 ≡ filled_by w (length bytes) = omega (arith, r.few, least) in
+    let said = c.from_residual.result in
+    let is_err = c.from_residual.ensures.0 in
+    record {
+      stores = subst (λ n. StoresSectors geometry (part_behind w n) said old new) one
+          (one_stored geometry w.generation w.writing w.sectors
+          (c.area_place.result + w.sectors) c.put.new.sector c.store_sector.result said old new
+          (λ P ok. on_err P said is_err) (omega (arith, c.area_place.ensures)) r.room r.places
+          c.store_sector.ensures);
+      same = record { generation = refl; version = refl; writing = refl };
+      pushed = on_err _ said is_err;
+      longer = on_err _ said is_err;
+      fits = on_err _ said is_err;
+    }
+
+pub returns-clause-pushes : goal.returns-clause-pushes
+returns-clause-pushes g c =
+    let old = g.D.Disk.medium c.args.disk.now in
+    let new = g.D.Disk.medium c.store_sector.new.disk in
+    let w = c.args.self.now in
+    let geometry = c.args.geometry.now in
+    let bytes = c.args.bytes.now in
+    let r = c.requires in
     let place = area_place geometry w.generation in
-    let count = c.if-bytes-room.count in
-    let chunk : List ℕ = take count c.args.bytes.now in
     let long = c.put.ensures.long in
-    let short : count ≤ length c.args.bytes.now =
-    elim c.if-bytes-room.branch [
-      | then-bytes-room b ↦ omega arith
-      | else-bytes-room b ↦ omega
-          arith
-    ] in
-    let most : count ≤ 512 - w.filled =
-    elim c.if-bytes-room.branch [
-      | then-bytes-room b ↦ omega arith
-      | else-bytes-room b ↦ omega
-          arith
-    ] in
-    let least = c.if-count-room.false in
-    let filled = w.open in
-    let size : length chunk ≡ count = length-take-le count c.args.bytes.now short in
-    let whole : w.filled + length chunk ≡ 512 = omega (arith, size, most, least, filled) in
-    let room : w.filled + length chunk ≤ length w.sector = omega (arith, whole, long) in
-    let stored : c.put.new.sector ≡ take w.filled w.sector ++ chunk =
+    let least = c.if-filled-lt-SECTOR_SIZE.false in
+    let whole : w.filled + length bytes ≡ 512 = omega (arith, r.few, least) in
+    let room : w.filled + length bytes ≤ length w.sector = omega (arith, whole, long) in
+    let one : 1 ≡ filled_by w (length bytes) = omega (arith, whole) in
+    let said : Result (Unit {0}) SnapshotFault = Ok tt in
+    let told : Result (Unit {0}) DiskFault = Ok tt in
+    let stored : c.put.new.sector ≡ take w.filled w.sector ++ bytes =
     c.put.ensures.bytes
-    ∙ sym (take_all (w.filled + length chunk) (with_part w.sector w.filled chunk) (omega (
+    ∙ sym (take_all (w.filled + length bytes) (with_part w.sector w.filled bytes) (omega (
       arith,
-      length-put w.filled w.sector chunk room,
+      length-put w.filled w.sector bytes room,
       whole,
       long,
     )))
-    ∙ put_behind w.filled w.sector chunk room in
+    ∙ put_behind w.filled w.sector bytes room in
     let inside : place + w.sectors < old.sectors =
     omega (arith, area_in geometry w.generation w.sectors r.room, r.places) in
     let here = subst (λ (k : ℕ). BothFollow (IsWritten (k + w.sectors) c.put.new.sector)
     (IsTorn (k + w.sectors) c.put.new.sector) old new) c.area_place.ensures
     c.in_ok-store_sector.ensures.whole in
     record {
-      hashed = c.update.ensures before given.hashed;
-      count = length-append before chunk ∙ (let n = given.count in omega (arith, n, whole));
-      held = λ image shows.
-          append-nil (bytes_from image place (w.sectors + 1))
-          ∙ stored_more place w.sectors (take w.filled w.sector) chunk c.put.new.sector before old
-          new inside stored here given.held image shows;
+      stores = subst (λ n. StoresSectors geometry (part_behind w n) said old new) one
+          (one_stored geometry w.generation w.writing w.sectors
+          (c.area_place.result + w.sectors) c.put.new.sector told said old new (λ P ok. ok)
+          (omega (arith, c.area_place.ensures)) r.room r.places c.in_ok-store_sector.ensures);
+      same = record { generation = refl; version = refl; writing = refl };
+      pushed = λ before given. record {
+        hashed = c.update.ensures before given.hashed;
+        count = length-append before bytes ∙ (let n = given.count in omega (arith, n, whole));
+        held = λ image shows.
+            append-nil (bytes_from image place (w.sectors + 1))
+            ∙ stored_more place w.sectors (take w.filled w.sector) bytes c.put.new.sector before old
+            new inside stored here given.held image shows;
+      };
+      longer = omega (arith, whole);
+      fits = λ fits. omega (arith, r.room);
     }
-
-pub returns-in_err-store_sector-clause-counts : goal.returns-in_err-store_sector-clause-counts
-returns-in_err-store_sector-clause-counts g c =
-    let old = g.D.Disk.medium c.args.disk.now in
-    let new = g.D.Disk.medium c.store_sector.new.disk in
-    let w = c.args.self.now in
-    let least = c.if-count-room.false in
-    let short : c.if-bytes-room.count ≤ length c.args.bytes.now =
-    elim c.if-bytes-room.branch [
-      | then-bytes-room b ↦ omega arith
-      | else-bytes-room b ↦ omega
-          arith
-    ] in
-    let filled = w.open in
-    let full : 512 ≤ w.filled + length c.args.bytes.now = omega (arith, least, short, filled) in
-    counts_more (old.unsynced + 1) (old.unsynced + (w.filled + length c.args.bytes.now) / 512) old
-    new (omega (arith, full)) c.store_sector.ensures.counts
-
-pub returns-clause-counts : goal.returns-clause-counts
-returns-clause-counts g c =
-    let old = g.D.Disk.medium c.args.disk.now in
-    let new = g.D.Disk.medium c.store_sector.new.disk in
-    let w = c.args.self.now in
-    let least = c.if-count-room.false in
-    let short : c.if-bytes-room.count ≤ length c.args.bytes.now =
-    elim c.if-bytes-room.branch [
-      | then-bytes-room b ↦ omega arith
-      | else-bytes-room b ↦ omega
-          arith
-    ] in
-    let filled = w.open in
-    let full : 512 ≤ w.filled + length c.args.bytes.now = omega (arith, least, short, filled) in
-    counts_more (old.unsynced + 1) (old.unsynced + (w.filled + length c.args.bytes.now) / 512) old
-    new (omega (arith, full)) c.store_sector.ensures.counts
-
-pub returns-clause-spared : goal.returns-clause-spared
-returns-clause-spared g c = λ is.
-    let old = g.D.Disk.medium c.args.disk.now in
-    let new = g.D.Disk.medium c.store_sector.new.disk in
-    let w = c.args.self.now in
-    let r = c.requires in
-    let place = area_place c.args.geometry.now w.generation in
-    let bytes = c.put.new.sector in
-    let inside : place + w.sectors < old.sectors =
-    omega (arith, area_in c.args.geometry.now w.generation w.sectors r.room, r.places) in
-    let whole = subst (λ (k : ℕ). BothFollow (IsWritten (k + w.sectors) bytes)
-    (IsTorn (k + w.sectors) bytes) old new) c.area_place.ensures
-    c.in_ok-store_sector.ensures.whole in
-    let told = subst (λ (x : Writing). IsStoredAs x (c.area_place.result
-    + w.sectors) bytes c.store_sector.result old new) is c.store_sector.ensures.told in
-    let placed =
-    subst (λ (k : ℕ). IsStoredAs Changes (k + w.sectors) bytes c.store_sector.result old new)
-    c.area_place.ensures told in
-    spares_one place w.sectors bytes old new inside whole placed
-
-pub returns-then-count-room-clause-spared : goal.returns-then-count-room-clause-spared
-returns-then-count-room-clause-spared g c =
-    λ is. spares_none (area_place c.args.geometry.now c.args.self.now.generation)
-    c.args.self.now.sectors (g.D.Disk.medium c.args.disk.now)
