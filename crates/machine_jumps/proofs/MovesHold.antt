@@ -7,8 +7,8 @@ use Rattle.wasm_syntax.specs.declared.instruction.Instruction.{Instruction}
 use Rattle.wasm_syntax.specs.declared.instruction.Instruction.TheVariants as instr
 use Rattle.wasm_syntax.specs.rules.Sequence.{Sequence, Stop, Plain, InBlock, InLoop, InIf, InIfElse}
 use Rattle.wasm_syntax.specs.rules.Sequence.{spelled, IsPlain}
-use Rattle.wasm_semantics.specs.Typing.{Context, HasInstructionType}
-use Rattle.wasm_semantics.specs.Shapes.{Shape, LabelShape, ShapeOf}
+use Rattle.wasm_rules.specs.Typing.{Context, HasInstructionType}
+use Rattle.wasm_rules.specs.Shapes.{Shape, LabelShape, ShapeOf}
 use Rattle.machine_jumps.specs.Jumps.{HasShape}
 use Rattle.machine_jumps.specs.Moves.{opcodes_of, HasOpcode, IsTypedBody, IsFirst, OpcodesAreFirst}
 use Rattle.machine_jumps.specs.Moves.{NoOpcodeIsBehind, PlainLeadsOn, BlockLeadsIn, LoopLeadsIn}

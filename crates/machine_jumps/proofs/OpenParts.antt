@@ -9,12 +9,12 @@ use Rattle.wasm_syntax.specs.declared.instruction.Instruction.{Instruction}
 use Rattle.wasm_syntax.specs.declared.instruction.Instruction.TheVariants as instr
 use Rattle.wasm_syntax.specs.rules.Sequence.{Sequence, InBlock, InLoop, InIf, InIfElse, spelled}
 use Rattle.wasm_syntax.specs.rules.Sequence.{IsNested}
-use Rattle.wasm_semantics.specs.Configuration.{Part, Main, Second}
-use Rattle.wasm_semantics.specs.Types.{results_of}
-use Rattle.wasm_semantics.specs.Typing.{Context}
-use Rattle.wasm_semantics.specs.Shapes.{Shape, LabelShape, ShapeOf, body_shape}
-use Rattle.wasm_semantics.specs.laws.Laws.{labels_height}
-use Rattle.wasm_semantics.proofs.TypedShape.{closed_length}
+use Rattle.wasm_rules.specs.Configuration.{Part, Main, Second}
+use Rattle.wasm_rules.specs.Types.{results_of}
+use Rattle.wasm_rules.specs.Typing.{Context}
+use Rattle.wasm_rules.specs.Shapes.{Shape, LabelShape, ShapeOf, body_shape}
+use Rattle.wasm_rules.specs.laws.Laws.{labels_height}
+use Rattle.wasm_rules.proofs.TypedShape.{closed_length}
 use Rattle.machine_jumps.specs.declared.open.Open.{Open}
 use Rattle.machine_jumps.specs.Jumps.{HasShape, JumpsTo}
 use Rattle.machine_jumps.specs.Making.{base_of, open_sequence}

@@ -12,11 +12,11 @@ use Rattle.wasm_syntax.specs.declared.instruction.Instruction.{Instruction}
 use Rattle.wasm_syntax.specs.declared.instruction.Instruction.TheVariants as instr
 use Rattle.wasm_syntax.specs.rules.Sequence.{Sequence, Stop, Plain, InBlock, InLoop, InIf, InIfElse}
 use Rattle.wasm_syntax.specs.rules.Sequence.{spelled}
-use Rattle.wasm_semantics.specs.Configuration.{Main, Second}
-use Rattle.wasm_semantics.specs.Types.{results_of}
-use Rattle.wasm_semantics.specs.Typing.{Context}
-use Rattle.wasm_semantics.specs.Shapes.{Shape, LabelShape, ShapeOf, types_behind, shape_at}
-use Rattle.wasm_semantics.specs.Shapes.{body_shape}
+use Rattle.wasm_rules.specs.Configuration.{Main, Second}
+use Rattle.wasm_rules.specs.Types.{results_of}
+use Rattle.wasm_rules.specs.Typing.{Context}
+use Rattle.wasm_rules.specs.Shapes.{Shape, LabelShape, ShapeOf, types_behind, shape_at}
+use Rattle.wasm_rules.specs.Shapes.{body_shape}
 use Rattle.machine_jumps.specs.Jumps.{HasShape}
 use Rattle.machine_jumps.specs.Moves.{opcodes_of, IsTypedBody}
 use Rattle.machine_jumps.proofs.Runs.{RunsFrom, runs_here, run_plain, run_block_in}

@@ -10,12 +10,12 @@ use Rattle.wasm_syntax.specs.declared.instruction.Instruction.{Instruction}
 use Rattle.wasm_syntax.specs.declared.instruction.Instruction.TheVariants as instr
 use Rattle.wasm_syntax.specs.rules.Sequence.{Sequence, Plain, InBlock, InLoop, InIf, InIfElse}
 use Rattle.wasm_syntax.specs.rules.Sequence.{spelled}
-use Rattle.wasm_semantics.specs.Configuration.{Main, Second}
-use Rattle.wasm_semantics.specs.Types.{results_of}
-use Rattle.wasm_semantics.specs.Typing.{Context, HasType}
-use Rattle.wasm_semantics.specs.Shapes.{Shape, LabelShape, ShapeOf, types_behind, shape_at}
-use Rattle.wasm_semantics.specs.Shapes.{body_shape}
-use Rattle.wasm_semantics.proofs.TypedShape.{IsBehind, typed_behind, closed_length}
+use Rattle.wasm_rules.specs.Configuration.{Main, Second}
+use Rattle.wasm_rules.specs.Types.{results_of}
+use Rattle.wasm_rules.specs.Typing.{Context, HasType}
+use Rattle.wasm_rules.specs.Shapes.{Shape, LabelShape, ShapeOf, types_behind, shape_at}
+use Rattle.wasm_rules.specs.Shapes.{body_shape}
+use Rattle.wasm_rules.proofs.TypedShape.{IsBehind, typed_behind, closed_length}
 use Rattle.wasm_validate.proofs.Algorithm.Reaching.{chosen}
 
 -- what branches to the labels take

@@ -2,8 +2,8 @@
 use Rattle.std.specs.List.{AllByRecursion}
 use Rattle.wasm_syntax.specs.declared.types.FunctionType.{FunctionType}
 use Rattle.wasm_syntax.specs.declared.module.Code.{Code}
-use Rattle.wasm_semantics.specs.Typing.{Context as Typing, body_context}
-use Rattle.wasm_semantics.specs.laws.Laws.{GivesOneAtMost}
+use Rattle.wasm_rules.specs.Typing.{Context as Typing, body_context}
+use Rattle.wasm_rules.specs.laws.Laws.{GivesOneAtMost}
 use Rattle.wasm_validate.specs.declared.parts.context.ModuleContext.{ModuleContext}
 use Rattle.wasm_validate.specs.Parts.Contexts.{IsContextOf}
 use Rattle.wasm_validate.specs.Body.Bodies.{HasBody}

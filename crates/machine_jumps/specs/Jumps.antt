@@ -3,9 +3,9 @@
 use Rattle.std.specs.Prelude.{◌≡◌, ℕ, zero, suc, ◌+◌, List, [], ◌∷◌, ◌++◌, length, Some}
 use Rattle.wasm_syntax.specs.declared.types.ValueType.{ValueType}
 use Rattle.wasm_syntax.specs.rules.Sequence.{Sequence}
-use Rattle.wasm_semantics.specs.Typing.{Context}
-use Rattle.wasm_semantics.specs.Shapes.{LabelShape, ShapeOf, body_shape}
-use Rattle.wasm_semantics.specs.laws.Laws.{labels_height}
+use Rattle.wasm_rules.specs.Typing.{Context}
+use Rattle.wasm_rules.specs.Shapes.{LabelShape, ShapeOf, body_shape}
+use Rattle.wasm_rules.specs.laws.Laws.{labels_height}
 use Rattle.machine_jumps.specs.declared.jump.Jump.{Jump}
 
 -- At this position of the body typing has these labels and operands, and `rest` remains.

@@ -27,7 +27,7 @@
 //!
 //! In `specs/`: `Table`, `entry`, `IsTable` (`Tables.antt`); `JumpsTo`, `IsJump`, `IsExit`
 //! (`Jumps.antt`); `IsTableOf`, `GivesOnes` (`Contexts.antt`). Positions and shapes are those of
-//! `wasm_semantics` (`body_shape`).
+//! `wasm_rules` (`body_shape`).
 //!
 //! # Who may touch what
 //!

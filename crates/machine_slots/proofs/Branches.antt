@@ -10,9 +10,9 @@ use Rattle.wasm_syntax.specs.declared.types.ValueType.{ValueType}
 use Rattle.wasm_syntax.specs.declared.types.ValueType.TheVariants.{I32, I64}
 use Rattle.wasm_syntax.specs.declared.value.Value.{Value}
 use Rattle.wasm_syntax.specs.rules.Sequence.{Sequence}
-use Rattle.wasm_semantics.specs.Types.{number_in}
-use Rattle.wasm_semantics.specs.Configuration.{Label, LabelOf, FrameOf}
-use Rattle.wasm_semantics.specs.Steps.{topmost, branch, held_below, zero_of}
+use Rattle.wasm_rules.specs.Types.{number_in}
+use Rattle.wasm_rules.specs.Configuration.{Label, LabelOf, FrameOf}
+use Rattle.wasm_rules.specs.Steps.{topmost, branch, held_below, zero_of}
 use Rattle.machine_slots.specs.rules.Places.{all_below}
 use Rattle.machine_slots.specs.Frames.{frame_words}
 use Rattle.machine_slots.specs.laws.Laws.{kept_by, BranchesFall, ReturnsFall, EntryPushesZeros}

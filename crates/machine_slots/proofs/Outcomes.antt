@@ -3,7 +3,7 @@ use Rattle.std.proofs.Common.{ℕ, List, Result, Ok, Err}
 use Rattle.wasm_syntax.specs.declared.value.Trap.{Trap}
 use Rattle.wasm_syntax.specs.declared.instruction.Instruction.{Instruction}
 use Rattle.guest_memory.specs.rules.Memories.{LinearMemory}
-use Rattle.wasm_semantics.specs.Effects.{IsEffect}
+use Rattle.wasm_rules.specs.Effects.{IsEffect}
 use Rattle.machine_slots.specs.Frames.{Operates}
 use Rattle.machine_slots.specs.Outcomes.{outcome_of, HasEffect}
 

@@ -10,12 +10,12 @@ use Rattle.wasm_syntax.specs.declared.types.ValueType.{ValueType}
 use Rattle.wasm_syntax.specs.declared.instruction.Instruction.TheVariants as instr
 use Rattle.wasm_syntax.specs.rules.Sequence.{Sequence, Stop, Plain, InBlock, InLoop, InIf, InIfElse}
 use Rattle.wasm_syntax.specs.rules.Sequence.{spelled}
-use Rattle.wasm_semantics.specs.Types.{results_of}
-use Rattle.wasm_semantics.specs.Typing.{Context}
-use Rattle.wasm_semantics.specs.Configuration.{Part, Main, Second, Label, LabelOf}
-use Rattle.wasm_semantics.specs.Shapes.{Shape, LabelShape, ShapeOf, types_behind, shape_at}
-use Rattle.wasm_semantics.specs.Shapes.{body_shape}
-use Rattle.wasm_semantics.proofs.TypedShape.{closed_length}
+use Rattle.wasm_rules.specs.Types.{results_of}
+use Rattle.wasm_rules.specs.Typing.{Context}
+use Rattle.wasm_rules.specs.Configuration.{Part, Main, Second, Label, LabelOf}
+use Rattle.wasm_rules.specs.Shapes.{Shape, LabelShape, ShapeOf, types_behind, shape_at}
+use Rattle.wasm_rules.specs.Shapes.{body_shape}
+use Rattle.wasm_rules.proofs.TypedShape.{closed_length}
 use Rattle.machine_slots.specs.rules.Places.{HaveShape}
 use Rattle.machine_slots.specs.laws.Laws.{ShapesTellPositions, LabelsTellPositions}
 

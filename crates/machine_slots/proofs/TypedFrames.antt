@@ -11,12 +11,12 @@ use Rattle.wasm_syntax.specs.declared.value.Value.{Value}
 use Rattle.wasm_syntax.specs.declared.value.Value.TheVariants as value
 use Rattle.wasm_syntax.specs.declared.instruction.Instruction.{Instruction}
 use Rattle.guest_memory.specs.rules.Memories.{LinearMemory}
-use Rattle.wasm_semantics.specs.Types.{AreOf, number_in}
-use Rattle.wasm_semantics.specs.Typing.{Context, HasInstructionType}
-use Rattle.wasm_semantics.specs.Configuration.{Program, Store, Label}
-use Rattle.wasm_semantics.specs.Effects.{Effect, Gives, Fails, Wrong, effect, IsEffect}
-use Rattle.wasm_semantics.specs.Typed.{IsTypedStore}
-use Rattle.wasm_semantics.proofs.Soundness.EffectSound.{EffectHas, effect_has}
+use Rattle.wasm_rules.specs.Types.{AreOf, number_in}
+use Rattle.wasm_rules.specs.Typing.{Context, HasInstructionType}
+use Rattle.wasm_rules.specs.Configuration.{Program, Store, Label}
+use Rattle.wasm_rules.specs.Effects.{Effect, Gives, Fails, Wrong, effect, IsEffect}
+use Rattle.wasm_rules.specs.Typed.{IsTypedStore}
+use Rattle.wasm_rules.proofs.Soundness.EffectSound.{EffectHas, effect_has}
 use Rattle.machine_slots.specs.rules.Places.{slots_of, all_below}
 use Rattle.machine_slots.specs.Frames.{frame_words, AllNumbersFit, ShowsStore, IsNotWrong, IsReady}
 use Rattle.machine_slots.proofs.Families.{map-reverse}

@@ -6,7 +6,7 @@ use Rattle.wasm_syntax.specs.declared.types.ValueType.{ValueType}
 use Rattle.wasm_syntax.specs.declared.types.ValueType.TheVariants.{I32, I64}
 use Rattle.wasm_syntax.specs.declared.operator.StoreOperator.{StoreOperator}
 use Rattle.guest_memory.specs.rules.Memories.{LinearMemory}
-use Rattle.wasm_semantics.specs.Types.{stored_type}
+use Rattle.wasm_rules.specs.Types.{stored_type}
 use Rattle.machine_slots.specs.Words.{IsWordOf, Stores, operand_in, stored_at}
 
 -- a word that is one of this type is its own operand

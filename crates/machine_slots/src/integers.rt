@@ -2,7 +2,7 @@
 
 ghost use Rattle.std.specs.Prelude.{◌≡◌, ◌<◌, ℕ, List, ◌∷◌, ◌==◌, length};
 ghost use Rattle.int_ops.specs.rules.Integers.{unary_of, binary_of, compare_of, convert_of, truth};
-ghost use Rattle.wasm_semantics.specs.Types.{width_of, conversion_takes};
+ghost use Rattle.wasm_rules.specs.Types.{width_of, conversion_takes};
 ghost use Rattle.machine_slots.specs.Words.{HasOne, HasTwo, LeavesWord};
 
 use crate::slots::Slots;

@@ -1,7 +1,7 @@
 //! Constants, `drop` and `select` (sections 4.4.1 and 4.4.2).
 
 ghost use Rattle.std.specs.Prelude.{◌≡◌, ◌<◌, ◌≤◌, ℕ, List, ◌∷◌, length};
-ghost use Rattle.wasm_semantics.specs.Types.{number_in};
+ghost use Rattle.wasm_rules.specs.Types.{number_in};
 ghost use Rattle.machine_slots.specs.Words.{selected_word};
 
 use crate::slots::{SLOTS, Slots};

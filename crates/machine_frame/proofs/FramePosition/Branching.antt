@@ -11,15 +11,15 @@ use Rattle.wasm_syntax.specs.declared.value.Value.{Value}
 use Rattle.wasm_syntax.specs.declared.instruction.Instruction.TheVariants as instr
 use Rattle.wasm_syntax.specs.rules.Sequence.{Sequence, Stop, Plain, InBlock, InLoop, InIf, InIfElse}
 use Rattle.wasm_syntax.specs.rules.Sequence.{spelled}
-use Rattle.wasm_semantics.specs.Types.{AreOf, results_of}
-use Rattle.wasm_semantics.specs.Typing.{Context, IsLabel}
-use Rattle.wasm_semantics.specs.Configuration.{Part, Main, Second, Label, LabelOf}
-use Rattle.wasm_semantics.specs.Shapes.{Shape, LabelShape, ShapeOf, types_behind, shape_at}
-use Rattle.wasm_semantics.specs.Shapes.{body_shape}
-use Rattle.wasm_semantics.specs.laws.TypedShapes.{AreTypedShapes}
-use Rattle.wasm_semantics.specs.Steps.{held_below}
-use Rattle.wasm_semantics.specs.laws.Laws.{labels_height}
-use Rattle.wasm_semantics.proofs.Soundness.Values.{are_both, topmost_are}
+use Rattle.wasm_rules.specs.Types.{AreOf, results_of}
+use Rattle.wasm_rules.specs.Typing.{Context, IsLabel}
+use Rattle.wasm_rules.specs.Configuration.{Part, Main, Second, Label, LabelOf}
+use Rattle.wasm_rules.specs.Shapes.{Shape, LabelShape, ShapeOf, types_behind, shape_at}
+use Rattle.wasm_rules.specs.Shapes.{body_shape}
+use Rattle.wasm_rules.specs.laws.TypedShapes.{AreTypedShapes}
+use Rattle.wasm_rules.specs.Steps.{held_below}
+use Rattle.wasm_rules.specs.laws.Laws.{labels_height}
+use Rattle.wasm_rules.proofs.Soundness.Values.{are_both, topmost_are}
 use Rattle.machine_slots.specs.rules.Places.{HaveShape}
 use Rattle.machine_slots.proofs.Branches.{held_all}
 use Rattle.machine_jumps.specs.declared.jump.Jump.{Jump}

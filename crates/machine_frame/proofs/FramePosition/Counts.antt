@@ -1,8 +1,8 @@
 -- How many labels and values there are where their shapes and types are known.
 use Rattle.std.proofs.Common.{◌≡◌, suc, List, [], ◌∷◌, length, refl, ap, arith, length-append}
-use Rattle.wasm_semantics.specs.Configuration.{Label, LabelOf}
-use Rattle.wasm_semantics.specs.Shapes.{LabelShape, ShapeOf}
-use Rattle.wasm_semantics.specs.laws.Laws.{labels_height}
+use Rattle.wasm_rules.specs.Configuration.{Label, LabelOf}
+use Rattle.wasm_rules.specs.Shapes.{LabelShape, ShapeOf}
+use Rattle.wasm_rules.specs.laws.Laws.{labels_height}
 use Rattle.machine_slots.specs.rules.Places.{HaveShape, all_below}
 use Rattle.machine_frame.proofs.Threads.Words.{values_count}
 

@@ -15,15 +15,15 @@ use Rattle.wasm_syntax.specs.declared.instruction.Instruction.{Instruction}
 use Rattle.wasm_syntax.specs.declared.instruction.Instruction.TheVariants as instr
 use Rattle.int_ops.specs.rules.Integers.{binary_of}
 use Rattle.guest_memory.specs.rules.Bytes.{bytes_of, page_size, with_part}
-use Rattle.wasm_semantics.specs.Types.{width_of, value_of, conversion_takes, loaded_type}
-use Rattle.wasm_semantics.specs.Types.{stored_type, stored_width, bytes_in}
-use Rattle.wasm_semantics.specs.Typing.{Context, HasInstructionType}
-use Rattle.wasm_semantics.specs.Shapes.{types_behind}
-use Rattle.wasm_semantics.specs.Configuration.{Program, Store}
-use Rattle.wasm_semantics.specs.Effects.{Effect, Gives, Fails, Wrong, with_top, effect_of_some}
-use Rattle.wasm_semantics.specs.Effects.{with_result, load_at, store_at, pages_of, grown, effect}
-use Rattle.wasm_semantics.specs.Effects.{IsEffect, copied_at, filled_at, with_written}
-use Rattle.wasm_semantics.proofs.TypedShape.{IsBehind, typed_behind}
+use Rattle.wasm_rules.specs.Types.{width_of, value_of, conversion_takes, loaded_type}
+use Rattle.wasm_rules.specs.Types.{stored_type, stored_width, bytes_in}
+use Rattle.wasm_rules.specs.Typing.{Context, HasInstructionType}
+use Rattle.wasm_rules.specs.Shapes.{types_behind}
+use Rattle.wasm_rules.specs.Configuration.{Program, Store}
+use Rattle.wasm_rules.specs.Effects.{Effect, Gives, Fails, Wrong, with_top, effect_of_some}
+use Rattle.wasm_rules.specs.Effects.{with_result, load_at, store_at, pages_of, grown, effect}
+use Rattle.wasm_rules.specs.Effects.{IsEffect, copied_at, filled_at, with_written}
+use Rattle.wasm_rules.proofs.TypedShape.{IsBehind, typed_behind}
 
 -- ---- typing goes on behind them
 

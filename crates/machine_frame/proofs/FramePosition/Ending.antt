@@ -6,11 +6,11 @@ use Rattle.wasm_syntax.specs.declared.value.Value.{Value}
 use Rattle.wasm_syntax.specs.declared.instruction.Instruction.{Instruction}
 use Rattle.wasm_syntax.specs.declared.instruction.Instruction.TheVariants as instr
 use Rattle.wasm_syntax.specs.rules.Sequence.{Sequence, Stop, spelled}
-use Rattle.wasm_semantics.specs.Types.{AreOf}
-use Rattle.wasm_semantics.specs.Typing.{Context}
-use Rattle.wasm_semantics.specs.Configuration.{Part, Label, LabelOf}
-use Rattle.wasm_semantics.specs.Shapes.{LabelShape, ShapeOf}
-use Rattle.wasm_semantics.proofs.Soundness.Values.{are_both}
+use Rattle.wasm_rules.specs.Types.{AreOf}
+use Rattle.wasm_rules.specs.Typing.{Context}
+use Rattle.wasm_rules.specs.Configuration.{Part, Label, LabelOf}
+use Rattle.wasm_rules.specs.Shapes.{LabelShape, ShapeOf}
+use Rattle.wasm_rules.proofs.Soundness.Values.{are_both}
 use Rattle.machine_slots.specs.rules.Places.{HaveShape}
 use Rattle.machine_jumps.specs.Jumps.{HasShape, IsExit}
 use Rattle.machine_jumps.specs.Tables.{HasJump, entry}

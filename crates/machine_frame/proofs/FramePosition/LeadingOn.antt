@@ -7,15 +7,15 @@ use Rattle.wasm_syntax.specs.declared.types.ValueType.TheVariants.{I32}
 use Rattle.wasm_syntax.specs.declared.value.Value.{Value}
 use Rattle.wasm_syntax.specs.declared.value.Value.TheVariants as value
 use Rattle.wasm_syntax.specs.rules.Sequence.{Sequence, InIf, InIfElse, Plain}
-use Rattle.wasm_semantics.specs.Types.{AreOf, results_of}
-use Rattle.wasm_semantics.specs.Typing.{Context}
-use Rattle.wasm_semantics.specs.Configuration.{Part, Main, Second, Label}
-use Rattle.wasm_semantics.specs.Shapes.{Shape, LabelShape, ShapeOf, types_behind}
-use Rattle.wasm_semantics.specs.laws.TypedShapes.{IsTypedShape}
-use Rattle.wasm_semantics.specs.Steps.{block_label}
-use Rattle.wasm_semantics.specs.Effects.{Gives}
-use Rattle.wasm_semantics.proofs.TypedShape.{reached_shapes_typed}
-use Rattle.wasm_semantics.proofs.Soundness.EffectSound.{EffectHas, effect_has}
+use Rattle.wasm_rules.specs.Types.{AreOf, results_of}
+use Rattle.wasm_rules.specs.Typing.{Context}
+use Rattle.wasm_rules.specs.Configuration.{Part, Main, Second, Label}
+use Rattle.wasm_rules.specs.Shapes.{Shape, LabelShape, ShapeOf, types_behind}
+use Rattle.wasm_rules.specs.laws.TypedShapes.{IsTypedShape}
+use Rattle.wasm_rules.specs.Steps.{block_label}
+use Rattle.wasm_rules.specs.Effects.{Gives}
+use Rattle.wasm_rules.proofs.TypedShape.{reached_shapes_typed}
+use Rattle.wasm_rules.proofs.Soundness.EffectSound.{EffectHas, effect_has}
 use Rattle.machine_slots.specs.rules.Places.{HaveShape}
 use Rattle.machine_jumps.specs.Jumps.{HasShape, JumpsTo}
 use Rattle.machine_jumps.specs.Moves.{IsTypedBody}

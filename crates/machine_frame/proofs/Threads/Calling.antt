@@ -13,16 +13,16 @@ use Rattle.wasm_syntax.specs.declared.value.Trap.TheVariants as trap
 use Rattle.wasm_syntax.specs.declared.instruction.Instruction.{Instruction}
 use Rattle.wasm_syntax.specs.declared.instruction.Instruction.TheVariants as instr
 use Rattle.wasm_syntax.specs.rules.Sequence.{Sequence, Plain}
-use Rattle.wasm_semantics.specs.Types.{AreOf, number_in, takes_of}
-use Rattle.wasm_semantics.specs.Types.{is_same_function_type}
-use Rattle.wasm_semantics.specs.Typing.{Context}
-use Rattle.wasm_semantics.specs.Configuration.{Callee, Program, Label, Frame, FrameOf, Thread}
-use Rattle.wasm_semantics.specs.Configuration.{Configuration, Traps}
-use Rattle.wasm_semantics.specs.Steps.{called, calls_entry, signature_of, counted_step, IsReduced}
-use Rattle.wasm_semantics.specs.Typed.{IsTypedProgram, IsTypedEntry}
-use Rattle.wasm_semantics.proofs.Soundness.ControlSound.{same_function_type}
-use Rattle.wasm_semantics.proofs.Soundness.ControlSound.{are_same as types_same}
-use Rattle.wasm_semantics.proofs.Soundness.CountedSound.{callee_at, callee_inside}
+use Rattle.wasm_rules.specs.Types.{AreOf, number_in, takes_of}
+use Rattle.wasm_rules.specs.Types.{is_same_function_type}
+use Rattle.wasm_rules.specs.Typing.{Context}
+use Rattle.wasm_rules.specs.Configuration.{Callee, Program, Label, Frame, FrameOf, Thread}
+use Rattle.wasm_rules.specs.Configuration.{Configuration, Traps}
+use Rattle.wasm_rules.specs.Steps.{called, calls_entry, signature_of, counted_step, IsReduced}
+use Rattle.wasm_rules.specs.Typed.{IsTypedProgram, IsTypedEntry}
+use Rattle.wasm_rules.proofs.Soundness.ControlSound.{same_function_type}
+use Rattle.wasm_rules.proofs.Soundness.ControlSound.{are_same as types_same}
+use Rattle.wasm_rules.proofs.Soundness.CountedSound.{callee_at, callee_inside}
 use Rattle.machine_slots.specs.rules.Places.{all_below}
 use Rattle.machine_slots.specs.Frames.{frame_words}
 use Rattle.machine_jumps.specs.Tables.{Table}

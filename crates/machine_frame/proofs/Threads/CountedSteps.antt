@@ -8,17 +8,17 @@ use Rattle.wasm_syntax.specs.declared.value.Value.TheVariants as value
 use Rattle.wasm_syntax.specs.declared.instruction.Instruction.{Instruction}
 use Rattle.wasm_syntax.specs.declared.instruction.Instruction.TheVariants as instr
 use Rattle.wasm_syntax.specs.rules.Sequence.{Sequence, Stop, Plain}
-use Rattle.wasm_semantics.specs.Types.{gives_of}
-use Rattle.wasm_semantics.specs.Typing.{Context}
-use Rattle.wasm_semantics.specs.Configuration.{Callee, Program, Label, FrameOf, Thread}
-use Rattle.wasm_semantics.specs.Configuration.{Configuration}
-use Rattle.wasm_semantics.specs.Steps.{topmost, returned, called, calls_entry, signature_of}
-use Rattle.wasm_semantics.specs.Steps.{counted_step}
-use Rattle.wasm_semantics.specs.Steps.{counted_step_of, exited_by, IsReduced, IsCounted}
-use Rattle.wasm_semantics.specs.Steps.{IsAdministrative}
-use Rattle.wasm_semantics.specs.Typed.{IsTypedProgram, IsTyped}
-use Rattle.wasm_semantics.proofs.Soundness.AdministrativeSound.{never_stuck_holds}
-use Rattle.wasm_semantics.proofs.Soundness.AdministrativeSound.{goes_typed as sound_typed}
+use Rattle.wasm_rules.specs.Types.{gives_of}
+use Rattle.wasm_rules.specs.Typing.{Context}
+use Rattle.wasm_rules.specs.Configuration.{Callee, Program, Label, FrameOf, Thread}
+use Rattle.wasm_rules.specs.Configuration.{Configuration}
+use Rattle.wasm_rules.specs.Steps.{topmost, returned, called, calls_entry, signature_of}
+use Rattle.wasm_rules.specs.Steps.{counted_step}
+use Rattle.wasm_rules.specs.Steps.{counted_step_of, exited_by, IsReduced, IsCounted}
+use Rattle.wasm_rules.specs.Steps.{IsAdministrative}
+use Rattle.wasm_rules.specs.Typed.{IsTypedProgram, IsTyped}
+use Rattle.wasm_rules.proofs.Soundness.AdministrativeSound.{never_stuck_holds}
+use Rattle.wasm_rules.proofs.Soundness.AdministrativeSound.{goes_typed as sound_typed}
 
 -- A configuration whose running frame is before a plain opcode is reduced.
 pub reduced_before : (program : Program) (d : Configuration) (f : ℕ) (ls vs : List Value)

@@ -10,17 +10,17 @@ use Rattle.wasm_syntax.specs.declared.types.FunctionType.{FunctionType}
 use Rattle.wasm_syntax.specs.declared.value.Value.{Value}
 use Rattle.wasm_syntax.specs.declared.value.Trap.TheVariants as trap
 use Rattle.wasm_syntax.specs.rules.Sequence.{Sequence}
-use Rattle.wasm_semantics.specs.Types.{AreOf, number_in, takes_of}
-use Rattle.wasm_semantics.specs.Typing.{Context}
-use Rattle.wasm_semantics.specs.Configuration.{Callee, Imported, Own, Program, Label, Frame}
-use Rattle.wasm_semantics.specs.Configuration.{FrameOf}
-use Rattle.wasm_semantics.specs.Configuration.{Thread, Configuration, Outcome, Goes, Traps, Asks}
-use Rattle.wasm_semantics.specs.Steps.{topmost, entered, called, held_by, is_exhausted}
-use Rattle.wasm_semantics.specs.Steps.{signature_of}
-use Rattle.wasm_semantics.specs.Steps.{zero_of, counted_step, IsReduced, IsCounted}
-use Rattle.wasm_semantics.specs.Shapes.{LabelShape}
-use Rattle.wasm_semantics.specs.Typed.{IsTypedProgram}
-use Rattle.wasm_semantics.proofs.Soundness.Values.{topmost_are, zeros_are, are_both, reverse_are}
+use Rattle.wasm_rules.specs.Types.{AreOf, number_in, takes_of}
+use Rattle.wasm_rules.specs.Typing.{Context}
+use Rattle.wasm_rules.specs.Configuration.{Callee, Imported, Own, Program, Label, Frame}
+use Rattle.wasm_rules.specs.Configuration.{FrameOf}
+use Rattle.wasm_rules.specs.Configuration.{Thread, Configuration, Outcome, Goes, Traps, Asks}
+use Rattle.wasm_rules.specs.Steps.{topmost, entered, called, held_by, is_exhausted}
+use Rattle.wasm_rules.specs.Steps.{signature_of}
+use Rattle.wasm_rules.specs.Steps.{zero_of, counted_step, IsReduced, IsCounted}
+use Rattle.wasm_rules.specs.Shapes.{LabelShape}
+use Rattle.wasm_rules.specs.Typed.{IsTypedProgram}
+use Rattle.wasm_rules.proofs.Soundness.Values.{topmost_are, zeros_are, are_both, reverse_are}
 use Rattle.machine_slots.specs.rules.Places.{HaveShape, all_below, IsCallOf}
 use Rattle.machine_slots.specs.Frames.{frame_words}
 use Rattle.machine_slots.proofs.Branches.{topmost_is, entry_pushes}

@@ -11,18 +11,18 @@ use Rattle.wasm_syntax.specs.declared.value.Value.{Value}
 use Rattle.wasm_syntax.specs.declared.value.Value.TheVariants as value
 use Rattle.wasm_syntax.specs.declared.instruction.Instruction.TheVariants as instr
 use Rattle.wasm_syntax.specs.rules.Sequence.{Sequence, Stop, Plain, InBlock, InLoop, InIf, InIfElse}
-use Rattle.wasm_semantics.specs.Types.{AreOf, IsOf, value_of, number_in, takes_of, gives_of}
-use Rattle.wasm_semantics.specs.Types.{value_type_of}
-use Rattle.wasm_semantics.specs.Typing.{Context, HasType, body_context}
-use Rattle.wasm_semantics.specs.Configuration.{Own, Program, Store, Label, LabelOf, FrameOf}
-use Rattle.wasm_semantics.specs.Configuration.{Thread}
-use Rattle.wasm_semantics.specs.Shapes.{LabelShape, ShapeOf}
-use Rattle.wasm_semantics.specs.laws.TypedShapes.{AreTypedShapes}
-use Rattle.wasm_semantics.specs.Steps.{held_by, held_below, exited_by}
-use Rattle.wasm_semantics.specs.Typed.{IsTypedMemory, IsTypedProgram, IsTypedThread}
-use Rattle.wasm_semantics.specs.Typed.{AreTypedLabels, IsEntry}
-use Rattle.wasm_semantics.proofs.TypedShape.{reached_shapes_typed}
-use Rattle.wasm_semantics.proofs.Soundness.Values.{are_both, reverse_are}
+use Rattle.wasm_rules.specs.Types.{AreOf, IsOf, value_of, number_in, takes_of, gives_of}
+use Rattle.wasm_rules.specs.Types.{value_type_of}
+use Rattle.wasm_rules.specs.Typing.{Context, HasType, body_context}
+use Rattle.wasm_rules.specs.Configuration.{Own, Program, Store, Label, LabelOf, FrameOf}
+use Rattle.wasm_rules.specs.Configuration.{Thread}
+use Rattle.wasm_rules.specs.Shapes.{LabelShape, ShapeOf}
+use Rattle.wasm_rules.specs.laws.TypedShapes.{AreTypedShapes}
+use Rattle.wasm_rules.specs.Steps.{held_by, held_below, exited_by}
+use Rattle.wasm_rules.specs.Typed.{IsTypedMemory, IsTypedProgram, IsTypedThread}
+use Rattle.wasm_rules.specs.Typed.{AreTypedLabels, IsEntry}
+use Rattle.wasm_rules.proofs.TypedShape.{reached_shapes_typed}
+use Rattle.wasm_rules.proofs.Soundness.Values.{are_both, reverse_are}
 use Rattle.wasm_validate.specs.rules.Operands.{types_below, types_in}
 use Rattle.machine_slots.specs.rules.Places.{HaveShape, all_below, slots_of, held_beside, IsCallOf}
 use Rattle.machine_slots.specs.rules.Places.{ShownFrame, ShowsCallers, ShowsThread}

@@ -12,18 +12,18 @@ use Rattle.wasm_syntax.specs.declared.value.Trap.TheVariants as trap
 use Rattle.wasm_syntax.specs.declared.instruction.Instruction.{Instruction}
 use Rattle.wasm_syntax.specs.declared.instruction.Instruction.TheVariants as instr
 use Rattle.wasm_syntax.specs.rules.Sequence.{Sequence}
-use Rattle.wasm_semantics.specs.Types.{AreOf, number_in, takes_of, gives_of}
-use Rattle.wasm_semantics.specs.Types.{is_same_function_type}
-use Rattle.wasm_semantics.specs.Typing.{Context}
-use Rattle.wasm_semantics.specs.Configuration.{Callee, Imported, Own, Program, Label, Frame}
-use Rattle.wasm_semantics.specs.Configuration.{FrameOf}
-use Rattle.wasm_semantics.specs.Configuration.{Thread, Configuration, Goes, Traps, Asks}
-use Rattle.wasm_semantics.specs.Steps.{where_some, entered, called, calls_entry, held_by}
-use Rattle.wasm_semantics.specs.Steps.{is_exhausted, signature_of, zero_of, returned, counted_step}
-use Rattle.wasm_semantics.specs.Steps.{exited_by}
-use Rattle.wasm_semantics.specs.Steps.{IsReduced, IsAdministrative, answered}
-use Rattle.wasm_semantics.specs.Typed.{IsTypedMemory, IsEntry}
-use Rattle.wasm_semantics.proofs.Soundness.AdministrativeSound.{administrative_typed, answers_typed}
+use Rattle.wasm_rules.specs.Types.{AreOf, number_in, takes_of, gives_of}
+use Rattle.wasm_rules.specs.Types.{is_same_function_type}
+use Rattle.wasm_rules.specs.Typing.{Context}
+use Rattle.wasm_rules.specs.Configuration.{Callee, Imported, Own, Program, Label, Frame}
+use Rattle.wasm_rules.specs.Configuration.{FrameOf}
+use Rattle.wasm_rules.specs.Configuration.{Thread, Configuration, Goes, Traps, Asks}
+use Rattle.wasm_rules.specs.Steps.{where_some, entered, called, calls_entry, held_by}
+use Rattle.wasm_rules.specs.Steps.{is_exhausted, signature_of, zero_of, returned, counted_step}
+use Rattle.wasm_rules.specs.Steps.{exited_by}
+use Rattle.wasm_rules.specs.Steps.{IsReduced, IsAdministrative, answered}
+use Rattle.wasm_rules.specs.Typed.{IsTypedMemory, IsEntry}
+use Rattle.wasm_rules.proofs.Soundness.AdministrativeSound.{administrative_typed, answers_typed}
 use Rattle.machine_slots.specs.rules.Places.{held_beside}
 use Rattle.guest_memory.specs.rules.Memories.{LinearMemory}
 use Rattle.machine_slots.specs.Frames.{frame_words}

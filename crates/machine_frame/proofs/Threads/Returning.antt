@@ -7,13 +7,13 @@ use Rattle.wasm_syntax.specs.declared.value.Value.{Value}
 use Rattle.wasm_syntax.specs.declared.instruction.Instruction.{Instruction}
 use Rattle.wasm_syntax.specs.declared.instruction.Instruction.TheVariants as instr
 use Rattle.wasm_syntax.specs.rules.Sequence.{Sequence, Stop, Plain}
-use Rattle.wasm_semantics.specs.Types.{AreOf, number_in, gives_of}
-use Rattle.wasm_semantics.specs.Typing.{Context}
-use Rattle.wasm_semantics.specs.Configuration.{Own, Program, Label, Configuration}
-use Rattle.wasm_semantics.specs.Steps.{topmost, returned, held_by}
-use Rattle.wasm_semantics.specs.Typed.{IsTyped}
-use Rattle.wasm_semantics.proofs.Soundness.Values.{topmost_are}
-use Rattle.wasm_semantics.proofs.Soundness.AdministrativeSound.{administrative_typed}
+use Rattle.wasm_rules.specs.Types.{AreOf, number_in, gives_of}
+use Rattle.wasm_rules.specs.Typing.{Context}
+use Rattle.wasm_rules.specs.Configuration.{Own, Program, Label, Configuration}
+use Rattle.wasm_rules.specs.Steps.{topmost, returned, held_by}
+use Rattle.wasm_rules.specs.Typed.{IsTyped}
+use Rattle.wasm_rules.proofs.Soundness.Values.{topmost_are}
+use Rattle.wasm_rules.proofs.Soundness.AdministrativeSound.{administrative_typed}
 use Rattle.machine_slots.specs.rules.Places.{all_below, held_beside}
 use Rattle.machine_jumps.specs.Moves.{opcodes_of, HasOpcode, IsTypedBody}
 use Rattle.machine_jumps.specs.Tables.{Table}

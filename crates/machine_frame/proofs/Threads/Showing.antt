@@ -7,10 +7,10 @@ use Rattle.std.proofs.lemmas.List.{reverse-reverse, append-nil}
 use Rattle.wasm_syntax.specs.declared.types.FunctionType.{FunctionType}
 use Rattle.wasm_syntax.specs.declared.value.Value.{Value}
 use Rattle.wasm_syntax.specs.rules.Sequence.{Stop}
-use Rattle.wasm_semantics.specs.Types.{number_in}
-use Rattle.wasm_semantics.specs.Typing.{Context}
-use Rattle.wasm_semantics.specs.Configuration.{Program, Store, Label, LabelOf, FrameOf, Thread}
-use Rattle.wasm_semantics.specs.Steps.{exited_by}
+use Rattle.wasm_rules.specs.Types.{number_in}
+use Rattle.wasm_rules.specs.Typing.{Context}
+use Rattle.wasm_rules.specs.Configuration.{Program, Store, Label, LabelOf, FrameOf, Thread}
+use Rattle.wasm_rules.specs.Steps.{exited_by}
 use Rattle.machine_slots.specs.rules.Places.{all_below, slots_of, ShowsCallers, ShowsThread}
 use Rattle.machine_slots.specs.Frames.{frame_words}
 use Rattle.machine_slots.proofs.TypedFrames.{slots_words, words_slots}

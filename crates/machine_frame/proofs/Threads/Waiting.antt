@@ -11,13 +11,13 @@ use Rattle.wasm_syntax.specs.declared.instruction.Instruction.{Instruction}
 use Rattle.wasm_syntax.specs.declared.instruction.Instruction.TheVariants as instr
 use Rattle.wasm_syntax.specs.rules.Sequence.{Sequence, Stop, Plain, InBlock, InLoop, InIf, InIfElse}
 use Rattle.wasm_syntax.specs.rules.Sequence.{IsPlain}
-use Rattle.wasm_semantics.specs.Types.{AreOf, number_in, takes_of, gives_of}
-use Rattle.wasm_semantics.specs.Typing.{Context, HasInstructionType}
-use Rattle.wasm_semantics.specs.Configuration.{Program, Label, FrameOf, Thread}
-use Rattle.wasm_semantics.specs.Steps.{topmost, returned, held_by}
-use Rattle.wasm_semantics.specs.Shapes.{LabelShape, types_behind}
-use Rattle.wasm_semantics.proofs.TypedShape.{reached_shapes_typed}
-use Rattle.wasm_semantics.proofs.Soundness.Values.{are_both}
+use Rattle.wasm_rules.specs.Types.{AreOf, number_in, takes_of, gives_of}
+use Rattle.wasm_rules.specs.Typing.{Context, HasInstructionType}
+use Rattle.wasm_rules.specs.Configuration.{Program, Label, FrameOf, Thread}
+use Rattle.wasm_rules.specs.Steps.{topmost, returned, held_by}
+use Rattle.wasm_rules.specs.Shapes.{LabelShape, types_behind}
+use Rattle.wasm_rules.proofs.TypedShape.{reached_shapes_typed}
+use Rattle.wasm_rules.proofs.Soundness.Values.{are_both}
 use Rattle.machine_slots.specs.rules.Places.{all_below, held_beside, IsCallOf}
 use Rattle.machine_slots.specs.Frames.{frame_words}
 use Rattle.machine_slots.proofs.Branches.{return_splits}

@@ -6,10 +6,10 @@ use Rattle.std.proofs.lemmas.List.{length-map}
 use Rattle.wasm_syntax.specs.declared.types.ValueType.{ValueType}
 use Rattle.wasm_syntax.specs.declared.types.FunctionType.{FunctionType}
 use Rattle.wasm_syntax.specs.declared.value.Value.{Value}
-use Rattle.wasm_semantics.specs.Types.{AreOf, number_in}
-use Rattle.wasm_semantics.specs.Typing.{Context}
-use Rattle.wasm_semantics.specs.Configuration.{Program, Label, FrameOf, Thread}
-use Rattle.wasm_semantics.specs.Steps.{held_by}
+use Rattle.wasm_rules.specs.Types.{AreOf, number_in}
+use Rattle.wasm_rules.specs.Typing.{Context}
+use Rattle.wasm_rules.specs.Configuration.{Program, Label, FrameOf, Thread}
+use Rattle.wasm_rules.specs.Steps.{held_by}
 use Rattle.machine_slots.specs.rules.Places.{all_below}
 use Rattle.machine_slots.specs.Frames.{frame_words}
 use Rattle.machine_slots.specs.laws.Laws.{Falls}

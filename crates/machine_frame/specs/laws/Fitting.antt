@@ -6,11 +6,11 @@ use Rattle.std.specs.List.{AllByRecursion}
 use Rattle.wasm_syntax.specs.declared.types.ValueType.{ValueType}
 use Rattle.wasm_syntax.specs.declared.types.FunctionType.{FunctionType}
 use Rattle.wasm_syntax.specs.rules.Sequence.{Sequence, Stop}
-use Rattle.wasm_semantics.specs.Types.{IsOf, value_of, value_type_of}
-use Rattle.wasm_semantics.specs.Typing.{Context, body_context}
-use Rattle.wasm_semantics.specs.Configuration.{Own, Program, Configuration}
-use Rattle.wasm_semantics.specs.Shapes.{Shape, body_shape}
-use Rattle.wasm_semantics.specs.Typed.{IsTypedMemory, IsEntry, IsTypedEntry, IsTypedProgram}
+use Rattle.wasm_rules.specs.Types.{IsOf, value_of, value_type_of}
+use Rattle.wasm_rules.specs.Typing.{Context, body_context}
+use Rattle.wasm_rules.specs.Configuration.{Own, Program, Configuration}
+use Rattle.wasm_rules.specs.Shapes.{Shape, body_shape}
+use Rattle.wasm_rules.specs.Typed.{IsTypedMemory, IsEntry, IsTypedEntry, IsTypedProgram}
 use Rattle.wasm_validate.specs.rules.Operands.{types_below, types_in}
 use Rattle.machine_slots.specs.rules.Places.{IsCallOf, ShownFrame, IsFrameOf, MachineState, Shows}
 use Rattle.machine_slots.specs.declared.limits.TheConstants.{FRAMES, HELD_VALUES}

@@ -6,13 +6,13 @@ use Rattle.wasm_syntax.specs.declared.value.Value.{Value}
 use Rattle.wasm_syntax.specs.declared.instruction.Instruction.{Instruction}
 use Rattle.wasm_syntax.specs.rules.Sequence.{Sequence, spelled}
 use Rattle.guest_memory.specs.rules.Memories.{LinearMemory}
-use Rattle.wasm_semantics.specs.Types.{AreOf, number_in}
-use Rattle.wasm_semantics.specs.Typing.{Context, HasInstructionType}
-use Rattle.wasm_semantics.specs.Configuration.{Program, Store, Label, LabelOf, FrameOf}
-use Rattle.wasm_semantics.specs.Shapes.{Shape, body_shape}
-use Rattle.wasm_semantics.specs.Steps.{topmost, branch, held_below, zero_of}
-use Rattle.wasm_semantics.specs.Effects.{IsEffect}
-use Rattle.wasm_semantics.specs.Typed.{IsTypedStore}
+use Rattle.wasm_rules.specs.Types.{AreOf, number_in}
+use Rattle.wasm_rules.specs.Typing.{Context, HasInstructionType}
+use Rattle.wasm_rules.specs.Configuration.{Program, Store, Label, LabelOf, FrameOf}
+use Rattle.wasm_rules.specs.Shapes.{Shape, body_shape}
+use Rattle.wasm_rules.specs.Steps.{topmost, branch, held_below, zero_of}
+use Rattle.wasm_rules.specs.Effects.{IsEffect}
+use Rattle.wasm_rules.specs.Typed.{IsTypedStore}
 use Rattle.machine_slots.specs.rules.Places.{HaveShape, slots_of, all_below}
 use Rattle.machine_slots.specs.Frames.{frame_words, ShowsStore, IsReady}
 

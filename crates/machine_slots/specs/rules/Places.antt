@@ -7,13 +7,13 @@ use Rattle.wasm_syntax.specs.declared.types.FunctionType.{FunctionType}
 use Rattle.wasm_syntax.specs.declared.value.Value.{Value}
 use Rattle.wasm_syntax.specs.declared.instruction.Instruction.TheVariants as instr
 use Rattle.wasm_syntax.specs.rules.Sequence.{Sequence, Stop, Plain}
-use Rattle.wasm_semantics.specs.Types.{AreOf, number_in, takes_of}
-use Rattle.wasm_semantics.specs.Typing.{Context, body_context}
-use Rattle.wasm_semantics.specs.Configuration.{Own, Program, Label, LabelOf, FrameOf, Thread}
-use Rattle.wasm_semantics.specs.Configuration.{Configuration}
-use Rattle.wasm_semantics.specs.Steps.{held_by, IsReduced}
-use Rattle.wasm_semantics.specs.Shapes.{Shape, LabelShape, ShapeOf, body_shape}
-use Rattle.wasm_semantics.specs.Typed.{IsTyped}
+use Rattle.wasm_rules.specs.Types.{AreOf, number_in, takes_of}
+use Rattle.wasm_rules.specs.Typing.{Context, body_context}
+use Rattle.wasm_rules.specs.Configuration.{Own, Program, Label, LabelOf, FrameOf, Thread}
+use Rattle.wasm_rules.specs.Configuration.{Configuration}
+use Rattle.wasm_rules.specs.Steps.{held_by, IsReduced}
+use Rattle.wasm_rules.specs.Shapes.{Shape, LabelShape, ShapeOf, body_shape}
+use Rattle.wasm_rules.specs.Typed.{IsTyped}
 use Rattle.machine_slots.specs.declared.limits.TheConstants.{FRAMES, HELD_VALUES}
 
 -- A frame: its function, and the position of an opcode in its body, counted from 0 with each `else`

@@ -1,6 +1,6 @@
 use Rattle.std.proofs.Common.{ℕ, List}
 use Rattle.guest_memory.specs.rules.Memories.{LinearMemory}
-use Rattle.wasm_semantics.specs.Configuration.{Configuration}
+use Rattle.wasm_rules.specs.Configuration.{Configuration}
 use Rattle.machine_frame.specs.rules.FramePosition.{IsRoutine, Around, FrameShows}
 use Rattle.machine_frame.proofs.FrameLemmas.Ends.{PassingEnds}
 use Rattle.machine_frame.proofs.frame.step.pass_ends.Given as goal
