@@ -9,15 +9,15 @@ use Rattle.wasm_syntax.specs.declared.instruction.Instruction.TheVariants as ins
 use Rattle.wasm_syntax.specs.declared.module.Module.{Module}
 use Rattle.wasm_syntax.specs.rules.Sequence.{Sequence, Plain, spelled}
 use Rattle.wasi_abi.specs.declared.call.Call.{Call}
-use Rattle.wasm_semantics.specs.Types.{number_in}
-use Rattle.wasm_semantics.specs.Typing.{Context, body_context}
-use Rattle.wasm_semantics.specs.Validity.{module_context}
-use Rattle.wasm_semantics.specs.Configuration.{Own, Program, Label, Thread, FrameOf}
-use Rattle.wasm_semantics.specs.Configuration.{Configuration, Traps, Stuck}
-use Rattle.wasm_semantics.specs.Steps.{counted_step, counted_step_of, stopped, answered, IsEnded}
-use Rattle.wasm_semantics.specs.Steps.{ReducesTo}
-use Rattle.wasm_semantics.specs.Steps.{Advances, Steps, none, more}
-use Rattle.wasm_semantics.proofs.OneRun.{one_run, reduces_once}
+use Rattle.wasm_rules.specs.Types.{number_in}
+use Rattle.wasm_rules.specs.Typing.{Context, body_context}
+use Rattle.wasm_rules.specs.Validity.{module_context}
+use Rattle.wasm_rules.specs.Configuration.{Own, Program, Label, Thread, FrameOf}
+use Rattle.wasm_rules.specs.Configuration.{Configuration, Traps, Stuck}
+use Rattle.wasm_rules.specs.Steps.{counted_step, counted_step_of, stopped, answered, IsEnded}
+use Rattle.wasm_rules.specs.Steps.{ReducesTo}
+use Rattle.wasm_rules.specs.Steps.{Advances, Steps, none, more}
+use Rattle.wasm_rules.proofs.OneRun.{one_run, reduces_once}
 use Rattle.machine_slots.specs.rules.Places.{ShownFrame, IsCallOf, ShowsRunning, ShowsWaiting}
 use Rattle.machine_slots.specs.rules.Places.{IsFrameOf, ShowsCallers, ShowsThread}
 use Rattle.machine_slots.proofs.ShapePositions.{labels_tell}

@@ -9,12 +9,12 @@ use Rattle.wasm_syntax.specs.declared.value.Trap.TheVariants as trap
 use Rattle.wasm_syntax.specs.declared.instruction.Instruction.{Instruction}
 use Rattle.wasm_syntax.specs.declared.instruction.Instruction.TheVariants as instr
 use Rattle.wasm_syntax.specs.rules.Sequence.{Sequence, Plain}
-use Rattle.wasm_semantics.specs.Types.{takes_of, is_same_function_type}
-use Rattle.wasm_semantics.specs.Configuration.{Callee, Imported, Own, Program, Label, Frame}
-use Rattle.wasm_semantics.specs.Configuration.{FrameOf}
-use Rattle.wasm_semantics.specs.Configuration.{Thread, Configuration, Outcome, Traps, Asks}
-use Rattle.wasm_semantics.specs.Steps.{where_some, topmost, called, calls_entry, signature_of}
-use Rattle.wasm_semantics.specs.Steps.{entered, execute, counted_step_of, counted_step}
+use Rattle.wasm_rules.specs.Types.{takes_of, is_same_function_type}
+use Rattle.wasm_rules.specs.Configuration.{Callee, Imported, Own, Program, Label, Frame}
+use Rattle.wasm_rules.specs.Configuration.{FrameOf}
+use Rattle.wasm_rules.specs.Configuration.{Thread, Configuration, Outcome, Traps, Asks}
+use Rattle.wasm_rules.specs.Steps.{where_some, topmost, called, calls_entry, signature_of}
+use Rattle.wasm_rules.specs.Steps.{entered, execute, counted_step_of, counted_step}
 use Rattle.machine.proofs.CycleLemmas.Asking.{IsCall, no_entering, only_calls}
 use Rattle.machine.specs.laws.Laws.{with_memory_bytes}
 

@@ -1,8 +1,8 @@
 -- What going on without fuel does: it reduces.
 use Rattle.std.proofs.Common.{◌≡◌, ℕ, List, subst, arith}
 use Rattle.wasm_syntax.specs.declared.types.FunctionType.{FunctionType}
-use Rattle.wasm_semantics.specs.Configuration.{Program, Configuration}
-use Rattle.wasm_semantics.specs.Steps.{IsReduced, ReducesTo}
+use Rattle.wasm_rules.specs.Configuration.{Program, Configuration}
+use Rattle.wasm_rules.specs.Steps.{IsReduced, ReducesTo}
 use Rattle.machine_frame.specs.rules.Walks.{Walks}
 use Rattle.machine_frame.proofs.FramePosition.Walking.{walks_reduce}
 use Rattle.machine.specs.declared.execution.code.Executable.{Executable}

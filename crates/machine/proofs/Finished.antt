@@ -5,8 +5,8 @@ use Rattle.wasm_syntax.specs.declared.types.FunctionType.{FunctionType}
 use Rattle.wasm_syntax.specs.declared.value.Value.{Value}
 use Rattle.guest_memory.specs.rules.Bytes.{IsByte}
 use Rattle.guest_memory.specs.rules.Memories.{IsWithinLimit}
-use Rattle.wasm_semantics.specs.Configuration.{Program, Configuration}
-use Rattle.wasm_semantics.specs.Steps.{answered}
+use Rattle.wasm_rules.specs.Configuration.{Program, Configuration}
+use Rattle.wasm_rules.specs.Steps.{answered}
 use Rattle.machine.specs.declared.execution.code.Executable.{Executable}
 use Rattle.machine.specs.declared.execution.state.State.{State}
 use Rattle.machine.specs.declared.execution.pause.Paused.{Paused}

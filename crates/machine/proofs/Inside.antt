@@ -5,10 +5,10 @@ use Rattle.wasm_syntax.specs.declared.types.FunctionType.{FunctionType}
 use Rattle.wasm_syntax.specs.declared.module.Module.{Module}
 use Rattle.guest_memory.specs.rules.Bytes.{IsByte, page_size}
 use Rattle.guest_memory.specs.rules.Memories.{LinearMemory, IsWithinLimit}
-use Rattle.wasm_semantics.specs.Validity.{module_context}
-use Rattle.wasm_semantics.specs.Configuration.{Program, Configuration}
-use Rattle.wasm_semantics.specs.Steps.{IsReduced}
-use Rattle.wasm_semantics.specs.Typed.{IsTypedMemory}
+use Rattle.wasm_rules.specs.Validity.{module_context}
+use Rattle.wasm_rules.specs.Configuration.{Program, Configuration}
+use Rattle.wasm_rules.specs.Steps.{IsReduced}
+use Rattle.wasm_rules.specs.Typed.{IsTypedMemory}
 use Rattle.machine_frame.proofs.Threads.Showing.{reduced_is_shown, shown_stands}
 use Rattle.machine.specs.Routines.Routines.{opcodes_in, tables_in}
 use Rattle.machine.specs.declared.execution.code.Executable.{Executable}

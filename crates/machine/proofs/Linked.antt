@@ -2,13 +2,13 @@
 use Rattle.std.proofs.Common.{◌≡◌, ℕ, ◌≤◌, ◌^◌, List, sym, ◌∙◌, subst}
 use Rattle.wasm_syntax.specs.declared.types.FunctionType.{FunctionType}
 use Rattle.wasm_syntax.specs.declared.module.Module.{Module}
-use Rattle.wasm_semantics.specs.Validity.{IsValid, AreFunctionTypes}
-use Rattle.wasm_semantics.specs.Configuration.{Program, Store, Configuration}
-use Rattle.wasm_semantics.specs.Instantiation.{IsProgram, calls_of, Begins}
-use Rattle.wasm_semantics.specs.Steps.{ReducesTo}
-use Rattle.wasm_semantics.specs.Typed.{IsTypedMemory}
-use Rattle.wasm_semantics.proofs.OneRun.{reduces_once}
-use Rattle.wasm_semantics.proofs.OneStore.{store_once}
+use Rattle.wasm_rules.specs.Validity.{IsValid, AreFunctionTypes}
+use Rattle.wasm_rules.specs.Configuration.{Program, Store, Configuration}
+use Rattle.wasm_rules.specs.Instantiation.{IsProgram, calls_of, Begins}
+use Rattle.wasm_rules.specs.Steps.{ReducesTo}
+use Rattle.wasm_rules.specs.Typed.{IsTypedMemory}
+use Rattle.wasm_rules.proofs.OneRun.{reduces_once}
+use Rattle.wasm_rules.proofs.OneStore.{store_once}
 use Rattle.machine.specs.declared.execution.state.State.{State}
 use Rattle.machine.specs.declared.execution.pause.Paused.{Paused}
 use Rattle.machine.specs.Execution.Codes.{StandsForSome}

@@ -3,10 +3,10 @@ use Rattle.std.proofs.Common.{◌≡◌, ℕ, List, ◌++◌, sym, ◌∙◌}
 use Rattle.std.specs.Prelude.{map}
 use Rattle.wasm_syntax.specs.declared.types.FunctionType.{FunctionType}
 use Rattle.wasm_syntax.specs.declared.module.Module.{Module}
-use Rattle.wasm_semantics.specs.Types.{imported_functions}
+use Rattle.wasm_rules.specs.Types.{imported_functions}
 use Rattle.wasm_syntax.specs.rules.Modules.{function_type_of}
-use Rattle.wasm_semantics.specs.Configuration.{Program}
-use Rattle.wasm_semantics.proofs.OneProgram as program
+use Rattle.wasm_rules.specs.Configuration.{Program}
+use Rattle.wasm_rules.proofs.OneProgram as program
 use Rattle.machine.specs.rules.Values.{IsProgramIn}
 
 module _ (m : Module) (most : ℕ) (fs gs : List FunctionType) (p q : Program)

@@ -9,13 +9,13 @@ use Rattle.wasm_syntax.specs.declared.value.Value.{Value}
 use Rattle.wasm_syntax.specs.declared.value.Value.TheVariants as value
 use Rattle.wasm_syntax.specs.declared.instruction.Instruction.TheVariants as instr
 use Rattle.wasm_syntax.specs.rules.Sequence.{Sequence, Plain}
-use Rattle.wasm_semantics.specs.Types.{AreOf, number_in, value_type_of}
-use Rattle.wasm_semantics.specs.Typing.{Context, body_context}
-use Rattle.wasm_semantics.specs.Validity.{module_context}
-use Rattle.wasm_semantics.specs.Shapes.{Shape, LabelShape, ShapeOf, body_shape}
-use Rattle.wasm_semantics.specs.Configuration.{Own, Program, Label, LabelOf, FrameOf, Thread}
-use Rattle.wasm_semantics.specs.Configuration.{Configuration}
-use Rattle.wasm_semantics.proofs.Soundness.Values.{are_both, reverse_are}
+use Rattle.wasm_rules.specs.Types.{AreOf, number_in, value_type_of}
+use Rattle.wasm_rules.specs.Typing.{Context, body_context}
+use Rattle.wasm_rules.specs.Validity.{module_context}
+use Rattle.wasm_rules.specs.Shapes.{Shape, LabelShape, ShapeOf, body_shape}
+use Rattle.wasm_rules.specs.Configuration.{Own, Program, Label, LabelOf, FrameOf, Thread}
+use Rattle.wasm_rules.specs.Configuration.{Configuration}
+use Rattle.wasm_rules.proofs.Soundness.Values.{are_both, reverse_are}
 use Rattle.machine_slots.specs.rules.Places.{ShownFrame, MachineState, HaveShape, all_below}
 use Rattle.machine_slots.specs.rules.Places.{slots_of, IsCallOf, ShowsRunning, ShowsWaiting}
 use Rattle.machine_slots.specs.rules.Places.{IsFrameOf, ShowsCallers, ShowsThread, Shows}

@@ -9,9 +9,9 @@ use Rattle.std.proofs.lemmas.List.{length-replicate}
 use Rattle.guest_memory.specs.rules.Bytes.{IsByte, page_size}
 use Rattle.guest_memory.specs.rules.Memories.{zeroed}
 use Rattle.guest_memory.proofs.Lists.{all_replicate}
-use Rattle.wasm_semantics.specs.Configuration.{Program}
-use Rattle.wasm_semantics.specs.Instantiation.{most_pages_of}
-use Rattle.wasm_semantics.specs.Validity.{IsValid, module_context, memories_of}
+use Rattle.wasm_rules.specs.Configuration.{Program}
+use Rattle.wasm_rules.specs.Instantiation.{most_pages_of}
+use Rattle.wasm_rules.specs.Validity.{IsValid, module_context, memories_of}
 use Rattle.machine_frame.specs.rules.Stacked.{AreStacked}
 use Rattle.machine_frame.proofs.Threads.Showing.{frames_stacked}
 use Rattle.machine.specs.declared.execution.code.Executable.{Executable}

@@ -5,8 +5,8 @@ use Rattle.wasm_syntax.specs.declared.types.FunctionType.{FunctionType}
 use Rattle.guest_memory.specs.rules.Bytes.{IsByte}
 use Rattle.guest_memory.specs.rules.Memories.{IsWithinLimit}
 use Rattle.wasi_abi.specs.declared.call.Call.{Call}
-use Rattle.wasm_semantics.specs.Configuration.{Program, Configuration}
-use Rattle.wasm_semantics.specs.Steps.{stopped, IsReduced}
+use Rattle.wasm_rules.specs.Configuration.{Program, Configuration}
+use Rattle.wasm_rules.specs.Steps.{stopped, IsReduced}
 use Rattle.machine_frame.proofs.FramePosition.Walking.{walks_are_steps}
 use Rattle.machine.specs.declared.execution.code.Executable.{Executable}
 use Rattle.machine.specs.declared.execution.state.State.{State}

@@ -5,10 +5,10 @@ use Rattle.wasm_syntax.specs.declared.value.Trap.{Trap}
 use Rattle.wasm_syntax.specs.rules.Sequence.{Sequence, Stop, Plain, InBlock, InLoop, InIf, InIfElse}
 use Rattle.std.specs.Prelude.{slice_get}
 use Rattle.std.specs.Option.{option_map}
-use Rattle.wasm_semantics.specs.Configuration.{Program, Store, Label, FrameOf, Thread}
-use Rattle.wasm_semantics.specs.Configuration.{Configuration, Outcome, Asks, Traps, Stuck}
-use Rattle.wasm_semantics.specs.Steps.{counted_step, counted_step_of, exited, exited_by, begun}
-use Rattle.wasm_semantics.specs.Steps.{IsReduced, IsEnded}
+use Rattle.wasm_rules.specs.Configuration.{Program, Store, Label, FrameOf, Thread}
+use Rattle.wasm_rules.specs.Configuration.{Configuration, Outcome, Asks, Traps, Stuck}
+use Rattle.wasm_rules.specs.Steps.{counted_step, counted_step_of, exited, exited_by, begun}
+use Rattle.wasm_rules.specs.Steps.{IsReduced, IsEnded}
 
 -- nothing comes of nothing
 nothing_made : {X Y Z : Type 0} (o : Option X) (g : X → Y) (h : X → Z) → option_map g o ≡ None

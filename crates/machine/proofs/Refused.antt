@@ -6,8 +6,8 @@ use Rattle.wasm_syntax.specs.declared.module.Module.{Module}
 use Rattle.wasm_syntax.specs.rules.Modules.{IsModule}
 use Rattle.wasm_syntax.specs.rules.Limits.{HasNoModule}
 use Rattle.wasm_syntax.specs.laws.Laws.{BytesSpellAtMostOneModule}
-use Rattle.wasm_semantics.specs.Validity.{IsValid}
-use Rattle.wasm_semantics.specs.Linking.{IsLinkable}
+use Rattle.wasm_rules.specs.Validity.{IsValid}
+use Rattle.wasm_rules.specs.Linking.{IsLinkable}
 use Rattle.wasm_decode.specs.declared.fault.DecodeFault.{DecodeFault}
 use Rattle.wasm_decode.specs.declared.fault.DecodeFault.TheVariants as decode
 use Rattle.wasm_validate.specs.declared.parts.fault.ValidFault.{ValidFault}

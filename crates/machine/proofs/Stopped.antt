@@ -5,9 +5,9 @@ use Rattle.std.specs.Prelude.{reverse}
 use Rattle.wasm_syntax.specs.declared.types.FunctionType.{FunctionType}
 use Rattle.guest_memory.specs.rules.Bytes.{page_size}
 use Rattle.guest_memory.specs.rules.Memories.{LinearMemory}
-use Rattle.wasm_semantics.specs.Validity.{module_context}
-use Rattle.wasm_semantics.specs.Configuration.{Program}
-use Rattle.wasm_semantics.specs.Steps.{stopped}
+use Rattle.wasm_rules.specs.Validity.{module_context}
+use Rattle.wasm_rules.specs.Configuration.{Program}
+use Rattle.wasm_rules.specs.Steps.{stopped}
 use Rattle.machine_slots.specs.rules.Places.{ShownFrame, ShowsThread}
 use Rattle.machine_frame.specs.rules.Threads.{places_of}
 use Rattle.machine.specs.declared.execution.code.Executable.{Executable}

@@ -5,10 +5,10 @@ use Rattle.std.specs.List.{AllByRecursion}
 use Rattle.guest_memory.specs.rules.Bytes.{IsByte}
 use Rattle.guest_memory.specs.rules.Memories.{IsWithinLimit}
 use Rattle.wasm_syntax.specs.declared.types.FunctionType.{FunctionType}
-use Rattle.wasm_semantics.specs.Validity.{module_context}
-use Rattle.wasm_semantics.specs.Typing.{Context}
-use Rattle.wasm_semantics.specs.Configuration.{Program, Thread, Configuration}
-use Rattle.wasm_semantics.specs.Steps.{exited_by}
+use Rattle.wasm_rules.specs.Validity.{module_context}
+use Rattle.wasm_rules.specs.Typing.{Context}
+use Rattle.wasm_rules.specs.Configuration.{Program, Thread, Configuration}
+use Rattle.wasm_rules.specs.Steps.{exited_by}
 use Rattle.machine_slots.specs.rules.Places.{ShowsThread}
 use Rattle.machine_frame.specs.declared.rules.frame.StackFrame.{StackFrame}
 use Rattle.machine_frame.specs.rules.Threads.{places_of}

@@ -3,8 +3,8 @@ use Rattle.std.proofs.Common.{◌≡◌, ℕ, List, length, refl, ap, ◌∙◌,
 use Rattle.std.specs.List.{AllByRecursion}
 use Rattle.guest_memory.specs.rules.Bytes.{IsByte}
 use Rattle.wasi_abi.specs.rules.Calls.{call_type_of}
-use Rattle.wasm_semantics.specs.Configuration.{Program}
-use Rattle.wasm_semantics.specs.Typed.{IsTypedMemory}
+use Rattle.wasm_rules.specs.Configuration.{Program}
+use Rattle.wasm_rules.specs.Typed.{IsTypedMemory}
 use Rattle.machine.specs.laws.Laws.{with_memory_bytes, ShowsWhatIsWritten, WaitsForTheCall}
 use Rattle.machine.proofs.AskingAgain.{asks_again}
 use Rattle.machine.proofs.Reduced.{another_store}

@@ -5,10 +5,10 @@ use Rattle.wasm_syntax.specs.declared.types.FunctionType.{FunctionType}
 use Rattle.wasm_syntax.specs.declared.module.Module.{Module}
 use Rattle.guest_memory.specs.rules.Bytes.{IsByte, page_size}
 use Rattle.guest_memory.specs.rules.Memories.{LinearMemory, IsWithinLimit}
-use Rattle.wasm_semantics.specs.Validity.{memories_of}
-use Rattle.wasm_semantics.specs.Configuration.{Program, Configuration}
-use Rattle.wasm_semantics.specs.Steps.{IsReduced}
-use Rattle.wasm_semantics.specs.Typed.{IsTypedEntry}
+use Rattle.wasm_rules.specs.Validity.{memories_of}
+use Rattle.wasm_rules.specs.Configuration.{Program, Configuration}
+use Rattle.wasm_rules.specs.Steps.{IsReduced}
+use Rattle.wasm_rules.specs.Typed.{IsTypedEntry}
 use Rattle.machine_frame.specs.rules.Stacked.{AreStacked}
 use Rattle.machine_frame.specs.rules.Threads.{machine_state_of}
 use Rattle.machine.specs.declared.execution.code.Executable.{Executable}

@@ -22,6 +22,8 @@ const NO_FRAME: StackFrame = StackFrame {
 pub struct Frames {
     frames: Vec<StackFrame>,
     height: usize,
+    /// How many frames fell at a trap. They are still in the list, and contracts don't see them.
+    fallen: usize,
 }
 
 impl Model for Frames {
@@ -42,7 +44,11 @@ impl Frames {
         ensures { IfOk result (λ s. s ≡ []) }
     {
         let frames = vec![in alloc; NO_FRAME; FRAMES]?;
-        Ok(Frames { frames, height: 0 })
+        Ok(Frames {
+            frames,
+            height: 0,
+            fallen: 0,
+        })
     }
 
     #[inline(always)]
@@ -163,5 +169,35 @@ impl Frames {
         ensures { self.new ≡ [] }
     {
         self.height = 0;
+    }
+
+    /// Leaves no frames, and `fallen` tells where they were. No clause says that it does.
+    pub fn fall(&mut self)
+        ensures { self.new ≡ [] }
+    {
+        self.fallen = self.height;
+        self.height = 0;
+    }
+
+    /// The same, where the innermost frame was at this position.
+    pub fn fall_at(&mut self, position: usize)
+        ensures { self.new ≡ [] }
+    {
+        if self.height > 0 {
+            let top = self.height - 1;
+            self.frames[top].position = position;
+        }
+        self.fall();
+    }
+
+    /// How many frames fell.
+    pub fn fallen_count(&self) -> usize {
+        self.fallen
+    }
+
+    /// The frame that fell with this number, from 0, counted from the innermost one out.
+    pub fn fallen(&self, index: usize) -> Option<StackFrame> {
+        let below = self.fallen.checked_sub(index)?.checked_sub(1)?;
+        self.frames.as_slice().get(below).copied()
     }
 }

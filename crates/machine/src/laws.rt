@@ -4,7 +4,7 @@ ghost use Rattle.machine.specs.laws.Alike.{MachinesAnswerAlike, MachinesRunAlike
 ghost use Rattle.machine.specs.laws.Laws.{AsksTheSame, MachineShowsOne, ShowsWhatIsWritten};
 ghost use Rattle.machine.specs.laws.Laws.{WaitsForTheCall};
 ghost use Rattle.machine.specs.laws.Routines.{FunctionsAreNumbered, FunctionsAreCounted};
-ghost use Rattle.wasm_semantics.specs.laws.Soundness.{OffersNoEntry};
+ghost use Rattle.wasm_rules.specs.laws.Soundness.{OffersNoEntry};
 ghost use Rattle.machine.specs.rules.Offers.{offer};
 
 /// While a call of the host waits, the bytes of memory may be written: the machine then waits at

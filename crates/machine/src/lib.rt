@@ -21,10 +21,10 @@
 //!
 //! # Promises
 //!
-//! - `read`: the module is spelled by the bytes, within the limits, and valid (`read`). `accept`: the
-//!   machine is of the accepted module that they spell, and has begun (`accepted`). A refusal is
-//!   that of the first of decoding, validation and linking that refuses (`reported`). Unless memory
-//!   runs out no such module is spelled by the bytes (`only`).
+//! - `read`: the module is spelled by the bytes, within the limits, and valid (`read`). `accept`:
+//!   the machine is of the accepted module that the bytes spell, and has begun (`accepted`). A
+//!   refusal is that of the first of decoding, validation and linking that refuses (`reported`).
+//!   Unless memory runs out no such module is spelled by the bytes (`only`).
 //! - `link`: the machine shows where the module begins (`begun`). A fault names the first thing
 //!   that isn't there (`refused`).
 //! - `Machine::run`: on so much fuel a machine comes to where that many counted steps lead. The
@@ -33,8 +33,9 @@
 //!   (`answers`). A call has to wait.
 //! - `waits` tells the call of the host that waits, and its arguments, and `has_ended` whether the
 //!   program is over. Both are exact, and nothing runs.
-//! - `globals`, `frame_count`, `place`, `slot_count` and `is_starting` tell what a machine shows
+//! - `globals`, `frame_count`, `frame`, `slot_count` and `is_starting` tell what a machine shows
 //!   beside memory.
+//! - `trap_frame` tells where a frame was when the machine trapped. Tests alone show that.
 //! - `memory_mut` lends the guest's memory, and nothing else changes (`writes_back`). `stop` drops
 //!   the thread, `unlink` gives the module back, and `close` lets the machine go.
 //! - `into_loading` takes a machine's parts away, so that others can be put in their place.
@@ -48,22 +49,15 @@
 //!
 //! In `specs/rules/`: `MachineValue`, `ShowsIn` (`Values.antt`); `HasBegun`, `RunsOnFuel`,
 //! `WaitsFor`, `Answers` (`Runs.antt`); `LinkDenies` (`Refusals.antt`); `ShowsSome`, `LoadDenies`
-//! (`Loading.antt`); `Accepts`, `IsRead`, `IsReported` (`Acceptance.antt`). `Shows` is of `machine_slots`.
+//! (`Loading.antt`); `Accepts`, `IsRead`, `IsReported` (`Acceptance.antt`). `Shows` is of
+//! `machine_slots`.
 //!
 //! # Who may touch what
 //!
 //! No code but this crate's and that of `machine_frame`, `machine_slots` and `machine_jumps`
-//! changes frames, slots or positions. `process`, `state_image` and `command_words` use it. `link`
-//! takes all memory that running needs, and translates bodies into register code; where it fails
-//! the module is gone. The other calls take none and have no errors, but those of `Loading`.
-//!
-//! # Choices
-//!
-//! - **A contract is stated for every configuration that is shown**, and asks that there is one.
-//!   Nothing has to be known of which it is. No clause of `run` or `finish` names a slot, a frame
-//!   or a routine.
-//! - **Front end and start are apart** (`read`, then `Process::start`): a recovery makes its process
-//!   of an image, and starts none.
+//! changes frames, slots or positions. `process`, `state_image` and `command_words` use the crate.
+//! `link` takes all memory that running needs, and translates bodies into register code. Where it
+//! fails the module is gone. The other calls take none and have no errors, but those of `Loading`.
 #![tactic(auto)]
 
 mod execution;
@@ -74,14 +68,16 @@ mod instance;
 pub mod laws;
 mod linking;
 mod loading;
-mod places;
 mod routines;
 mod running_machine;
+mod shown;
+mod trapped;
 
 pub use execution::{Arguments, HostCall, Pause, Paused};
 pub use from_bytes::{ModuleFault, accept, read};
 pub use instance::{LinkFault, entry_of};
 pub use linking::link;
 pub use loading::{LoadFault, Loading};
-pub use places::FramePlace;
 pub use running_machine::Machine;
+pub use shown::LentFrame;
+pub use trapped::TrapFrame;

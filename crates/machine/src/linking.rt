@@ -1,8 +1,8 @@
 //! From a module to a machine.
 
 ghost use Rattle.std.specs.Prelude.{◌≤◌, IfOk, IfErr, OnOk};
-ghost use Rattle.wasm_semantics.specs.Validity.{IsValid};
-ghost use Rattle.wasm_semantics.specs.Linking.{IsLinkable};
+ghost use Rattle.wasm_rules.specs.Validity.{IsValid};
+ghost use Rattle.wasm_rules.specs.Linking.{IsLinkable};
 ghost use Rattle.machine.specs.rules.Offers.{offer};
 ghost use Rattle.machine.specs.rules.Refusals.{IsRefused, LinkDenies};
 ghost use Rattle.machine.specs.rules.Runs.{HasBegun};

@@ -2,6 +2,9 @@
 //!
 //! # Choices
 //!
+//! - **A contract is stated for every configuration that is shown**, and asks that there is one.
+//!   Nothing has to be known of which one is shown. No clause of `run` or `finish` names a slot, a
+//!   frame or a routine.
 //! - **The machine's invariant holds whatever its memory is**: with each memory of the program's
 //!   limit, its state stands for a reduced configuration. The memory can be lent whole, and any
 //!   memory may be written back. What runs asks only that the memory's limit is the one that the

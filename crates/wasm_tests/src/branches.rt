@@ -1,7 +1,7 @@
 //! Where jumps of small bodies lead, derived from the standard. A branch to the label of a block or
 //! an `if` goes on after its `end`. One to that of a loop goes on at the loop, and one to the
-//! function's own after the last `end`. It keeps what the label takes, above the operands that were
-//! below the block.
+//! function's own after the last `end`. A branch keeps what the label takes, above the operands
+//! that were below the block.
 
 ghost use Rattle.std.specs.Prelude.{IfOk};
 ghost use Rattle.machine_jumps.specs.Contexts.{GivesOnes};

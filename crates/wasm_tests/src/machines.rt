@@ -62,8 +62,8 @@ static LINKED: [Linked; 28] = [
     (
         &[
             HEADER,
-            "010c 02 600000 60047f7f7f7f017f 0223 01 16'wasi_snapshot_preview1'08'fd_write'0001 070a \
-            01 06'_start'0000",
+            "010c 02 600000 60047f7f7f7f017f 0223 01 16'wasi_snapshot_preview1'08'fd_write'0001 \
+            070a 01 06'_start'0000",
         ],
         NO_START,
     ),
@@ -77,8 +77,8 @@ static LINKED: [Linked; 28] = [
     (
         &[
             HEADER,
-            "0104 01 600000 0302 01 00 0404 01 700001 0713 02 06'_start'0000 06'memory'0100 0a04 01 \
-            02000b",
+            "0104 01 600000 0302 01 00 0404 01 700001 0713 02 06'_start'0000 06'memory'0100 0a04 \
+            01 02000b",
         ],
         NO_MEMORY,
     ),

@@ -1,9 +1,9 @@
-//! That small bodies are translated into register code. No contract says which bodies are: a
-//! translation that gave up at each of them would be proved.
+//! Small bodies are translated into register code. No contract says which bodies are: a translation
+//! that gave up at each of them would be proved.
 //!
-//! How many register instructions a body has at most follows from what one is. It names the
-//! slots of its operands and of its word, so that an opcode that only moves a word has none of its
-//! own. The last register instruction of a body leaves it at its end.
+//! How many register instructions a body has at most follows from what one is. A register
+//! instruction names the slots of its operands and of its word, so an opcode that only moves a word
+//! has none of its own. The last register instruction of a body leaves it at its end.
 
 use crate::branches::{context_of, first_table};
 use crate::rows::assert_row;

@@ -10,15 +10,15 @@ use Rattle.wasm_syntax.specs.declared.value.Trap.TheVariants as trap
 use Rattle.wasm_syntax.specs.declared.instruction.Instruction.{Instruction}
 use Rattle.wasm_syntax.specs.declared.instruction.Instruction.TheVariants as instr
 use Rattle.wasm_syntax.specs.rules.Sequence.{Sequence, Stop, Plain, InBlock, InLoop, InIf, InIfElse}
-use Rattle.wasm_semantics.specs.Types.{takes_of, gives_of, is_same_function_type}
-use Rattle.wasm_semantics.specs.Configuration.{Callee, Imported, Own, Program, Label, Frame}
-use Rattle.wasm_semantics.specs.Configuration.{FrameOf}
-use Rattle.wasm_semantics.specs.Configuration.{Thread, Configuration, Outcome, Goes, Traps, Asks}
-use Rattle.wasm_semantics.specs.Effects.{Effect, Gives, Fails, Wrong, effect}
-use Rattle.wasm_semantics.specs.Steps.{where_some, topmost, branch, returned, called}
-use Rattle.wasm_semantics.specs.Steps.{calls_entry, signature_of, entered, is_exhausted}
-use Rattle.wasm_semantics.specs.Steps.{after_effect}
-use Rattle.wasm_semantics.specs.Steps.{goes_on, execute, counted_step_of}
+use Rattle.wasm_rules.specs.Types.{takes_of, gives_of, is_same_function_type}
+use Rattle.wasm_rules.specs.Configuration.{Callee, Imported, Own, Program, Label, Frame}
+use Rattle.wasm_rules.specs.Configuration.{FrameOf}
+use Rattle.wasm_rules.specs.Configuration.{Thread, Configuration, Outcome, Goes, Traps, Asks}
+use Rattle.wasm_rules.specs.Effects.{Effect, Gives, Fails, Wrong, effect}
+use Rattle.wasm_rules.specs.Steps.{where_some, topmost, branch, returned, called}
+use Rattle.wasm_rules.specs.Steps.{calls_entry, signature_of, entered, is_exhausted}
+use Rattle.wasm_rules.specs.Steps.{after_effect}
+use Rattle.wasm_rules.specs.Steps.{goes_on, execute, counted_step_of}
 use Rattle.machine_frame.proofs.Threads.Calling.{same_signature}
 
 -- the instructions that call

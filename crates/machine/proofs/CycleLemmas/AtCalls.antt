@@ -10,14 +10,14 @@ use Rattle.wasm_syntax.specs.declared.value.Value.{Value}
 use Rattle.wasm_syntax.specs.declared.instruction.Instruction.{Instruction}
 use Rattle.wasm_syntax.specs.declared.instruction.Instruction.TheVariants as instr
 use Rattle.wasm_syntax.specs.rules.Sequence.{Sequence, Plain}
-use Rattle.wasm_semantics.specs.Types.{number_in, takes_of}
-use Rattle.wasm_semantics.specs.Typing.{Context}
-use Rattle.wasm_semantics.specs.Shapes.{LabelShape}
-use Rattle.wasm_semantics.specs.Validity.{module_context}
-use Rattle.wasm_semantics.specs.Configuration.{Imported, Program, Label, Thread, Configuration}
-use Rattle.wasm_semantics.specs.Configuration.{Asks}
-use Rattle.wasm_semantics.specs.Configuration.{FrameOf}
-use Rattle.wasm_semantics.specs.Steps.{topmost, signature_of, counted_step_of}
+use Rattle.wasm_rules.specs.Types.{number_in, takes_of}
+use Rattle.wasm_rules.specs.Typing.{Context}
+use Rattle.wasm_rules.specs.Shapes.{LabelShape}
+use Rattle.wasm_rules.specs.Validity.{module_context}
+use Rattle.wasm_rules.specs.Configuration.{Imported, Program, Label, Thread, Configuration}
+use Rattle.wasm_rules.specs.Configuration.{Asks}
+use Rattle.wasm_rules.specs.Configuration.{FrameOf}
+use Rattle.wasm_rules.specs.Steps.{topmost, signature_of, counted_step_of}
 use Rattle.machine_jumps.specs.Jumps.{HasShape}
 use Rattle.machine_jumps.specs.Moves.{HasOpcode, IsFirst, IsTypedBody}
 use Rattle.machine_jumps.proofs.MovesHold.{opcodes_first, no_opcode_behind}

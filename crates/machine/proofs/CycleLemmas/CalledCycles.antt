@@ -8,10 +8,10 @@ use Rattle.wasm_syntax.specs.declared.value.Trap.TheVariants as trap
 use Rattle.wasm_syntax.specs.declared.instruction.Instruction.TheVariants as instr
 use Rattle.wasi_abi.specs.declared.call.Call.{Call}
 use Rattle.wasi_abi.specs.rules.Calls.{parameters_of}
-use Rattle.wasm_semantics.specs.Types.{number_in}
-use Rattle.wasm_semantics.specs.Validity.{module_context}
-use Rattle.wasm_semantics.specs.Configuration.{Callee, Program, Configuration, Traps}
-use Rattle.wasm_semantics.specs.Steps.{counted_step, IsEnded}
+use Rattle.wasm_rules.specs.Types.{number_in}
+use Rattle.wasm_rules.specs.Validity.{module_context}
+use Rattle.wasm_rules.specs.Configuration.{Callee, Program, Configuration, Traps}
+use Rattle.wasm_rules.specs.Steps.{counted_step, IsEnded}
 use Rattle.machine_slots.specs.declared.limits.TheConstants.{FRAMES, HELD_VALUES}
 use Rattle.machine_frame.specs.Frame.ByRegisterCode.{HasPosition}
 use Rattle.machine_frame.specs.rules.Walks.{here, counted}

@@ -16,14 +16,14 @@ use Rattle.wasm_syntax.specs.declared.module.ImportItem.TheVariants as import
 use Rattle.wasm_syntax.specs.rules.Sequence.{Sequence}
 use Rattle.wasi_abi.specs.declared.call.Call.{Call}
 use Rattle.wasi_abi.specs.rules.Calls.{call_type_of, parameters_of}
-use Rattle.wasm_semantics.specs.Types.{AreOf, number_in, takes_of, imported_functions}
-use Rattle.wasm_semantics.specs.Types.{with_function_index}
-use Rattle.wasm_semantics.specs.Validity.{module_context}
-use Rattle.wasm_semantics.specs.Linking.{IsItemOffered, IsOffered}
-use Rattle.wasm_semantics.specs.Configuration.{Callee, Imported, Own, Program, Thread}
-use Rattle.wasm_semantics.specs.Configuration.{Configuration}
-use Rattle.wasm_semantics.specs.Configuration.{Asks, Traps}
-use Rattle.wasm_semantics.specs.Steps.{counted_step, IsCounted}
+use Rattle.wasm_rules.specs.Types.{AreOf, number_in, takes_of, imported_functions}
+use Rattle.wasm_rules.specs.Types.{with_function_index}
+use Rattle.wasm_rules.specs.Validity.{module_context}
+use Rattle.wasm_rules.specs.Linking.{IsItemOffered, IsOffered}
+use Rattle.wasm_rules.specs.Configuration.{Callee, Imported, Own, Program, Thread}
+use Rattle.wasm_rules.specs.Configuration.{Configuration}
+use Rattle.wasm_rules.specs.Configuration.{Asks, Traps}
+use Rattle.wasm_rules.specs.Steps.{counted_step, IsCounted}
 use Rattle.machine_slots.specs.declared.limits.TheConstants.{FRAMES, HELD_VALUES}
 use Rattle.machine.specs.rules.Offers.{offer, offered_call, imported_call}
 use Rattle.machine_frame.specs.rules.Threads.{IsOwn, MachineParts, PartsStandFor}

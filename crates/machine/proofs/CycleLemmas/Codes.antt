@@ -12,9 +12,9 @@ use Rattle.wasm_syntax.specs.declared.module.ImportItem.{ImportItem}
 use Rattle.wasm_syntax.specs.declared.module.ImportItem.TheVariants as import
 use Rattle.wasm_syntax.specs.declared.module.Function.{Function}
 use Rattle.wasi_abi.specs.declared.call.Call.{Call}
-use Rattle.wasm_semantics.specs.Types.{imported_functions, with_function_index}
-use Rattle.wasm_semantics.specs.Linking.{IsItemOffered, IsOffered}
-use Rattle.wasm_semantics.specs.Configuration.{Program}
+use Rattle.wasm_rules.specs.Types.{imported_functions, with_function_index}
+use Rattle.wasm_rules.specs.Linking.{IsItemOffered, IsOffered}
+use Rattle.wasm_rules.specs.Configuration.{Program}
 use Rattle.machine.specs.rules.Offers.{offer, imported_call}
 use Rattle.machine_frame.specs.rules.Threads.{IsOwn}
 use Rattle.machine.specs.declared.routines.routine.Routine.{Routine}

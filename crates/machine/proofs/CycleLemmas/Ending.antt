@@ -9,11 +9,11 @@ use Rattle.std.proofs.lemmas.Bool.Decides.{nat_tests}
 use Rattle.wasm_syntax.specs.declared.types.FunctionType.{FunctionType}
 use Rattle.wasm_syntax.specs.declared.instruction.Instruction.TheVariants as instr
 use Rattle.wasm_syntax.specs.rules.Sequence.{Sequence, spelled}
-use Rattle.wasm_semantics.specs.Typing.{Context}
-use Rattle.wasm_semantics.specs.Validity.{module_context}
-use Rattle.wasm_semantics.specs.Shapes.{Shape, body_shape}
-use Rattle.wasm_semantics.specs.Configuration.{Program, FrameOf, Thread, Configuration}
-use Rattle.wasm_semantics.specs.Steps.{IsCounted, IsAdministrative, IsEnded}
+use Rattle.wasm_rules.specs.Typing.{Context}
+use Rattle.wasm_rules.specs.Validity.{module_context}
+use Rattle.wasm_rules.specs.Shapes.{Shape, body_shape}
+use Rattle.wasm_rules.specs.Configuration.{Program, FrameOf, Thread, Configuration}
+use Rattle.wasm_rules.specs.Steps.{IsCounted, IsAdministrative, IsEnded}
 use Rattle.machine_jumps.specs.Moves.{opcodes_of}
 use Rattle.machine_slots.specs.laws.Laws.{Falls}
 use Rattle.machine_frame.specs.rules.Walks.{here, administrative}

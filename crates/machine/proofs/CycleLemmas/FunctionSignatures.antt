@@ -5,10 +5,10 @@ use Rattle.std.specs.Prelude.{slice_get, map}
 use Rattle.std.specs.Option.{option_map}
 use Rattle.std.proofs.lemmas.Option.{slice_get-map}
 use Rattle.wasm_syntax.specs.declared.types.FunctionType.{FunctionType}
-use Rattle.wasm_semantics.specs.Types.{imported_functions}
+use Rattle.wasm_rules.specs.Types.{imported_functions}
 use Rattle.wasm_syntax.specs.rules.Modules.{function_type_of}
-use Rattle.wasm_semantics.specs.Configuration.{Callee, Imported, Own, Program}
-use Rattle.wasm_semantics.specs.Steps.{signature_of}
+use Rattle.wasm_rules.specs.Configuration.{Callee, Imported, Own, Program}
+use Rattle.wasm_rules.specs.Steps.{signature_of}
 use Rattle.machine.specs.laws.Routines.{IsNumberedCallee}
 use Rattle.machine.proofs.RoutineLemmas.Numbers.{functions_numbered}
 use Rattle.machine.specs.declared.execution.code.Executable.{Executable}

@@ -6,9 +6,9 @@ use Rattle.wasm_syntax.specs.declared.types.FunctionType.{FunctionType}
 use Rattle.wasm_syntax.specs.declared.value.Trap.TheVariants as trap
 use Rattle.wasm_syntax.specs.declared.instruction.Instruction.TheVariants as instr
 use Rattle.wasi_abi.specs.declared.call.Call.{Call}
-use Rattle.wasm_semantics.specs.Validity.{module_context}
-use Rattle.wasm_semantics.specs.Configuration.{Callee, Program, Configuration, Traps}
-use Rattle.wasm_semantics.specs.Steps.{counted_step, signature_of}
+use Rattle.wasm_rules.specs.Validity.{module_context}
+use Rattle.wasm_rules.specs.Configuration.{Callee, Program, Configuration, Traps}
+use Rattle.wasm_rules.specs.Steps.{counted_step, signature_of}
 use Rattle.machine_frame.specs.laws.Threads.{CallLeads, EntryLeads}
 use Rattle.machine_frame.proofs.Threads.Calling.{indirect_calls_lead}
 use Rattle.machine.specs.Routines.Routines.{opcodes_in, tables_in}

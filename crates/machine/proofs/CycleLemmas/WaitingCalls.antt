@@ -8,9 +8,9 @@ use Rattle.wasm_syntax.specs.declared.value.Trap.{Trap}
 use Rattle.wasm_syntax.specs.declared.instruction.Instruction.{Instruction}
 use Rattle.wasm_syntax.specs.declared.instruction.Instruction.TheVariants as instr
 use Rattle.wasi_abi.specs.declared.call.Call.{Call}
-use Rattle.wasm_semantics.specs.Types.{number_in}
-use Rattle.wasm_semantics.specs.Configuration.{Program, Configuration, Traps, Goes}
-use Rattle.wasm_semantics.specs.Steps.{counted_step}
+use Rattle.wasm_rules.specs.Types.{number_in}
+use Rattle.wasm_rules.specs.Configuration.{Program, Configuration, Traps, Goes}
+use Rattle.wasm_rules.specs.Steps.{counted_step}
 use Rattle.machine_slots.specs.declared.limits.TheConstants.{FRAMES, HELD_VALUES}
 use Rattle.machine_frame.specs.declared.rules.frame.StackFrame.{StackFrame}
 use Rattle.machine_frame.specs.rules.Threads.{MachineParts}

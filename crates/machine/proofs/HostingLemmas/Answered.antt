@@ -5,11 +5,11 @@ use Rattle.std.specs.Prelude.{slice_get, map}
 use Rattle.std.proofs.lemmas.List.{length-take, take-append-drop}
 use Rattle.wasm_syntax.specs.declared.types.FunctionType.{FunctionType}
 use Rattle.wasm_syntax.specs.declared.value.Value.{Value}
-use Rattle.wasm_semantics.specs.Types.{AreOf, number_in, gives_of}
-use Rattle.wasm_semantics.specs.Validity.{module_context}
-use Rattle.wasm_semantics.specs.Configuration.{Imported, Program, Thread, Configuration, Asks}
-use Rattle.wasm_semantics.specs.Steps.{counted_step, answered}
-use Rattle.wasm_semantics.specs.Typed.{IsTypedMemory}
+use Rattle.wasm_rules.specs.Types.{AreOf, number_in, gives_of}
+use Rattle.wasm_rules.specs.Validity.{module_context}
+use Rattle.wasm_rules.specs.Configuration.{Imported, Program, Thread, Configuration, Asks}
+use Rattle.wasm_rules.specs.Steps.{counted_step, answered}
+use Rattle.wasm_rules.specs.Typed.{IsTypedMemory}
 use Rattle.machine_frame.specs.declared.rules.frame.StackFrame.{StackFrame}
 use Rattle.machine_frame.specs.laws.Threads.{HasTaken}
 use Rattle.machine_frame.proofs.Threads.Hosting.{answers_lead}

@@ -4,11 +4,11 @@ use Rattle.std.specs.Prelude.{map, reverse}
 use Rattle.std.proofs.lemmas.List.{reverse-reverse}
 use Rattle.wasm_syntax.specs.declared.types.FunctionType.{FunctionType}
 use Rattle.wasm_syntax.specs.declared.module.Module.{Module}
-use Rattle.wasm_semantics.specs.Types.{number_in}
-use Rattle.wasm_semantics.specs.Validity.{AreFunctionTypes, module_context, IsValid}
-use Rattle.wasm_semantics.specs.Configuration.{Program, Store}
-use Rattle.wasm_semantics.specs.Instantiation.{IsProgram, calls_of}
-use Rattle.wasm_semantics.proofs.Soundness.Beginning.{first_typed}
+use Rattle.wasm_rules.specs.Types.{number_in}
+use Rattle.wasm_rules.specs.Validity.{AreFunctionTypes, module_context, IsValid}
+use Rattle.wasm_rules.specs.Configuration.{Program, Store}
+use Rattle.wasm_rules.specs.Instantiation.{IsProgram, calls_of}
+use Rattle.wasm_rules.proofs.Soundness.Beginning.{first_typed}
 use Rattle.machine.specs.declared.instance.instance.Instance.{Instance}
 use Rattle.machine.specs.rules.Offers.{offer}
 use Rattle.machine.specs.rules.Instances.{IsLinked}

@@ -5,12 +5,12 @@ use Rattle.std.specs.List.{AllByRecursion}
 use Rattle.wasm_syntax.specs.declared.types.FunctionType.{FunctionType}
 use Rattle.wasm_syntax.specs.declared.module.Module.{Module}
 use Rattle.wasm_syntax.specs.declared.module.Function.{Function}
-use Rattle.wasm_semantics.specs.Types.{imported_functions}
+use Rattle.wasm_rules.specs.Types.{imported_functions}
 use Rattle.wasm_syntax.specs.rules.Modules.{function_type_of}
-use Rattle.wasm_semantics.specs.Validity.{AreTypesAt, IsFunctionValid, IsValid, memories_of}
-use Rattle.wasm_semantics.specs.Configuration.{Callee, Imported, Own, Program}
-use Rattle.wasm_semantics.specs.Instantiation.{AreCallees, IsProgram, least_pages_of}
-use Rattle.wasm_semantics.specs.Instantiation.{most_pages_of}
+use Rattle.wasm_rules.specs.Validity.{AreTypesAt, IsFunctionValid, IsValid, memories_of}
+use Rattle.wasm_rules.specs.Configuration.{Callee, Imported, Own, Program}
+use Rattle.wasm_rules.specs.Instantiation.{AreCallees, IsProgram, least_pages_of}
+use Rattle.wasm_rules.specs.Instantiation.{most_pages_of}
 
 -- of its own functions
 own_callees : (m : Module) (functions : List FunctionType) (own : List Function)

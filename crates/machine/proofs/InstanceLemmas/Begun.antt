@@ -8,12 +8,12 @@ use Rattle.wasm_syntax.specs.declared.value.Value.{Value}
 use Rattle.wasm_syntax.specs.declared.types.FunctionType.{FunctionType}
 use Rattle.wasm_syntax.specs.declared.module.Import.{Import}
 use Rattle.wasm_syntax.specs.declared.module.Module.{Module}
-use Rattle.wasm_semantics.specs.Validity.{IsValid, tables_of, memories_of}
-use Rattle.wasm_semantics.specs.Configuration.{Store}
-use Rattle.wasm_semantics.specs.Instantiation.{AreInitial, filled_table, filled_memory}
-use Rattle.wasm_semantics.specs.Instantiation.{empty_table, empty_memory, most_pages_of}
-use Rattle.wasm_semantics.specs.Instantiation.{IsInitialStore}
-use Rattle.wasm_semantics.specs.Linking.{HasExportedMemory, IsLinkable}
+use Rattle.wasm_rules.specs.Validity.{IsValid, tables_of, memories_of}
+use Rattle.wasm_rules.specs.Configuration.{Store}
+use Rattle.wasm_rules.specs.Instantiation.{AreInitial, filled_table, filled_memory}
+use Rattle.wasm_rules.specs.Instantiation.{empty_table, empty_memory, most_pages_of}
+use Rattle.wasm_rules.specs.Instantiation.{IsInitialStore}
+use Rattle.wasm_rules.specs.Linking.{HasExportedMemory, IsLinkable}
 use Rattle.wasm_validate.proofs.PartLemmas.Lookups.{is_false}
 use Rattle.machine.specs.declared.instance.fault.LinkFault.{LinkFault}
 use Rattle.machine.specs.declared.instance.fault.LinkFault.TheVariants.{NoStart, NoMemory}
@@ -30,7 +30,7 @@ use Rattle.machine.proofs.InstanceLemmas.Offered.{no_globals, no_tables, no_memo
 use Rattle.machine.proofs.InstanceLemmas.Offered.{not_all_offered}
 use Rattle.machine.proofs.InstanceLemmas.Constant.{initial_values}
 use Rattle.machine.proofs.InstanceLemmas.Filled.{some_of}
-use Rattle.wasm_semantics.proofs.OneStore.{initial_once, store_from}
+use Rattle.wasm_rules.proofs.OneStore.{initial_once, store_from}
 
 -- ---- a module whose imports are offered imports functions alone
 

@@ -9,9 +9,9 @@ use Rattle.wasm_syntax.specs.declared.value.Value.{Value}
 use Rattle.wasm_syntax.specs.declared.instruction.Instruction.{Instruction}
 use Rattle.wasm_syntax.specs.declared.module.Module.{Module}
 use Rattle.wasm_syntax.specs.declared.module.Global.{Global}
-use Rattle.wasm_semantics.specs.Types.{imported_globals}
-use Rattle.wasm_semantics.specs.Validity.{IsConstant, IsGlobalValid}
-use Rattle.wasm_semantics.specs.Instantiation.{constant_of, AreInitial}
+use Rattle.wasm_rules.specs.Types.{imported_globals}
+use Rattle.wasm_rules.specs.Validity.{IsConstant, IsGlobalValid}
+use Rattle.wasm_rules.specs.Instantiation.{constant_of, AreInitial}
 use Rattle.wasm_validate.proofs.PartLemmas.Loops.{next}
 
 -- a global's value is its initial value

@@ -11,12 +11,12 @@ use Rattle.wasm_syntax.specs.declared.value.Value.{Value}
 use Rattle.wasm_syntax.specs.declared.module.Element.{Element}
 use Rattle.wasm_syntax.specs.declared.module.Data.{Data}
 use Rattle.guest_memory.specs.rules.Bytes.{with_part}
-use Rattle.wasm_semantics.specs.Instantiation.{offset_of, with_entries, with_segment}
-use Rattle.wasm_semantics.specs.Instantiation.{filled_table, filled_memory}
+use Rattle.wasm_rules.specs.Instantiation.{offset_of, with_entries, with_segment}
+use Rattle.wasm_rules.specs.Instantiation.{filled_table, filled_memory}
 use Rattle.wasm_validate.proofs.PartLemmas.Loops.{next}
 use Rattle.machine.specs.Initial.{IsInside}
 use Rattle.guest_memory.proofs.Ranges.{length-with_part}
-use Rattle.wasm_semantics.proofs.Soundness.Beginning.{and_then_some}
+use Rattle.wasm_rules.proofs.Soundness.Beginning.{and_then_some}
 
 pub some_of : {X : Type 0} (o : Option X) → IsSome o → (x : X) × (o ≡ Some x)
 some_of None h = absurd (cc)

@@ -7,7 +7,7 @@ use Rattle.std.proofs.lemmas.List.{at_drop_all}
 use Rattle.std.proofs.lemmas.Option.{slice_get-map}
 use Rattle.wasm_syntax.specs.declared.module.Import.{Import}
 use Rattle.wasm_syntax.specs.declared.module.Function.{Function}
-use Rattle.wasm_semantics.specs.Types.{imported_functions, with_function_index}
+use Rattle.wasm_rules.specs.Types.{imported_functions, with_function_index}
 use Rattle.wasm_syntax.specs.rules.Modules.{function_type_of}
 use Rattle.wasm_validate.proofs.PartLemmas.Loops.{next}
 

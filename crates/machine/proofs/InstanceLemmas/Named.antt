@@ -4,8 +4,8 @@ use Rattle.std.proofs.Common.{get_or, drop, refl, sym, ◌∙◌, subst}
 use Rattle.std.specs.List.{AllByRecursion}
 use Rattle.wasm_syntax.specs.declared.module.Export.{Export}
 use Rattle.wasm_syntax.specs.declared.module.ExportItem.{ExportItem}
-use Rattle.wasm_semantics.specs.Validity.{HaveDistinctNames}
-use Rattle.wasm_semantics.specs.Linking.{Exports}
+use Rattle.wasm_rules.specs.Validity.{HaveDistinctNames}
+use Rattle.wasm_rules.specs.Linking.{Exports}
 use Rattle.wasm_validate.proofs.PartLemmas.Loops.{next}
 
 pub after_another : (e : Export) (exports : List Export) (name : List ℕ) (item : ExportItem)

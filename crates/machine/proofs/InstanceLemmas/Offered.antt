@@ -16,9 +16,9 @@ use Rattle.wasi_abi.specs.declared.call.Call.{Call}
 use Rattle.wasi_abi.specs.declared.call.Call.TheVariants as call
 use Rattle.wasi_abi.specs.rules.Calls.{module_name, all_calls, name_of, parameters_of, result_types}
 use Rattle.wasi_abi.specs.rules.Calls.{call_type_of}
-use Rattle.wasm_semantics.specs.Types.{imported_tables, imported_memories, imported_globals}
-use Rattle.wasm_semantics.specs.Linking.{IsItemOffered, IsOffered}
-use Rattle.wasm_semantics.specs.laws.Soundness.{OffersNoEntry}
+use Rattle.wasm_rules.specs.Types.{imported_tables, imported_memories, imported_globals}
+use Rattle.wasm_rules.specs.Linking.{IsItemOffered, IsOffered}
+use Rattle.wasm_rules.specs.laws.Soundness.{OffersNoEntry}
 use Rattle.wasm_validate.proofs.PartLemmas.Loops.{next}
 use Rattle.machine.specs.declared.instance.fault.LinkFault.{LinkFault}
 use Rattle.machine.specs.declared.instance.fault.LinkFault.TheVariants.{UnknownImport, ImportType}

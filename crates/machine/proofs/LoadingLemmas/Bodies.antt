@@ -18,15 +18,15 @@ use Rattle.wasm_syntax.specs.declared.instruction.Instruction.{Instruction}
 use Rattle.wasm_syntax.specs.declared.instruction.Instruction.TheVariants as instr
 use Rattle.wasm_syntax.specs.rules.Sequence.{Sequence, Stop, Plain, InBlock, InLoop, InIf, InIfElse}
 use Rattle.wasm_syntax.specs.rules.Sequence.{IsPlain, Spells}
-use Rattle.wasm_semantics.specs.Types.{takes_of}
-use Rattle.wasm_semantics.specs.Typing.{Context, HasType, body_context}
-use Rattle.wasm_semantics.specs.Validity.{module_context}
-use Rattle.wasm_semantics.specs.Configuration.{Callee, Imported, Own, Program}
-use Rattle.wasm_semantics.specs.Shapes.{Shape, LabelShape, body_shape}
-use Rattle.wasm_semantics.specs.Steps.{signature_of}
-use Rattle.wasm_semantics.specs.Typed.{IsTypedProgram}
-use Rattle.wasm_semantics.proofs.TypedShape.{reached_shapes_typed}
-use Rattle.wasm_semantics.proofs.Soundness.Beginning.{programs_typed}
+use Rattle.wasm_rules.specs.Types.{takes_of}
+use Rattle.wasm_rules.specs.Typing.{Context, HasType, body_context}
+use Rattle.wasm_rules.specs.Validity.{module_context}
+use Rattle.wasm_rules.specs.Configuration.{Callee, Imported, Own, Program}
+use Rattle.wasm_rules.specs.Shapes.{Shape, LabelShape, body_shape}
+use Rattle.wasm_rules.specs.Steps.{signature_of}
+use Rattle.wasm_rules.specs.Typed.{IsTypedProgram}
+use Rattle.wasm_rules.proofs.TypedShape.{reached_shapes_typed}
+use Rattle.wasm_rules.proofs.Soundness.Beginning.{programs_typed}
 use Rattle.wasm_validate.specs.rules.Operands.{types_below, types_in, types_at}
 use Rattle.wasm_validate.specs.Body.Bodies.{HasBody}
 use Rattle.machine_slots.specs.rules.Places.{ShownFrame, IsCallOf}
@@ -44,7 +44,7 @@ use Rattle.machine.specs.Loading.Checks.{FitsTop, FitsBelow}
 use Rattle.machine.proofs.RoutineLemmas.Numbers.{functions_numbered, functions_counted}
 use Rattle.machine.proofs.RoutineLemmas.Made.{all_at}
 use Rattle.machine.proofs.CycleLemmas.Codes.{calls_count, has_own}
-use Rattle.wasm_semantics.specs.laws.Laws.{GivesOneAtMost}
+use Rattle.wasm_rules.specs.laws.Laws.{GivesOneAtMost}
 
 -- ---- the function of a frame
 

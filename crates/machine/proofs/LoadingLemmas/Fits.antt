@@ -7,10 +7,10 @@ use Rattle.std.proofs.lemmas.List.{reverse-append, reverse-reverse}
 use Rattle.guest_memory.specs.rules.Bytes.{IsByte, page_size}
 use Rattle.guest_memory.specs.rules.Memories.{IsWithinLimit}
 use Rattle.guest_memory.proofs.Lists.{all_both}
-use Rattle.wasm_semantics.specs.Typing.{Context}
-use Rattle.wasm_semantics.specs.Validity.{module_context}
-use Rattle.wasm_semantics.specs.Configuration.{Program}
-use Rattle.wasm_semantics.specs.Typed.{IsEntry}
+use Rattle.wasm_rules.specs.Typing.{Context}
+use Rattle.wasm_rules.specs.Validity.{module_context}
+use Rattle.wasm_rules.specs.Configuration.{Program}
+use Rattle.wasm_rules.specs.Typed.{IsEntry}
 use Rattle.machine_frame.specs.laws.Fitting.{FitFrames, FitsProgram}
 use Rattle.machine_frame.specs.rules.Threads.{places_of, machine_state_of}
 use Rattle.machine_frame.proofs.Threads.Fitting.{shown_fits, fits_shown}

@@ -7,7 +7,7 @@ use Rattle.std.specs.List.{AllByRecursion}
 use Rattle.std.proofs.lemmas.List.{reverse-append}
 use Rattle.guest_memory.specs.rules.Bytes.{page_size}
 use Rattle.guest_memory.specs.rules.Memories.{LinearMemory}
-use Rattle.wasm_semantics.specs.Typed.{IsTypedEntry}
+use Rattle.wasm_rules.specs.Typed.{IsTypedEntry}
 use Rattle.machine_slots.specs.rules.Places.{ShownFrame}
 use Rattle.machine_slots.specs.declared.slots.TheConstants.{SLOTS}
 use Rattle.machine_frame.specs.declared.rules.frame.StackFrame.{StackFrame}

@@ -7,7 +7,7 @@ use Rattle.std.proofs.Common.{drop, Some, None, refl, sym, ap, subst, arith}
 use Rattle.std.specs.Prelude.{slice_get}
 use Rattle.std.proofs.lemmas.List.{at_drop_all}
 use Rattle.wasm_syntax.specs.declared.types.ValueType.{ValueType}
-use Rattle.wasm_semantics.specs.Types.{IsOf, value_of}
+use Rattle.wasm_rules.specs.Types.{IsOf, value_of}
 use Rattle.machine_frame.specs.laws.Fitting.{AreWordsOf}
 
 pub words_count : (types : List ValueType) (words : List ℕ) → AreWordsOf types words

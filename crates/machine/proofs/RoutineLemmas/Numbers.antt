@@ -6,9 +6,9 @@ use Rattle.std.proofs.lemmas.Bool.Decides.{nat_tests}
 use Rattle.wasm_syntax.specs.declared.module.Module.{Module}
 use Rattle.wasm_syntax.specs.declared.module.Function.{Function}
 use Rattle.wasm_syntax.specs.rules.Sequence.{Spells}
-use Rattle.wasm_semantics.specs.Types.{imported_functions}
-use Rattle.wasm_semantics.specs.Configuration.{Callee, Imported, Own}
-use Rattle.wasm_semantics.specs.Instantiation.{AreCallees}
+use Rattle.wasm_rules.specs.Types.{imported_functions}
+use Rattle.wasm_rules.specs.Configuration.{Callee, Imported, Own}
+use Rattle.wasm_rules.specs.Instantiation.{AreCallees}
 use Rattle.machine.specs.Routines.Routines.{imported_count, own_entry}
 use Rattle.machine.specs.laws.Routines.{IsNumberedCallee, FunctionsAreNumbered, FunctionsAreCounted}
 

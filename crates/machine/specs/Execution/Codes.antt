@@ -3,12 +3,12 @@ use Rattle.std.specs.Prelude.{◌≡◌, ℕ, ◌+◌, ◌*◌, ◌≤◌, ◌^�
 use Rattle.std.specs.Prelude.{slice_get}
 use Rattle.std.specs.List.{AllByRecursion}
 use Rattle.wasm_syntax.specs.declared.types.FunctionType.{FunctionType}
-use Rattle.wasm_semantics.specs.Types.{imported_functions}
+use Rattle.wasm_rules.specs.Types.{imported_functions}
 use Rattle.wasm_syntax.specs.rules.Modules.{function_type_of}
-use Rattle.wasm_semantics.specs.Validity.{IsValid, AreFunctionTypes, module_context}
-use Rattle.wasm_semantics.specs.Instantiation.{IsProgram}
-use Rattle.wasm_semantics.specs.Linking.{IsOffered}
-use Rattle.wasm_semantics.specs.Configuration.{Program, Configuration}
+use Rattle.wasm_rules.specs.Validity.{IsValid, AreFunctionTypes, module_context}
+use Rattle.wasm_rules.specs.Instantiation.{IsProgram}
+use Rattle.wasm_rules.specs.Linking.{IsOffered}
+use Rattle.wasm_rules.specs.Configuration.{Program, Configuration}
 use Rattle.machine.specs.rules.Offers.{offer, AreImportedCalls}
 use Rattle.machine_frame.specs.rules.Threads.{IsOwn, MachineParts, PartsStandFor}
 use Rattle.machine.specs.Routines.Routines.{AreRoutines}

@@ -5,8 +5,8 @@ use Rattle.wasm_syntax.specs.declared.types.FunctionType.{FunctionType}
 use Rattle.wasm_syntax.specs.declared.value.Value.{Value}
 use Rattle.wasi_abi.specs.declared.call.Call.{Call}
 use Rattle.wasi_abi.specs.rules.Calls.{parameters_of}
-use Rattle.wasm_semantics.specs.Configuration.{Program, Thread, Configuration, Asks}
-use Rattle.wasm_semantics.specs.Steps.{counted_step}
+use Rattle.wasm_rules.specs.Configuration.{Program, Thread, Configuration, Asks}
+use Rattle.wasm_rules.specs.Steps.{counted_step}
 use Rattle.machine_frame.specs.laws.Threads.{HasTaken}
 use Rattle.machine.specs.declared.execution.code.Executable.{Executable}
 use Rattle.machine.specs.declared.execution.state.State.{State}

@@ -2,12 +2,12 @@
 use Rattle.std.specs.Prelude.{◌≡◌, ℕ, List, [], ◌++◌, map, reverse}
 use Rattle.wasm_syntax.specs.declared.types.FunctionType.{FunctionType}
 use Rattle.wasm_syntax.specs.declared.module.Module.{Module}
-use Rattle.wasm_semantics.specs.Types.{number_in, imported_functions}
+use Rattle.wasm_rules.specs.Types.{number_in, imported_functions}
 use Rattle.wasm_syntax.specs.rules.Modules.{function_type_of}
-use Rattle.wasm_semantics.specs.Validity.{IsValid, AreFunctionTypes, memories_of}
-use Rattle.wasm_semantics.specs.Configuration.{Program, Store, Configuration}
-use Rattle.wasm_semantics.specs.Instantiation.{IsProgram, most_pages_of, calls_of}
-use Rattle.wasm_semantics.specs.Linking.{IsLinkable}
+use Rattle.wasm_rules.specs.Validity.{IsValid, AreFunctionTypes, memories_of}
+use Rattle.wasm_rules.specs.Configuration.{Program, Store, Configuration}
+use Rattle.wasm_rules.specs.Instantiation.{IsProgram, most_pages_of, calls_of}
+use Rattle.wasm_rules.specs.Linking.{IsLinkable}
 use Rattle.machine.specs.rules.Offers.{offer}
 use Rattle.machine.specs.declared.instance.instance.Instance.{Instance}
 use Rattle.machine.specs.Routines.Routines.{AreRoutines}

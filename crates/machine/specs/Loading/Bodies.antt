@@ -4,7 +4,7 @@ use Rattle.wasm_syntax.specs.declared.types.FunctionType.{FunctionType}
 use Rattle.wasm_syntax.specs.declared.module.Function.{Function}
 use Rattle.wasm_syntax.specs.declared.instruction.Instruction.{Instruction}
 use Rattle.wasm_syntax.specs.declared.instruction.Instruction.TheVariants as instr
-use Rattle.wasm_semantics.specs.Typing.{Context}
+use Rattle.wasm_rules.specs.Typing.{Context}
 use Rattle.machine.specs.declared.execution.code.Executable.{Executable}
 
 -- the module's own function with this number

@@ -2,11 +2,11 @@
 use Rattle.std.specs.Prelude.{◌≡◌, ◌↔◌, Bool, IsTrue, List, [], map}
 use Rattle.std.specs.List.{AllByRecursion}
 use Rattle.wasm_syntax.specs.declared.types.FunctionType.{FunctionType}
-use Rattle.wasm_semantics.specs.Types.{value_type_of}
-use Rattle.wasm_semantics.specs.Typing.{Context}
-use Rattle.wasm_semantics.specs.Validity.{module_context}
-use Rattle.wasm_semantics.specs.Configuration.{Program}
-use Rattle.wasm_semantics.specs.Typed.{IsEntry}
+use Rattle.wasm_rules.specs.Types.{value_type_of}
+use Rattle.wasm_rules.specs.Typing.{Context}
+use Rattle.wasm_rules.specs.Validity.{module_context}
+use Rattle.wasm_rules.specs.Configuration.{Program}
+use Rattle.wasm_rules.specs.Typed.{IsEntry}
 use Rattle.wasm_validate.specs.declared.parts.context.ModuleContext.{ModuleContext}
 use Rattle.wasm_validate.specs.Parts.Contexts.{IsContextOf}
 use Rattle.machine_slots.specs.rules.Places.{ShownFrame}

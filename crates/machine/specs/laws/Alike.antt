@@ -2,9 +2,9 @@
 use Rattle.std.specs.Prelude.{◌≡◌, ℕ, List, Some, slice_get}
 use Rattle.wasm_syntax.specs.declared.types.FunctionType.{FunctionType}
 use Rattle.wasm_syntax.specs.declared.value.Value.{Value}
-use Rattle.wasm_semantics.specs.Types.{AreOf, gives_of}
-use Rattle.wasm_semantics.specs.Configuration.{Imported, Program, Thread, Configuration, Asks}
-use Rattle.wasm_semantics.specs.Steps.{counted_step}
+use Rattle.wasm_rules.specs.Types.{AreOf, gives_of}
+use Rattle.wasm_rules.specs.Configuration.{Imported, Program, Thread, Configuration, Asks}
+use Rattle.wasm_rules.specs.Steps.{counted_step}
 use Rattle.machine.specs.declared.execution.pause.Paused.{Paused}
 use Rattle.machine.specs.rules.Values.{MachineValue, IsSameMachine, ShowsIn}
 use Rattle.machine.specs.rules.Runs.{RunsOnFuel, Answers}

@@ -7,9 +7,9 @@ use Rattle.wasi_abi.specs.declared.call.Call.{Call}
 use Rattle.wasi_abi.specs.rules.Calls.{call_type_of}
 use Rattle.guest_memory.specs.rules.Bytes.{IsByte}
 use Rattle.guest_memory.specs.rules.Memories.{LinearMemory}
-use Rattle.wasm_semantics.specs.Types.{AreOf, gives_of}
-use Rattle.wasm_semantics.specs.Configuration.{Program, Thread, Configuration, Asks}
-use Rattle.wasm_semantics.specs.Steps.{counted_step}
+use Rattle.wasm_rules.specs.Types.{AreOf, gives_of}
+use Rattle.wasm_rules.specs.Configuration.{Program, Thread, Configuration, Asks}
+use Rattle.wasm_rules.specs.Steps.{counted_step}
 use Rattle.machine.specs.rules.Values.{MachineValue, ShowsIn, with_memory}
 use Rattle.machine.specs.rules.Runs.{AsksFor, WaitsFor}
 

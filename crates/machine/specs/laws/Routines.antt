@@ -3,9 +3,9 @@ use Rattle.std.specs.Prelude.{◌≡◌, ℕ, ◌+◌, ◌<◌, length, Some, sl
 use Rattle.wasm_syntax.specs.declared.module.Module.{Module}
 use Rattle.wasm_syntax.specs.declared.module.Function.{Function}
 use Rattle.wasm_syntax.specs.rules.Sequence.{Spells}
-use Rattle.wasm_semantics.specs.Types.{imported_functions}
-use Rattle.wasm_semantics.specs.Configuration.{Callee, Imported, Own, Program}
-use Rattle.wasm_semantics.specs.Instantiation.{IsProgram}
+use Rattle.wasm_rules.specs.Types.{imported_functions}
+use Rattle.wasm_rules.specs.Configuration.{Callee, Imported, Own, Program}
+use Rattle.wasm_rules.specs.Instantiation.{IsProgram}
 use Rattle.machine.specs.Routines.Routines.{imported_count}
 
 -- a function of the host's is an imported one, and one of the module's own comes after those, at

@@ -9,8 +9,8 @@ use Rattle.wasm_validate.specs.declared.parts.fault.ValidFault.TheVariants as va
 use Rattle.machine.specs.declared.instance.fault.LinkFault.TheVariants as link
 use Rattle.wasm_syntax.specs.rules.Modules.{IsModule}
 use Rattle.wasm_syntax.specs.rules.Limits.{IsWithinLimits, HasNoModule}
-use Rattle.wasm_semantics.specs.Validity.{IsValid}
-use Rattle.wasm_semantics.specs.Acceptance.{IsAccepted}
+use Rattle.wasm_rules.specs.Validity.{IsValid}
+use Rattle.wasm_rules.specs.Acceptance.{IsAccepted}
 use Rattle.wasm_validate.specs.rules.Answers.{Denies as DeniesValid}
 use Rattle.wasm_validate.specs.rules.Faults.{HasFault}
 use Rattle.machine.specs.rules.Refusals.{IsRefused}

@@ -3,9 +3,9 @@ use Rattle.std.specs.Prelude.{◌≡◌, ℕ, List, [], ◌∷◌, Option, Some,
 use Rattle.wasm_syntax.specs.declared.types.FunctionType.{FunctionType}
 use Rattle.wasm_syntax.specs.declared.value.Value.{Value}
 use Rattle.wasm_syntax.specs.declared.value.Value.TheVariants as value
-use Rattle.wasm_semantics.specs.Types.{AreOf, gives_of}
-use Rattle.wasm_semantics.specs.Configuration.{Imported, Program, Thread, Configuration, Asks}
-use Rattle.wasm_semantics.specs.Steps.{counted_step, answered}
+use Rattle.wasm_rules.specs.Types.{AreOf, gives_of}
+use Rattle.wasm_rules.specs.Configuration.{Imported, Program, Thread, Configuration, Asks}
+use Rattle.wasm_rules.specs.Steps.{counted_step, answered}
 use Rattle.machine.specs.declared.execution.code.Executable.{Executable}
 use Rattle.machine.specs.declared.execution.state.State.{State}
 use Rattle.machine.specs.Execution.Codes.{StateStandsFor}

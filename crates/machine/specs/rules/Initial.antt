@@ -6,11 +6,11 @@ use Rattle.wasm_syntax.specs.declared.module.Module.{Module}
 use Rattle.wasm_syntax.specs.declared.module.Global.{Global}
 use Rattle.wasm_syntax.specs.declared.module.Element.{Element}
 use Rattle.wasm_syntax.specs.declared.module.Data.{Data}
-use Rattle.wasm_semantics.specs.Configuration.{Store}
-use Rattle.wasm_semantics.specs.Instantiation.{AreInitial, filled_table}
-use Rattle.wasm_semantics.specs.Instantiation.{filled_memory, IsInitialStore}
-use Rattle.wasm_semantics.specs.Validity.{memories_of}
-use Rattle.wasm_semantics.specs.Linking.{IsOffered, HasEntry, HasExportedMemory, FitsPages}
+use Rattle.wasm_rules.specs.Configuration.{Store}
+use Rattle.wasm_rules.specs.Instantiation.{AreInitial, filled_table}
+use Rattle.wasm_rules.specs.Instantiation.{filled_memory, IsInitialStore}
+use Rattle.wasm_rules.specs.Validity.{memories_of}
+use Rattle.wasm_rules.specs.Linking.{IsOffered, HasEntry, HasExportedMemory, FitsPages}
 use Rattle.machine.specs.rules.Offers.{offer}
 
 -- some function is its entry

@@ -1,10 +1,10 @@
 -- What an instance stands for.
 use Rattle.std.specs.Prelude.{◌≡◌, ℕ}
 use Rattle.wasm_syntax.specs.declared.module.Module.{Module}
-use Rattle.wasm_semantics.specs.Validity.{memories_of}
-use Rattle.wasm_semantics.specs.Configuration.{Store}
-use Rattle.wasm_semantics.specs.Instantiation.{most_pages_of}
-use Rattle.wasm_semantics.specs.Linking.{IsLinkable}
+use Rattle.wasm_rules.specs.Validity.{memories_of}
+use Rattle.wasm_rules.specs.Configuration.{Store}
+use Rattle.wasm_rules.specs.Instantiation.{most_pages_of}
+use Rattle.wasm_rules.specs.Linking.{IsLinkable}
 use Rattle.machine.specs.declared.instance.instance.Instance.{Instance}
 use Rattle.machine.specs.rules.Offers.{offer, AreImportedCalls}
 

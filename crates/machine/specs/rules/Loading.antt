@@ -1,7 +1,7 @@
 -- What putting a machine together from parts promises.
 use Rattle.std.specs.Prelude.{◌≡◌, ℕ, ◌*◌, ◌≤◌, List, [], ◌∷◌, ◌++◌, length}
 use Rattle.guest_memory.specs.rules.Bytes.{page_size}
-use Rattle.wasm_semantics.specs.Configuration.{Program, Configuration}
+use Rattle.wasm_rules.specs.Configuration.{Program, Configuration}
 use Rattle.machine_slots.specs.rules.Places.{ShownFrame}
 use Rattle.machine.specs.declared.loading.fault.LoadFault.{LoadFault}
 use Rattle.machine.specs.declared.loading.fault.LoadFault.TheVariants.{Unfit, Memory}

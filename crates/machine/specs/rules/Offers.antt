@@ -6,7 +6,7 @@ use Rattle.std.specs.Str.{bytes_eq}
 use Rattle.wasm_syntax.specs.declared.module.Import.{Import}
 use Rattle.wasi_abi.specs.declared.call.Call.{Call}
 use Rattle.wasi_abi.specs.rules.Calls.{module_name, all_calls, name_of, call_type_of}
-use Rattle.wasm_semantics.specs.Linking.{Offer}
+use Rattle.wasm_rules.specs.Linking.{Offer}
 
 -- the call with this name, under the name of their module
 unfoldable pub offered_call : List ℕ → List ℕ → Option Call

@@ -3,9 +3,9 @@ use Rattle.std.specs.Prelude.{◌≡◌, ◌⊎◌, ℕ, List, [], ◌∷◌, So
 use Rattle.wasm_syntax.specs.declared.types.FunctionType.{FunctionType}
 use Rattle.wasm_syntax.specs.declared.module.Module.{Module}
 use Rattle.wasm_syntax.specs.declared.module.Import.{Import}
-use Rattle.wasm_semantics.specs.Validity.{memories_of}
-use Rattle.wasm_semantics.specs.Linking.{IsItemOffered, IsOffered, HasExportedMemory, FitsPages}
-use Rattle.wasm_semantics.specs.Linking.{IsLinkable}
+use Rattle.wasm_rules.specs.Validity.{memories_of}
+use Rattle.wasm_rules.specs.Linking.{IsItemOffered, IsOffered, HasExportedMemory, FitsPages}
+use Rattle.wasm_rules.specs.Linking.{IsLinkable}
 use Rattle.machine.specs.declared.instance.fault.LinkFault.{LinkFault}
 use Rattle.machine.specs.declared.instance.fault.LinkFault.TheVariants.{NoStart, NoMemory}
 use Rattle.machine.specs.declared.instance.fault.LinkFault.TheVariants.{UnknownImport, ImportType}

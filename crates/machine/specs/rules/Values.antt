@@ -5,9 +5,9 @@ use Rattle.wasm_syntax.specs.declared.types.FunctionType.{FunctionType}
 use Rattle.wasm_syntax.specs.declared.module.Module.{Module}
 use Rattle.guest_memory.specs.rules.Bytes.{page_size}
 use Rattle.guest_memory.specs.rules.Memories.{LinearMemory}
-use Rattle.wasm_semantics.specs.Validity.{AreFunctionTypes, memories_of, module_context}
-use Rattle.wasm_semantics.specs.Instantiation.{IsProgram, least_pages_of}
-use Rattle.wasm_semantics.specs.Configuration.{Program, Configuration}
+use Rattle.wasm_rules.specs.Validity.{AreFunctionTypes, memories_of, module_context}
+use Rattle.wasm_rules.specs.Instantiation.{IsProgram, least_pages_of}
+use Rattle.wasm_rules.specs.Configuration.{Program, Configuration}
 use Rattle.machine_slots.specs.rules.Places.{MachineState, Shows}
 
 -- The module, how many pages memory may have in its program, its table and the state. Also how many

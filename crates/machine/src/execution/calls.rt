@@ -74,13 +74,33 @@ pub fn clear(state: &mut State)
     state.later.clear();
 }
 
-/// A trap, which is one of the rules that the fuel is for.
+/// A trap, which is one of the rules that the fuel is for, where the innermost frame is.
 pub fn trap(state: &mut State, why: Trap, fuel: u64) -> Cycle
     requires { 0 < fuel }
     ensures cleared { IsCleared state.old state.new }
     ensures traps { TrapsWith why fuel result }
 {
+    state.frames.fall();
     clear(state);
+    trapped(why, fuel)
+}
+
+/// The same, where the innermost frame has come to this position of its body by register code.
+pub fn trap_at(state: &mut State, position: u16, why: Trap, fuel: u64) -> Cycle
+    requires { 0 < fuel }
+    ensures cleared { IsCleared state.old state.new }
+    ensures traps { TrapsWith why fuel result }
+{
+    state.frames.fall_at(position as usize);
+    clear(state);
+    trapped(why, fuel)
+}
+
+/// The pause of a trap on so much fuel.
+fn trapped(why: Trap, fuel: u64) -> Cycle
+    requires { 0 < fuel }
+    ensures { TrapsWith why fuel result }
+{
     Cycle::Waits(Paused {
         why: Pause::Trapped(why),
         fuel_left: fuel - 1,

@@ -1,6 +1,6 @@
-//! Running a thread cycle by cycle (Core Specification 1.0, sections 4.4.7, 4.4.8 and 4.5.5). It
-//! has its frames, calls, returns and ends, and the calls of the host. What a machine holds
-//! (`Executable`, `State`) and why it pauses (`Pause`) are defined here.
+//! Running a thread cycle by cycle (Core Specification 1.0, sections 4.4.7, 4.4.8 and 4.5.5): its
+//! frames, calls, returns and ends, and the calls of the host. What a machine holds (`Executable`,
+//! `State`) and why it pauses (`Pause`) are defined here.
 
 mod by_register_code;
 mod calls;

@@ -1,7 +1,7 @@
 //! The answer of a call of the host.
 
 ghost use Rattle.std.specs.Prelude.{◌≡◌, ◌<◌, ◌≤◌, ◌++◌, ℕ, List, length, map};
-ghost use Rattle.wasm_semantics.specs.Types.{number_in};
+ghost use Rattle.wasm_rules.specs.Types.{number_in};
 ghost use Rattle.machine.specs.rules.Answers.{IsAnswered, IsWaiting, call_results};
 
 use crate::execution::{Executable, State, words_taken};

@@ -1,5 +1,5 @@
-//! What the host does to a machine. It begins one, with all memory that running needs (Core
-//! Specification 1.0, section 4.5.4). It answers its calls (section 4.4.7).
+//! What the host does to a machine. A machine is begun with all memory that running needs (Core
+//! Specification 1.0, section 4.5.4), and its calls are answered (section 4.4.7).
 
 mod answering;
 mod parts;

@@ -1,8 +1,8 @@
 //! Parts of code and state.
 
 ghost use Rattle.std.specs.Prelude.{◌≡◌, IfOk, map, reverse};
-ghost use Rattle.wasm_semantics.specs.Types.{number_in};
-ghost use Rattle.wasm_semantics.specs.Instantiation.{calls_of};
+ghost use Rattle.wasm_rules.specs.Types.{number_in};
+ghost use Rattle.wasm_rules.specs.Instantiation.{calls_of};
 
 use std::alloc::{AllocError, Global};
 use wasm_syntax::Value;

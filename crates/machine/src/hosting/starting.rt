@@ -1,7 +1,7 @@
 //! The beginning of a machine.
 
 ghost use Rattle.std.specs.Prelude.{◌≡◌, ◌≤◌, IfOk, IfErr};
-ghost use Rattle.wasm_semantics.specs.Linking.{IsLinkable};
+ghost use Rattle.wasm_rules.specs.Linking.{IsLinkable};
 ghost use Rattle.machine.specs.rules.Offers.{offer};
 ghost use Rattle.machine.specs.rules.Refusals.{IsRefused, LinkDenies};
 ghost use Rattle.machine.specs.Hosting.Beginnings.{ArePartsOf, IsOfInstance, StartStands};

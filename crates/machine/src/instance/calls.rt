@@ -4,7 +4,7 @@ ghost use Rattle.std.specs.Prelude.{◌≡◌, ◌↔◌, IfOk, IfErr, OnOk, IsT
 ghost use Rattle.std.specs.List.{AllByRecursion};
 ghost use Rattle.wasm_syntax.specs.declared.types.FunctionType.{FunctionType as Signature};
 ghost use Rattle.wasi_abi.specs.rules.Calls.{call_type_of};
-ghost use Rattle.wasm_semantics.specs.Linking.{IsOffered};
+ghost use Rattle.wasm_rules.specs.Linking.{IsOffered};
 ghost use Rattle.machine.specs.rules.Offers.{offer, offered_call, imported_call, AreImportedCalls};
 ghost use Rattle.machine.specs.rules.Refusals.{IsImportRefused, AreImportsRefused};
 

@@ -2,7 +2,7 @@
 
 ghost use Rattle.std.specs.Prelude.{◌≡◌, [], List, slice_get};
 ghost use Rattle.wasm_syntax.specs.declared.value.Value.{Value as Number};
-ghost use Rattle.wasm_semantics.specs.Instantiation.{AreInitial, constant_of, offset_of};
+ghost use Rattle.wasm_rules.specs.Instantiation.{AreInitial, constant_of, offset_of};
 
 use crate::instance::items::at;
 use wasm_syntax::{Global, Instruction, Value};

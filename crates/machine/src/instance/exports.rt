@@ -5,9 +5,9 @@ ghost use Rattle.std.specs.Prelude.{slice_get, option_copied, map};
 ghost use Rattle.wasm_syntax.specs.declared.types.FunctionType.{FunctionType as Signature};
 ghost use Rattle.wasm_syntax.specs.declared.module.ExportItem.{ExportItem as Item};
 ghost use Rattle.wasm_syntax.specs.rules.Modules.{function_type_of};
-ghost use Rattle.wasm_semantics.specs.Validity.{AreFunctionTypes, HaveDistinctNames, IsValid};
-ghost use Rattle.wasm_semantics.specs.Types.{imported_functions};
-ghost use Rattle.wasm_semantics.specs.Linking.{Exports, HasEntry, HasExportedMemory};
+ghost use Rattle.wasm_rules.specs.Validity.{AreFunctionTypes, HaveDistinctNames, IsValid};
+ghost use Rattle.wasm_rules.specs.Types.{imported_functions};
+ghost use Rattle.wasm_rules.specs.Linking.{Exports, HasEntry, HasExportedMemory};
 
 use wasm_syntax::{Export, ExportItem, FunctionType, ImportItem, Module};
 

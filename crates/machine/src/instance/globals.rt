@@ -2,7 +2,7 @@
 
 ghost use Rattle.std.specs.Prelude.{IfOk, List};
 ghost use Rattle.wasm_syntax.specs.declared.value.Value.{Value as Number};
-ghost use Rattle.wasm_semantics.specs.Instantiation.{AreInitial};
+ghost use Rattle.wasm_rules.specs.Instantiation.{AreInitial};
 
 use crate::instance::constants::initial_value;
 use std::alloc::{AllocError, Global};

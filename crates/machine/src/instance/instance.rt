@@ -1,8 +1,8 @@
 //! Instances: modules that are linked, and what they begin with.
 
 ghost use Rattle.std.specs.Prelude.{◌≡◌, ◌≢◌, ◌≤◌, IfOk, IfErr};
-ghost use Rattle.wasm_semantics.specs.Validity.{IsValid};
-ghost use Rattle.wasm_semantics.specs.Linking.{IsLinkable};
+ghost use Rattle.wasm_rules.specs.Validity.{IsValid};
+ghost use Rattle.wasm_rules.specs.Linking.{IsLinkable};
 ghost use Rattle.machine.specs.rules.Offers.{offer};
 ghost use Rattle.machine.specs.Linked.{instance_of};
 ghost use Rattle.machine.specs.rules.Initial.{IsPrepared};

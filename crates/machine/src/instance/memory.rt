@@ -3,10 +3,10 @@
 ghost use Rattle.std.specs.Prelude.{◌≡◌, ◌*◌, ◌≤◌, ◌↔◌, IfOk, IsTrue, replicate};
 ghost use Rattle.std.specs.List.{AllByRecursion};
 ghost use Rattle.guest_memory.specs.rules.Bytes.{page_size};
-ghost use Rattle.wasm_semantics.specs.Validity.{IsMemoryTypeValid};
-ghost use Rattle.wasm_semantics.specs.Instantiation.{empty_memory, least_pages_of};
-ghost use Rattle.wasm_semantics.specs.Instantiation.{most_pages_of};
-ghost use Rattle.wasm_semantics.specs.Linking.{FitsPages};
+ghost use Rattle.wasm_rules.specs.Validity.{IsMemoryTypeValid};
+ghost use Rattle.wasm_rules.specs.Instantiation.{empty_memory, least_pages_of};
+ghost use Rattle.wasm_rules.specs.Instantiation.{most_pages_of};
+ghost use Rattle.wasm_rules.specs.Linking.{FitsPages};
 ghost use Rattle.machine.specs.rules.Initial.{CanFillMemory, FillsMemory};
 
 use crate::instance::constants::offset;

@@ -1,4 +1,4 @@
-//! Linking a valid module to the host (Core Specification 1.0, section 4.5.4). It finds calls and
+//! Linking a valid module to the host (Core Specification 1.0, section 4.5.4). Found are calls and
 //! entry, and the memory, globals and table with which the module begins. `LinkFault` says why a
 //! module can't be linked.
 //!

@@ -2,8 +2,8 @@
 
 ghost use Rattle.std.specs.Prelude.{◌≡◌, ◌↔◌, IsTrue, IsSome, List, Option, ℕ, length};
 ghost use Rattle.wasm_syntax.specs.declared.value.Value.{Value as Number};
-ghost use Rattle.wasm_semantics.specs.Validity.{IsValid};
-ghost use Rattle.wasm_semantics.specs.Instantiation.{AreInitial, filled_table, filled_memory};
+ghost use Rattle.wasm_rules.specs.Validity.{IsValid};
+ghost use Rattle.wasm_rules.specs.Instantiation.{AreInitial, filled_table, filled_memory};
 ghost use Rattle.machine.specs.rules.Initial.{AreImportsOffered, CanBegin};
 ghost use Rattle.machine.specs.Initial.{IsInside};
 

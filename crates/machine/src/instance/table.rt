@@ -1,7 +1,7 @@
 //! What a table begins with.
 
 ghost use Rattle.std.specs.Prelude.{◌≡◌, ◌+◌, ◌≤◌, IfOk, Some, length};
-ghost use Rattle.wasm_semantics.specs.Instantiation.{empty_table, with_entries};
+ghost use Rattle.wasm_rules.specs.Instantiation.{empty_table, with_entries};
 ghost use Rattle.machine.specs.rules.Initial.{CanFillTable, FillsTable};
 
 use crate::instance::constants::offset;

@@ -3,7 +3,7 @@
 ghost use Rattle.std.specs.Prelude.{◌≡◌, ◌↔◌, ℕ, IsTrue, MatchOption, Some, option_copied};
 ghost use Rattle.std.specs.Prelude.{slice_get};
 ghost use Rattle.wasm_syntax.specs.declared.module.Function.{Function as OneFunction};
-ghost use Rattle.wasm_semantics.specs.Typing.{Context as Typing};
+ghost use Rattle.wasm_rules.specs.Typing.{Context as Typing};
 ghost use Rattle.wasm_validate.specs.Parts.Contexts.{IsContextOf};
 ghost use Rattle.machine.specs.Loading.Bodies.{CallTakes, HasMore, IsOwnAt};
 

@@ -3,8 +3,8 @@
 ghost use Rattle.std.specs.Prelude.{◌≡◌, ◌*◌, ◌≤◌, ◌↔◌, List, [], length, IsTrue, IfOk};
 ghost use Rattle.wasm_syntax.specs.declared.types.FunctionType.{FunctionType as Signature};
 ghost use Rattle.guest_memory.specs.rules.Bytes.{page_size};
-ghost use Rattle.wasm_semantics.specs.Configuration.{Program};
-ghost use Rattle.wasm_semantics.specs.Validity.{module_context};
+ghost use Rattle.wasm_rules.specs.Configuration.{Program};
+ghost use Rattle.wasm_rules.specs.Validity.{module_context};
 ghost use Rattle.machine_frame.specs.laws.Fitting.{FitsProgram};
 ghost use Rattle.machine_frame.specs.rules.Stacked.{AreStacked};
 ghost use Rattle.machine_frame.specs.rules.Threads.{machine_state_of};
@@ -14,7 +14,7 @@ ghost use Rattle.machine.specs.Loading.Checks.{FitsAround, IsSomeCode, TellsFit}
 use crate::execution::{Executable, State};
 use crate::loading::frames::fit_frames;
 use crate::loading::limits::{are_entries, hold_few};
-use crate::loading::words::are_globals;
+use crate::loading::typed_words::are_globals;
 use crate::routines::context_of;
 use guest_memory::laws::memories_are_of_bytes;
 use std::alloc::{AllocError, Global};

@@ -10,8 +10,8 @@ ghost use Rattle.machine.specs.Loading.Checks.{CanLookUp, FitsBelow, FitsTop, Te
 use crate::execution::Executable;
 use crate::frames::Frames;
 use crate::loading::bodies::{has_more, opcode_at, own_function, taken_by};
-use crate::loading::words::are_slots;
-use crate::places::{FramePlace, place_of};
+use crate::loading::typed_words::are_slots;
+use crate::shown::{LentFrame, lent_frame_at};
 use machine_slots::Slots;
 use std::alloc::AllocError;
 use wasm_syntax::FunctionType;
@@ -23,7 +23,7 @@ fn fits_running(
     code: &Executable,
     context: &ModuleContext,
     checker: &mut BodyChecker,
-    place: &FramePlace,
+    place: &LentFrame,
 ) -> Result<bool, AllocError>
     requires { CanLookUp code.now context.now }
     ensures { IfOk result (λ told. TellsFit code.now context.now told
@@ -54,7 +54,7 @@ fn fits_waiting(
     code: &Executable,
     context: &ModuleContext,
     checker: &mut BodyChecker,
-    place: &FramePlace,
+    place: &LentFrame,
     above: &FunctionType,
 ) -> Result<bool, AllocError>
     requires { CanLookUp code.now context.now }
@@ -107,7 +107,7 @@ pub fn fit_frames(
     if count == 0 {
         return Ok(true);
     }
-    let top = place_of(frames, slots, count - 1);
+    let top = lent_frame_at(frames, slots, count - 1);
     let runs = fits_running(code, context, checker, &top)?;
     if !runs {
         return Ok(false);
@@ -117,7 +117,7 @@ pub fn fit_frames(
         let Some(called) = context.function_type(above) else {
             return Ok(false);
         };
-        let place = place_of(frames, slots, count - 1 - number);
+        let place = lent_frame_at(frames, slots, count - 1 - number);
         let waits = fits_waiting(code, context, checker, &place, called)?;
         if !waits {
             return Ok(false);

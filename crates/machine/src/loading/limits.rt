@@ -2,7 +2,7 @@
 
 ghost use Rattle.std.specs.Prelude.{◌≡◌, [], reverse};
 ghost use Rattle.std.specs.List.{AllByRecursion};
-ghost use Rattle.wasm_semantics.specs.Typed.{IsEntry};
+ghost use Rattle.wasm_rules.specs.Typed.{IsEntry};
 ghost use Rattle.machine_frame.specs.laws.Fitting.{FewHeld};
 ghost use Rattle.machine_frame.specs.rules.Stacked.{AreStacked};
 ghost use Rattle.machine_frame.specs.rules.Threads.{places_of};

@@ -32,7 +32,7 @@ impl Model for Loading {
 }
 
 impl Machine {
-    ghost use Rattle.wasm_semantics.specs.Validity.{IsValid};
+    ghost use Rattle.wasm_rules.specs.Validity.{IsValid};
     ghost use Rattle.machine.specs.rules.Values.{HoldsMemory};
     ghost use Rattle.machine.specs.rules.Loading.{emptied};
 
@@ -62,7 +62,7 @@ impl Loading {
     ghost use Rattle.std.specs.Prelude.{◌≢◌, ◌⊎◌, ℕ, OnOk, OnErr, IfOk, IfErr, MatchResult, []};
     ghost use Rattle.std.specs.Prelude.{sum_by};
     ghost use Rattle.std.specs.Prelude.{length};
-    ghost use Rattle.wasm_semantics.specs.Linking.{HasEntry};
+    ghost use Rattle.wasm_rules.specs.Linking.{HasEntry};
     ghost use Rattle.machine_slots.specs.rules.Places.{ShownFrame};
     ghost use Rattle.machine_slots.specs.declared.limits.TheConstants.{FRAMES};
     ghost use Rattle.machine_slots.specs.declared.slots.TheConstants.{SLOTS};

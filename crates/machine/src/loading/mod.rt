@@ -1,5 +1,5 @@
 //! A machine that is put together from parts: frames with their slots, globals, memory, and the
-//! calls to come. It is taken only where the parts show some configuration.
+//! calls to come. Parts are taken only where they show some configuration.
 
 mod bodies;
 pub mod fault;
@@ -8,7 +8,7 @@ mod frames;
 mod limits;
 pub mod loading;
 mod parts;
-mod words;
+mod typed_words;
 
 pub use fault::LoadFault;
 pub use loading::Loading;

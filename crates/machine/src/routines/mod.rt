@@ -1,6 +1,6 @@
 //! What each of a module's own functions needs to be executed (Core Specification 1.0, section
-//! 4.2.6). That is its branch table, its register code, and how many parameters, locals and results
-//! it has. It is made once, by linking.
+//! 4.2.6): its branch table, its register code, and how many parameters, locals and results it has.
+//! Linking makes it once.
 
 mod making;
 mod routine;

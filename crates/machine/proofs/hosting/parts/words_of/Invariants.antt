@@ -1,5 +1,5 @@
 use Rattle.std.proofs.Common.{◌≡◌, ◌++◌, drop, map}
-use Rattle.wasm_semantics.specs.Types.{number_in}
+use Rattle.wasm_rules.specs.Types.{number_in}
 use Rattle.machine.proofs.hosting.parts.words_of.Given as goal
 
 abbrev pub invariant-loop-value : goal.invariant-loop-value

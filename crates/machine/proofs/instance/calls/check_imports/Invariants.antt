@@ -1,5 +1,5 @@
 use Rattle.std.proofs.Common.{drop}
-use Rattle.wasm_semantics.specs.Linking.{IsOffered}
+use Rattle.wasm_rules.specs.Linking.{IsOffered}
 use Rattle.wasm_validate.proofs.PartLemmas.Loops.{Passed}
 use Rattle.machine.specs.declared.instance.fault.LinkFault.{LinkFault}
 use Rattle.machine.specs.rules.Offers.{offer}

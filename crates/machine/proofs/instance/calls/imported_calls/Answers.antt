@@ -1,7 +1,7 @@
 use Rattle.std.proofs.Common.{sym, subst, Option}
 use Rattle.std.specs.Prelude.{IsSome}
 use Rattle.wasi_abi.specs.declared.call.Call.{Call}
-use Rattle.wasm_semantics.specs.Linking.{IsOffered}
+use Rattle.wasm_rules.specs.Linking.{IsOffered}
 use Rattle.wasm_validate.proofs.PartLemmas.Loops.{of_all}
 use Rattle.machine.specs.rules.Offers.{offer}
 use Rattle.machine.proofs.InstanceLemmas.Offered.{has_call}

@@ -1,7 +1,7 @@
 use Rattle.std.proofs.Common.{[], ap, ◌∙◌}
 use Rattle.std.specs.Option.{option_and_then}
 use Rattle.wasm_syntax.specs.declared.module.Global.{Global}
-use Rattle.wasm_semantics.specs.Instantiation.{constant_of}
+use Rattle.wasm_rules.specs.Instantiation.{constant_of}
 use Rattle.machine.proofs.InstanceLemmas.Constant.{global_value}
 use Rattle.machine.proofs.instance.constants.global_value.Goals as goal
 

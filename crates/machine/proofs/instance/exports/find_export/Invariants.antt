@@ -1,6 +1,6 @@
 use Rattle.std.proofs.Common.{drop}
 use Rattle.wasm_syntax.specs.declared.module.ExportItem.{ExportItem}
-use Rattle.wasm_semantics.specs.Linking.{Exports}
+use Rattle.wasm_rules.specs.Linking.{Exports}
 use Rattle.machine.proofs.instance.exports.find_export.Given as goal
 
 abbrev pub invariant-loop-export : goal.invariant-loop-export

@@ -3,7 +3,7 @@ use Rattle.std.specs.Prelude.{IsSome}
 use Rattle.std.proofs.lemmas.List.{append-nil, at_drop_all}
 use Rattle.wasm_syntax.specs.declared.value.Value.{Value}
 use Rattle.wasm_syntax.specs.declared.module.Global.{Global}
-use Rattle.wasm_semantics.specs.Instantiation.{constant_of, AreInitial}
+use Rattle.wasm_rules.specs.Instantiation.{constant_of, AreInitial}
 use Rattle.machine.proofs.InstanceLemmas.Constant.{initial_at}
 use Rattle.machine.proofs.instance.globals.initial_globals.Goals as goal
 

@@ -2,9 +2,9 @@ use Rattle.std.proofs.Common.{List, refl, sym, ◌∙◌, subst}
 use Rattle.std.specs.List.{AllByRecursion}
 use Rattle.std.proofs.lemmas.Result.{err_from_is_err_and}
 use Rattle.wasm_syntax.specs.declared.types.MemoryType.{MemoryType}
-use Rattle.wasm_semantics.specs.Validity.{IsMemoryTypeValid}
+use Rattle.wasm_rules.specs.Validity.{IsMemoryTypeValid}
 use Rattle.wasm_syntax.specs.declared.module.Import.{Import}
-use Rattle.wasm_semantics.specs.Linking.{FitsPages, IsOffered}
+use Rattle.wasm_rules.specs.Linking.{FitsPages, IsOffered}
 use Rattle.machine.specs.rules.Offers.{offer}
 use Rattle.machine.specs.declared.instance.instance.Beginning.{Beginning}
 use Rattle.machine.specs.Linked.{instance_of}

@@ -4,7 +4,7 @@ use Rattle.std.proofs.lemmas.Result.{err_from_is_err_and}
 use Rattle.wasm_syntax.specs.declared.types.FunctionType.{FunctionType}
 use Rattle.wasm_syntax.specs.declared.types.MemoryType.{MemoryType}
 use Rattle.wasm_syntax.specs.declared.module.Import.{Import}
-use Rattle.wasm_semantics.specs.Linking.{IsOffered, FitsPages}
+use Rattle.wasm_rules.specs.Linking.{IsOffered, FitsPages}
 use Rattle.machine.specs.rules.Offers.{offer}
 use Rattle.machine.specs.rules.Initial.{AreImportsOffered}
 use Rattle.machine.specs.rules.Refusals.{AreImportsRefused}

@@ -3,7 +3,7 @@ use Rattle.std.proofs.Common.{◌≤◌}
 use Rattle.std.specs.Prelude.{OnSome}
 use Rattle.guest_memory.specs.rules.Bytes.{with_part}
 use Rattle.guest_memory.specs.rules.Memories.{LinearMemory, with_bytes}
-use Rattle.wasm_semantics.specs.Instantiation.{offset_of, filled_memory}
+use Rattle.wasm_rules.specs.Instantiation.{offset_of, filled_memory}
 use Rattle.machine.proofs.InstanceLemmas.Filled.{data_next}
 use Rattle.machine.proofs.instance.memory.fill_memory.Goals as goal
 

@@ -1,6 +1,6 @@
 use Rattle.std.proofs.Common.{◌≡◌, ℕ, drop, List, Some}
 use Rattle.wasm_syntax.specs.declared.value.Value.{Value}
-use Rattle.wasm_semantics.specs.Instantiation.{AreInitial, filled_memory}
+use Rattle.wasm_rules.specs.Instantiation.{AreInitial, filled_memory}
 use Rattle.machine.proofs.instance.memory.fill_memory.Given as goal
 
 abbrev pub invariant-loop-segment : goal.invariant-loop-segment

@@ -1,6 +1,6 @@
 use Rattle.std.proofs.Common.{◌≡◌, ℕ, ◌∙◌, ap, sym, subst, Some, List}
 use Rattle.guest_memory.specs.rules.Memories.{LinearMemory}
-use Rattle.wasm_semantics.specs.Instantiation.{filled_memory}
+use Rattle.wasm_rules.specs.Instantiation.{filled_memory}
 use Rattle.machine.proofs.instance.memory.initial_memory.Goals as goal
 
 pub returns-clause-bytes : goal.returns-clause-bytes

@@ -5,8 +5,8 @@ use Rattle.wasm_syntax.specs.declared.value.Value.{Value}
 use Rattle.wasm_syntax.specs.declared.module.Global.{Global}
 use Rattle.wasm_syntax.specs.declared.module.Element.{Element}
 use Rattle.wasm_syntax.specs.declared.module.Data.{Data}
-use Rattle.wasm_semantics.specs.Instantiation.{AreInitial, filled_table, filled_memory}
-use Rattle.wasm_semantics.specs.Instantiation.{empty_table, empty_memory}
+use Rattle.wasm_rules.specs.Instantiation.{AreInitial, filled_table, filled_memory}
+use Rattle.wasm_rules.specs.Instantiation.{empty_table, empty_memory}
 use Rattle.machine.proofs.InstanceLemmas.Begun.{begins_by, begins_nowhere}
 use Rattle.machine.proofs.instance.segments.can_begin.Goals as goal
 

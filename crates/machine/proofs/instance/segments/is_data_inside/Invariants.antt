@@ -1,6 +1,6 @@
 use Rattle.std.proofs.Common.{List}
 use Rattle.wasm_syntax.specs.declared.value.Value.{Value}
-use Rattle.wasm_semantics.specs.Instantiation.{AreInitial}
+use Rattle.wasm_rules.specs.Instantiation.{AreInitial}
 use Rattle.wasm_validate.proofs.PartLemmas.Loops.{Passed}
 use Rattle.machine.proofs.InstanceLemmas.Filled.{IsDataInside}
 use Rattle.machine.proofs.instance.segments.is_data_inside.Given as goal

@@ -1,5 +1,5 @@
 use Rattle.std.proofs.Common.{◌≡◌, ℕ, ◌+◌, ◌∙◌, ap, sym, subst, Option, Some, List, drop}
-use Rattle.wasm_semantics.specs.Instantiation.{offset_of, filled_table, with_entries}
+use Rattle.wasm_rules.specs.Instantiation.{offset_of, filled_table, with_entries}
 use Rattle.machine.proofs.InstanceLemmas.Filled.{element_next, entries_put, with_entries_inside}
 use Rattle.machine.proofs.instance.table.fill_table.Goals as goal
 

@@ -1,6 +1,6 @@
 use Rattle.std.proofs.Common.{◌≡◌, ℕ, drop, List, Option, Some}
 use Rattle.wasm_syntax.specs.declared.value.Value.{Value}
-use Rattle.wasm_semantics.specs.Instantiation.{AreInitial, filled_table}
+use Rattle.wasm_rules.specs.Instantiation.{AreInitial, filled_table}
 use Rattle.machine.proofs.instance.table.fill_table.Given as goal
 
 abbrev pub invariant-loop-element : goal.invariant-loop-element

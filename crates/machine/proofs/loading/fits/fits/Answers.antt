@@ -1,6 +1,6 @@
 use Rattle.std.proofs.Common.{◌≤◌, length, subst, arith}
 use Rattle.wasm_syntax.specs.declared.module.Module.{Module}
-use Rattle.wasm_semantics.specs.Validity.{module_context}
+use Rattle.wasm_rules.specs.Validity.{module_context}
 use Rattle.wasm_validate.specs.Parts.Contexts.{IsContextOfModule}
 use Rattle.wasm_validate.proofs.PartLemmas.Lookups.{is_false}
 use Rattle.machine.specs.Loading.Checks.{LooksUpCode}

@@ -1,9 +1,9 @@
 use Rattle.std.proofs.Common.{List, ℕ, map, sym, subst}
 use Rattle.std.specs.List.{AllByRecursion}
 use Rattle.wasm_syntax.specs.declared.types.GlobalType.{GlobalType}
-use Rattle.wasm_semantics.specs.Types.{value_type_of}
-use Rattle.wasm_semantics.specs.Typed.{IsEntry}
-use Rattle.wasm_semantics.specs.Validity.{module_context}
+use Rattle.wasm_rules.specs.Types.{value_type_of}
+use Rattle.wasm_rules.specs.Typed.{IsEntry}
+use Rattle.wasm_rules.specs.Validity.{module_context}
 use Rattle.wasm_validate.proofs.PartLemmas.Lookups.{is_false}
 use Rattle.machine_frame.specs.laws.Fitting.{AreWordsOf}
 use Rattle.machine.proofs.loading.fits.fits_around.Goals as goal

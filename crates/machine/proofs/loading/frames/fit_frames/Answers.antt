@@ -1,6 +1,6 @@
 use Rattle.std.proofs.Common.{◌≡◌, suc, ◌+◌, ◌-◌, length, refl, subst, arith}
 use Rattle.std.proofs.lemmas.Bool.Decides.{nat_tests}
-use Rattle.wasm_semantics.specs.Validity.{module_context}
+use Rattle.wasm_rules.specs.Validity.{module_context}
 use Rattle.wasm_validate.proofs.PartLemmas.Lookups.{is_false}
 use Rattle.machine_frame.specs.rules.Threads.{places_of}
 use Rattle.machine_frame.proofs.Threads.Showing.{places_count}
@@ -16,12 +16,12 @@ returns-then-not-runs c = λ functions program looks. (
   λ fits.
       let ctx = module_context c.args.code.now.«module» functions in
       let places = places_of c.args.frames.now c.args.slots.now in
-      let top = lent_frame c.place_of-top.result in
+      let top = lent_frame c.lent_frame_at-top.result in
       let count = places_count c.args.frames.now c.args.slots.now in
       let len = c.len-count.ensures.len in
       let some = c.if-count-eq0.false in
       let size : (c.len-count.result - 1) + 1 ≡ length places = grind (arith, nat_tests) in
-      let there = from_end places (c.len-count.result - 1) 0 top c.place_of-top.ensures size in
+      let there = from_end places (c.len-count.result - 1) 0 top c.lent_frame_at-top.ensures size in
       let yes = (c.in_ok-runs.ensures functions program looks).1
       (no_begin ctx program places top there fits) in
       let none = c.if-not-runs.true in
@@ -32,12 +32,12 @@ pub loop-number-init : goal.loop-number-init
 loop-number-init c = λ functions program looks.
     let ctx = module_context c.args.code.now.«module» functions in
     let places = places_of c.args.frames.now c.args.slots.now in
-    let top = lent_frame c.place_of-top.result in
+    let top = lent_frame c.lent_frame_at-top.result in
     let count = places_count c.args.frames.now c.args.slots.now in
     let len = c.len-count.ensures.len in
     let some = c.if-count-eq0.false in
     let size : (c.len-count.result - 1) + 1 ≡ length places = grind (arith, nat_tests) in
-    let there = from_end places (c.len-count.result - 1) 0 top c.place_of-top.ensures size in
+    let there = from_end places (c.len-count.result - 1) 0 top c.lent_frame_at-top.ensures size in
     begins ctx program places top there
     ((c.in_ok-runs.ensures functions program looks).0 c.if-not-runs.false)
 
@@ -67,14 +67,14 @@ returns-then-not-waits c = λ functions program looks. (
   λ fits.
       let ctx = module_context c.args.code.now.«module» functions in
       let places = places_of c.args.frames.now c.args.slots.now in
-      let place = lent_frame c.place_of-place.result in
+      let place = lent_frame c.lent_frame_at-place.result in
       let n = c.loop-number.number in
       let count = places_count c.args.frames.now c.args.slots.now in
       let len = c.len-count.ensures.len in
       let within = c.loop-number-test.true in
       let size : (c.len-count.result - 1 - n) + suc n ≡ length places =
       omega (arith, count, len, within) in
-      let there = from_end places (c.len-count.result - 1 - n) n place c.place_of-place.ensures
+      let there = from_end places (c.len-count.result - 1 - n) n place c.lent_frame_at-place.ensures
       size in
       let so_far = c.loop-number.invariant functions program looks in
       let own = so_far.own in
@@ -100,14 +100,14 @@ pub loop-number-preserved : goal.loop-number-preserved
 loop-number-preserved c = λ functions program looks.
     let ctx = module_context c.args.code.now.«module» functions in
     let places = places_of c.args.frames.now c.args.slots.now in
-    let place = lent_frame c.place_of-place.result in
+    let place = lent_frame c.lent_frame_at-place.result in
     let n = c.loop-number.number in
     let count = places_count c.args.frames.now c.args.slots.now in
     let len = c.len-count.ensures.len in
     let within = c.loop-number-test.true in
     let size : (c.len-count.result - 1 - n) + suc n ≡ length places =
     omega (arith, count, len, within) in
-    let there = from_end places (c.len-count.result - 1 - n) n place c.place_of-place.ensures
+    let there = from_end places (c.len-count.result - 1 - n) n place c.lent_frame_at-place.ensures
     size in
     let so_far = c.loop-number.invariant functions program looks in
     let own = so_far.own in

@@ -1,7 +1,7 @@
 use Rattle.std.proofs.Common.{List}
 use Rattle.wasm_syntax.specs.declared.types.FunctionType.{FunctionType}
-use Rattle.wasm_semantics.specs.Validity.{module_context}
-use Rattle.wasm_semantics.specs.Configuration.{Program}
+use Rattle.wasm_rules.specs.Validity.{module_context}
+use Rattle.wasm_rules.specs.Configuration.{Program}
 use Rattle.machine_frame.specs.rules.Threads.{places_of}
 use Rattle.machine.specs.Loading.Checks.{LooksUpCode}
 use Rattle.machine.proofs.LoadingLemmas.Frames.{SoFar}

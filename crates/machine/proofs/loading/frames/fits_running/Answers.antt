@@ -1,7 +1,7 @@
 use Rattle.std.proofs.Common.{◌≡◌, ◌≤◌, List, length, take, refl, sym, ap, ◌∙◌, subst, arith}
 use Rattle.std.proofs.lemmas.List.{take_all}
 use Rattle.wasm_syntax.specs.declared.types.ValueType.{ValueType}
-use Rattle.wasm_semantics.specs.Validity.{module_context}
+use Rattle.wasm_rules.specs.Validity.{module_context}
 use Rattle.wasm_validate.proofs.PartLemmas.Lookups.{is_false}
 use Rattle.machine.specs.rules.LentFrames.{lent_frame}
 use Rattle.machine.specs.Loading.Bodies.{HasMore}

@@ -1,5 +1,5 @@
 use Rattle.std.proofs.Common.{get_or, refl}
-use Rattle.wasm_semantics.specs.Typed.{IsEntry}
+use Rattle.wasm_rules.specs.Typed.{IsEntry}
 use Rattle.wasm_validate.proofs.PartLemmas.Lookups.{is_false}
 use Rattle.wasm_validate.proofs.PartLemmas.Loops.{passes, passed, of_all}
 use Rattle.machine.proofs.LoadingLemmas.Words.{any_default}

@@ -1,5 +1,5 @@
 use Rattle.std.proofs.Common.{sym, subst}
-use Rattle.wasm_semantics.specs.Validity.{IsValid}
+use Rattle.wasm_rules.specs.Validity.{IsValid}
 use Rattle.machine.specs.rules.Values.{MachineValue, HoldsMemory}
 use Rattle.machine.proofs.Placed.{valid_module}
 use Rattle.machine.proofs.Stopped.{still_holds}

@@ -1,6 +1,6 @@
 use Rattle.std.proofs.Common.{sym, ap, ◌∙◌, subst}
 use Rattle.wasm_syntax.specs.declared.module.Module.{Module}
-use Rattle.wasm_semantics.specs.Linking.{HasEntry}
+use Rattle.wasm_rules.specs.Linking.{HasEntry}
 use Rattle.machine.specs.rules.Values.{MachineValue}
 use Rattle.machine.proofs.loading.loading.Loading.push_start.Goals as goal
 

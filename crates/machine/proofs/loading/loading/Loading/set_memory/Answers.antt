@@ -1,6 +1,6 @@
 use Rattle.std.proofs.Common.{◌≡◌, ℕ, IfErr, sym, ap, ◌∙◌, subst}
 use Rattle.wasm_syntax.specs.declared.module.Module.{Module}
-use Rattle.wasm_semantics.specs.Instantiation.{least_pages_of}
+use Rattle.wasm_rules.specs.Instantiation.{least_pages_of}
 use Rattle.machine.specs.rules.Values.{MachineValue, least_of}
 use Rattle.machine.specs.rules.Loading.{BytesDenied}
 use Rattle.machine.proofs.LoadingLemmas.Parts.{memory_loading}

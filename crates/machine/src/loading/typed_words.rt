@@ -3,7 +3,7 @@
 ghost use Rattle.std.specs.Prelude.{◌≡◌, ◌≤◌, ◌↔◌, ◌++◌, List, IsTrue, MatchOption, length, map};
 ghost use Rattle.std.specs.Prelude.{slice_get, take};
 ghost use Rattle.wasm_syntax.specs.declared.types.ValueType.{ValueType as TheValueType};
-ghost use Rattle.wasm_semantics.specs.Types.{IsOf, value_of, value_type_of};
+ghost use Rattle.wasm_rules.specs.Types.{IsOf, value_of, value_type_of};
 ghost use Rattle.machine_frame.specs.laws.Fitting.{AreWordsOf};
 
 use wasm_syntax::{GlobalType, ValueType};

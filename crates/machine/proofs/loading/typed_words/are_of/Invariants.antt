@@ -1,5 +1,5 @@
 use Rattle.machine.proofs.LoadingLemmas.Words.{FromHere}
-use Rattle.machine.proofs.loading.words.are_of.Given as goal
+use Rattle.machine.proofs.loading.typed_words.are_of.Given as goal
 
 abbrev pub invariant-loop-place : goal.invariant-loop-place
 invariant-loop-place l = FromHere l.types l.words l.place

@@ -19,7 +19,7 @@ use machine_slots::Slots;
 /// that waits of its call. The slots are parameters, locals and operands, the first one first. The
 /// arguments of a running call are none of them.
 #[derive(Clone, Copy, Debug)]
-pub struct FramePlace<'a> {
+pub struct LentFrame<'a> {
     pub function: u32,
     pub position: usize,
     pub slots: &'a [u64],
@@ -46,7 +46,7 @@ fn words_between(slots: &Slots, from: usize, to: usize) -> &[u64]
 }
 
 /// The frame with this number, counted from the outermost one.
-pub(crate) fn place_of<'a>(frames: &Frames, slots: &'a Slots, index: usize) -> FramePlace<'a>
+pub(crate) fn lent_frame_at<'a>(frames: &Frames, slots: &'a Slots, index: usize) -> LentFrame<'a>
     requires stacked { AreStacked frames.now slots.now }
     requires inside { index < length frames.now }
     ensures { slice_get (reverse (places_of frames.now slots.now)) index
@@ -54,7 +54,7 @@ pub(crate) fn place_of<'a>(frames: &Frames, slots: &'a Slots, index: usize) -> F
 {
     let frame = frames.get(index);
     let end = end_of_slots(frames, slots, index);
-    FramePlace {
+    LentFrame {
         function: frame.function,
         position: frame.position,
         slots: words_between(slots, frame.base, end),
@@ -85,11 +85,11 @@ impl Machine {
     }
 
     /// The frame with this number, from 0, counted from the outermost one. Takes no memory.
-    pub fn place(&self, index: usize) -> FramePlace<'_>
+    pub fn frame(&self, index: usize) -> LentFrame<'_>
         requires { index < length self.now.state.frames }
         ensures { slice_get (reverse self.now.state.frames) index ≡ Some (lent_frame result) }
     {
-        place_of(&self.state.frames, &self.state.slots, index)
+        lent_frame_at(&self.state.frames, &self.state.slots, index)
     }
 
     /// Whether calls of the host are still to come: `_start` is one while the start function runs.

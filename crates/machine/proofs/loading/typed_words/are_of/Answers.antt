@@ -4,7 +4,7 @@ use Rattle.std.proofs.lemmas.Option.{slice_get-get_or}
 use Rattle.wasm_syntax.specs.declared.types.ValueType.TheVariants.{I32}
 use Rattle.wasm_validate.proofs.PartLemmas.Lookups.{is_false}
 use Rattle.machine.proofs.LoadingLemmas.Words.{words_count, word_at, one_more, all_here}
-use Rattle.machine.proofs.loading.words.are_of.Goals as goal
+use Rattle.machine.proofs.loading.typed_words.are_of.Goals as goal
 
 pub returns-then-types-words : goal.returns-then-types-words
 returns-then-types-words c = (

@@ -5,7 +5,7 @@ use Rattle.wasm_syntax.specs.declared.types.ValueType.TheVariants.{I32}
 use Rattle.wasm_validate.proofs.PartLemmas.Lookups.{is_false}
 use Rattle.machine.proofs.LoadingLemmas.Words.{words_count, word_at, one_more, all_here, taken_at}
 use Rattle.machine.proofs.LoadingLemmas.Words.{taken_count}
-use Rattle.machine.proofs.loading.words.are_operands.Goals as goal
+use Rattle.machine.proofs.loading.typed_words.are_operands.Goals as goal
 
 pub returns-then-count-words : goal.returns-then-count-words
 returns-then-count-words c = (

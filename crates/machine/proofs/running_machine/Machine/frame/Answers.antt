@@ -3,14 +3,14 @@ use Rattle.machine.specs.rules.Values.{MachineValue}
 use Rattle.machine_frame.specs.rules.Threads.{places_of}
 use Rattle.machine_frame.proofs.Threads.Showing.{places_count}
 use Rattle.machine.proofs.Placed.{stacked}
-use Rattle.machine.proofs.running_machine.Machine.place.Goals as goal
+use Rattle.machine.proofs.running_machine.Machine.frame.Goals as goal
 
-pub place_of-requires-clause-stacked : goal.place_of-requires-clause-stacked
-place_of-requires-clause-stacked c =
+pub lent_frame_at-requires-clause-stacked : goal.lent_frame_at-requires-clause-stacked
+lent_frame_at-requires-clause-stacked c =
     stacked c.self.inside.code c.self.inside.state c.self.inside.most_pages c.self.invariant
 
-pub place_of-requires-clause-inside : goal.place_of-requires-clause-inside
-place_of-requires-clause-inside c =
+pub lent_frame_at-requires-clause-inside : goal.lent_frame_at-requires-clause-inside
+lent_frame_at-requires-clause-inside c =
     let s = c.self.inside.state in
     let P : MachineValue → Type 0 = λ v. c.args.index < length v.state.frames in
     let there : c.args.index < length (places_of s.frames s.slots) =

@@ -2,7 +2,7 @@ use Rattle.std.proofs.Common.{◌++◌, length, refl, sym, subst, arith, length-
 use Rattle.std.proofs.lemmas.Bool.Decides.{nat_tests}
 use Rattle.machine_frame.specs.laws.Fitting.{AreWordsOf}
 use Rattle.machine.proofs.LoadingLemmas.Words.{words_count, both, first_of, second_of}
-use Rattle.machine.proofs.loading.words.words_behind.Goals as goal
+use Rattle.machine.proofs.loading.typed_words.words_behind.Goals as goal
 
 pub returns-then-words-types : goal.returns-then-words-types
 returns-then-words-types c = λ others h.

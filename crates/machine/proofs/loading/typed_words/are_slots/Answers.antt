@@ -1,7 +1,7 @@
 use Rattle.std.proofs.Common.{◌++◌, take, sym, subst, append_assoc}
 use Rattle.wasm_validate.proofs.PartLemmas.Lookups.{is_false}
 use Rattle.machine_frame.specs.laws.Fitting.{AreWordsOf}
-use Rattle.machine.proofs.loading.words.are_slots.Goals as goal
+use Rattle.machine.proofs.loading.typed_words.are_slots.Goals as goal
 
 pub returns-in_default : goal.returns-in_default
 returns-in_default c =

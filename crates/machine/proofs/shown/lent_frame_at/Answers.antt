@@ -1,5 +1,5 @@
 use Rattle.machine_frame.proofs.Threads.Placing.{placed}
-use Rattle.machine.proofs.places.place_of.Goals as goal
+use Rattle.machine.proofs.shown.lent_frame_at.Goals as goal
 
 pub words_between-requires-clause-order : goal.words_between-requires-clause-order
 words_between-requires-clause-order c =
