@@ -1,5 +1,6 @@
 mod AllSectionLemmas
 mod EntryLemmas
+mod FunctionNameLemmas
 mod ImportLemmas
 mod PlaceLemmas
 mod SectionLemmas

@@ -1,6 +1,7 @@
 pub mod Answers
 pub mod Around
 pub mod Entries
+pub mod FunctionNames
 pub mod Imported
 pub mod Named
 pub mod Parts

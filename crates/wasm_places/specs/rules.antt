@@ -1,3 +1,4 @@
 pub mod Floats
+pub mod FunctionNames
 pub mod Places
 pub mod Uses

@@ -39,7 +39,7 @@ pub struct FunctionSections<'a> {
 
 /// The mark and the version are passed over.
 #[tactic(auto, unfolding(wasm_syntax::specs::laws::ReadingItems::fixed_at))]
-fn header(reader: &mut Reader) -> Option<()>
+pub fn header(reader: &mut Reader) -> Option<()>
     ensures { FindsItem result reader.new (fixed_at preamble reader.old) }
 {
     reader.expect_byte(0x00)?;
@@ -54,7 +54,7 @@ fn header(reader: &mut Reader) -> Option<()>
 
 /// The section at the front, by its id and its bytes.
 #[tactic(auto, unfolding(wasm_syntax::specs::laws::ReadingModules::section_at))]
-fn section<'a>(reader: &mut Reader<'a>) -> Option<(u8, Part<'a>)>
+pub fn section<'a>(reader: &mut Reader<'a>) -> Option<(u8, Part<'a>)>
     ensures { FindsAs (λ s. section_with s.0 s.1) result reader.new (section_at reader.old) }
 {
     let id = reader.byte()?;
