@@ -169,7 +169,7 @@ fn has_exited(process: &mut Process) -> bool {
 }
 
 fn refuses(process: &mut Process, answer: Answer) -> bool {
-    process.give(answer) == Err(ProcessFault::WrongAnswer)
+    process.give(&answer) == Err(ProcessFault::WrongAnswer)
 }
 
 /// Whether a step that takes no memory of its own goes so.
@@ -198,11 +198,11 @@ fn goes_so(alloc: Global, process: &mut Process, step: &Step) -> Result<bool, Pr
             Ok(true)
         }
         Step::Take => {
-            process.give(hello(alloc)?)?;
+            process.give(&hello(alloc)?)?;
             Ok(true)
         }
         Step::TakeEnd => {
-            process.give(Answer::End)?;
+            process.give(&Answer::End)?;
             Ok(true)
         }
         step => Ok(is_done(process, step)),

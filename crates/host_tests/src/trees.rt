@@ -1,5 +1,4 @@
-//! That a tree is made and changed where there is memory, and that a caller can test what is asked
-//! of it.
+//! A tree is made and changed where there is memory, and a caller can test what is asked of it.
 
 use crate::rows::assert_row;
 use file_tree::limits::NODES;

@@ -13,9 +13,9 @@ use Rattle.wasm_syntax.specs.declared.types.FunctionType.{FunctionType}
 use Rattle.wasm_syntax.specs.declared.value.Value.{Value}
 use Rattle.wasm_syntax.specs.declared.value.Value.TheVariants as value
 use Rattle.wasm_syntax.specs.declared.module.Import.{Import}
-use Rattle.wasm_semantics.specs.Types.{AreOf, number_in, takes_of}
-use Rattle.wasm_semantics.specs.Linking.{IsOffered}
-use Rattle.wasm_semantics.proofs.Soundness.Values.{reverse_are}
+use Rattle.wasm_rules.specs.Types.{AreOf, number_in, takes_of}
+use Rattle.wasm_rules.specs.Linking.{IsOffered}
+use Rattle.wasm_rules.proofs.Soundness.Values.{reverse_are}
 use Rattle.machine_slots.proofs.Families.{map-reverse}
 use Rattle.wasi_abi.specs.declared.call.Call.{Call}
 use Rattle.wasi_abi.specs.rules.Calls.{module_name, all_calls, name_of, parameters_of, call_type_of}

@@ -3,8 +3,8 @@ use Rattle.std.proofs.Common.{◌≡◌, ℕ, Bool, false, List, Option, Some, N
 use Rattle.std.specs.Prelude.{Ok, Err, ◌↔◌, IsTrue}
 use Rattle.std.specs.Option.{option_map}
 use Rattle.wasm_syntax.specs.declared.module.Module.{Module}
-use Rattle.wasm_semantics.specs.Configuration.{Configuration}
-use Rattle.wasm_semantics.specs.Steps.{answered}
+use Rattle.wasm_rules.specs.Configuration.{Configuration}
+use Rattle.wasm_rules.specs.Steps.{answered}
 use Rattle.wasi_abi.specs.declared.answer.Answer.{Answer}
 use Rattle.wasi_abi.specs.declared.answer.Question.{Question}
 use Rattle.wasi_abi.specs.declared.call.Call.{Call}

@@ -5,9 +5,9 @@ use Rattle.std.specs.Prelude.{Ok, Err, slice_get, map, reverse}
 use Rattle.std.specs.Option.{option_map}
 use Rattle.wasm_syntax.specs.declared.value.Value.{Value}
 use Rattle.wasm_syntax.specs.declared.value.Value.TheVariants as value
-use Rattle.wasm_semantics.specs.Types.{AreOf, gives_of, number_in}
-use Rattle.wasm_semantics.specs.Configuration.{Program, Thread, Configuration, Outcome as Result}
-use Rattle.wasm_semantics.specs.Steps.{answered, stopped, IsEnded, ReducesTo}
+use Rattle.wasm_rules.specs.Types.{AreOf, gives_of, number_in}
+use Rattle.wasm_rules.specs.Configuration.{Program, Thread, Configuration, Outcome as Result}
+use Rattle.wasm_rules.specs.Steps.{answered, stopped, IsEnded, ReducesTo}
 use Rattle.wasi_abi.specs.declared.answer.Answer.{Answer}
 use Rattle.wasi_abi.specs.declared.call.Call.{Call}
 use Rattle.wasi_abi.specs.declared.call.Call.TheVariants as call

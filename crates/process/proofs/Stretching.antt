@@ -5,8 +5,8 @@ use Rattle.std.specs.Prelude.{◌↔◌, IsTrue, Result, Ok, Err}
 use Rattle.std.specs.Option.{option_map}
 use Rattle.wasm_syntax.specs.declared.module.Module.{Module}
 use Rattle.wasm_syntax.specs.declared.value.Trap.{Trap}
-use Rattle.wasm_semantics.specs.Configuration.{Program, Configuration}
-use Rattle.wasm_semantics.specs.Steps.{stopped, IsEnded, Steps, none, more}
+use Rattle.wasm_rules.specs.Configuration.{Program, Configuration}
+use Rattle.wasm_rules.specs.Steps.{stopped, IsEnded, Steps, none, more}
 use Rattle.wasi_abi.specs.declared.call.Call.{Call}
 use Rattle.wasi_abi.specs.rules.Calls.{parameters_of}
 use Rattle.wasi_calls_rules.specs.WasiStates.{WasiState, Line}

@@ -6,10 +6,10 @@ use Rattle.std.specs.List.{AllByRecursion}
 use Rattle.wasm_syntax.specs.declared.types.FunctionType.{FunctionType}
 use Rattle.wasm_syntax.specs.declared.value.Value.{Value}
 use Rattle.guest_memory.specs.rules.Bytes.{IsByte}
-use Rattle.wasm_semantics.specs.Types.{AreOf, gives_of}
-use Rattle.wasm_semantics.specs.Configuration.{Imported, Program, Thread, Configuration}
-use Rattle.wasm_semantics.specs.Configuration.{Asks}
-use Rattle.wasm_semantics.specs.Steps.{counted_step, answered, IsEnded, ReducesTo}
+use Rattle.wasm_rules.specs.Types.{AreOf, gives_of}
+use Rattle.wasm_rules.specs.Configuration.{Imported, Program, Thread, Configuration}
+use Rattle.wasm_rules.specs.Configuration.{Asks}
+use Rattle.wasm_rules.specs.Steps.{counted_step, answered, IsEnded, ReducesTo}
 use Rattle.wasi_abi.specs.declared.answer.Answer.{Answer}
 use Rattle.wasi_abi.specs.declared.call.Call.{Call}
 use Rattle.wasi_calls_rules.specs.WasiStates.{WasiState}

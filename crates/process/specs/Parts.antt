@@ -2,9 +2,9 @@
 use Rattle.std.specs.Prelude.{◌≡◌, ℕ, ◌+◌, ◌<◌, ◌^◌, List, length, map, reverse, Some, None}
 use Rattle.std.specs.Prelude.{slice_get}
 use Rattle.wasm_syntax.specs.declared.value.Value.{Value}
-use Rattle.wasm_semantics.specs.Types.{number_in}
-use Rattle.wasm_semantics.specs.Configuration.{Imported, Thread, Configuration, Asks}
-use Rattle.wasm_semantics.specs.Steps.{counted_step, IsEnded}
+use Rattle.wasm_rules.specs.Types.{number_in}
+use Rattle.wasm_rules.specs.Configuration.{Imported, Thread, Configuration, Asks}
+use Rattle.wasm_rules.specs.Steps.{counted_step, IsEnded}
 use Rattle.wasi_abi.specs.declared.call.Call.{Call}
 use Rattle.wasi_abi.specs.rules.Calls.{call_type_of}
 use Rattle.wasi_calls_rules.specs.Lines.{lines_ended}

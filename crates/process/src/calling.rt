@@ -4,7 +4,7 @@
 //! thread (`Machine::stop`). What is kept of it is its memory and its globals.
 
 ghost use Rattle.std.specs.Prelude.{true, false, ◌≡◌, ◌↔◌, option_copied, IsTrue};
-ghost use Rattle.wasm_semantics.specs.Configuration.{Program, Configuration};
+ghost use Rattle.wasm_rules.specs.Configuration.{Program, Configuration};
 ghost use Rattle.wasi_abi.specs.rules.Calls.{parameters_of};
 ghost use Rattle.wasi_calls_rules.specs.CallRules.{IsSync};
 ghost use Rattle.wasi_calls_rules.specs.WasiStates.{WasiState as TheWasiState};

@@ -1,4 +1,10 @@
 //! What is let go.
+//!
+//! # Choices
+//!
+//! - **A caller closes a process in place of dropping it.** A crate in which a process is dropped
+//!   has to prove again how each of its parts is dropped: 22 functions. Where it is closed, this
+//!   crate has proved them.
 
 use crate::process::Process;
 use crate::restoring::ProcessParts;

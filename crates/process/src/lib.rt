@@ -12,7 +12,7 @@
 //!             print(process.waiting());
 //!             process.released(count);
 //!         }
-//!         Stop::Asks(question) => process.give(find(question))?,
+//!         Stop::Asks(question) => process.give(&find(question))?,
 //!         Stop::Spent | Stop::Ended(_) => break,
 //!     }
 //! }
@@ -22,15 +22,17 @@
 //!
 //! # Promises
 //!
+//! Contracts speak of every process of the rules that the code's process shows.
+//!
 //! - `Process::start`: the process shows each start of the module under its configuration
 //!   (`started`). A fault names the first thing that isn't there (`refused`).
-//! - `advance`: whichever process it showed, it takes steps after which nothing is owed, and then
-//!   at most one after which something is. Each stop and each error is true of the process that it
-//!   then shows (`advances`).
+//! - `advance`: whichever process was shown, it takes steps after which nothing is owed, and then
+//!   at most one after which something is. Each stop and each error is true of the process that is
+//!   then shown (`advances`).
 //! - `give` takes an answer only where that is wanted and no line waits (`gives`). The waiting call
 //!   is performed with it, as one step, and nothing else runs. After an error nothing has changed.
 //! - `released` takes the first lines off that wait, and changes nothing else. `widen` puts a
-//!   process of version 1 into version 2: it shows what it showed, widened.
+//!   process of version 1 into version 2: what was shown is shown widened.
 //! - `from_parts`: there is a process with these parts exactly where a process has them (`exact`,
 //!   `made`).
 //! - `into_legacy`: what another process goes on from, with other code: `left_by` of this one.
@@ -51,17 +53,9 @@
 //! # Who may touch what
 //!
 //! Only this crate puts the machine and its host together, and lends the guest's memory to a call.
-//! `record_replay` and `worker` run a process. `state_image` reads what it
-//! holds, and makes it again of its parts. `start` takes all memory that the machine needs. Later
-//! only a step of the host's calls takes any. After an error the process is as it was after its
-//! last whole step.
-//!
-//! # Choices
-//!
-//! - What a process does is said of every process of the rules that it shows. Of the lines that
-//!   were released it keeps the number alone, so it shows one for each choice of their texts.
-//! - **A caller closes a process in place of dropping it.** A crate in which a process is dropped
-//!   has to prove again how each of its parts is: 22 functions. They are proved where it is closed.
+//! `record_replay` and `worker` run a process. `state_image` reads what it holds, and makes it
+//! again of its parts. `start` takes all memory that the machine needs. Later only a step of the
+//! host's calls takes any. After an error the process is as it was after its last whole step.
 #![tactic(auto)]
 
 mod answering;

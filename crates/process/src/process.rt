@@ -1,7 +1,12 @@
 //! A process, and what is known of it.
+//!
+//! # Choices
+//!
+//! - **What a process does is said of every process of the rules that it shows.** Of the lines that
+//!   were released it keeps the number alone, so it shows one for each choice of their texts.
 
 ghost use Rattle.std.specs.Prelude.{◌≡◌, ◌+◌, ◌<◌, ◌≤◌, ◌^◌, IfOk, IfErr, length, option_map};
-ghost use Rattle.wasm_semantics.specs.Linking.{IsLinkable};
+ghost use Rattle.wasm_rules.specs.Linking.{IsLinkable};
 ghost use Rattle.machine.specs.rules.Offers.{offer};
 ghost use Rattle.machine.specs.rules.Refusals.{IsRefused, LinkDenies};
 

@@ -1,8 +1,8 @@
 //! A process that is put together from its parts.
 
 ghost use Rattle.std.specs.Prelude.{◌≡◌, ◌↔◌, IsTrue, IsSome, IfSome, None};
-ghost use Rattle.wasm_semantics.specs.Configuration.{Program, Configuration};
-ghost use Rattle.wasm_semantics.specs.Steps.{IsEnded};
+ghost use Rattle.wasm_rules.specs.Configuration.{Program, Configuration};
+ghost use Rattle.wasm_rules.specs.Steps.{IsEnded};
 ghost use Rattle.machine.specs.rules.Loading.{ShowsSome};
 ghost use Rattle.machine.specs.rules.Values.{ShowsIn};
 ghost use Rattle.process.specs.Parts.{HasFewLines};

@@ -78,16 +78,7 @@ impl Process {
     /// Takes the step that wants an answer, with this one. While a line waits to be released, and
     /// once the process has ended, every answer is a wrong one. After an error nothing has changed,
     /// and nothing runs.
-    pub fn give(&mut self, answer: Answer) -> Result<(), ProcessFault>
-        ensures gives { GivesAnswer self.old answer result self.new }
-        ensures released { self.new.host.released ≡ self.old.host.released }
-        ensures guest { self.new.machine.guest ≡ self.old.machine.guest }
-    {
-        self.take_answer(&answer)
-    }
-
-    /// Takes the step that wants an answer, with this one, which only its owner drops.
-    fn take_answer(&mut self, answer: &Answer) -> Result<(), ProcessFault>
+    pub fn give(&mut self, answer: &Answer) -> Result<(), ProcessFault>
         ensures gives { GivesAnswer self.old answer.now result self.new }
         ensures released { self.new.host.released ≡ self.old.host.released }
         ensures guest { self.new.machine.guest ≡ self.old.machine.guest }

@@ -2,13 +2,14 @@
 //!
 //! # Choices
 //!
-//! - **It doesn't remember whence.** What goes on is a process as any other one, and its image is
-//!   of the same form. Only what is kept of the outside begins with the origin.
+//! - **A process doesn't remember from what it goes on.** One that goes on is a process as any
+//!   other, and its image is of the same form. Only what is kept of the outside begins with the
+//!   origin.
 
 ghost use Rattle.std.specs.Prelude.{◌≡◌, ◌+◌, ◌*◌, ◌<◌, ◌≤◌, ◌^◌, ◌↔◌, IfOk, IfErr, IfSome, IsSome};
 ghost use Rattle.file_tree.specs.declared.limits.TheConstants.{UNIT_BYTES};
 ghost use Rattle.file_tree.specs.rules.Files.{used};
-ghost use Rattle.wasm_semantics.specs.Linking.{IsLinkable};
+ghost use Rattle.wasm_rules.specs.Linking.{IsLinkable};
 ghost use Rattle.machine.specs.rules.Offers.{offer};
 ghost use Rattle.machine.specs.rules.Refusals.{IsRefused, LinkDenies};
 ghost use Rattle.process.specs.Successions.{IsAtStart, value_succeeding};

@@ -30,13 +30,6 @@ use Rattle.record_replay.proofs.Recordings.{recorded_emit, recorded_count, recor
 use Rattle.record_replay.proofs.Recordings.{recorded_once, refused_fits_nowhere}
 use Rattle.record_replay.proofs.Playing.{due_at, onward_few, up_to}
 
--- ---- the answer of a record
-
--- a copy of it is given
-pub given_as : (w x : ProcessValue) (a b : Answer) (result : Result (Unit {0}) ProcessFault)
-    → a ≡ b → GivesAnswer w a result x → GivesAnswer w b result x
-given_as w x a b result same gives = subst (λ z. GivesAnswer w z result x) same gives
-
 module _ {O : Type 0} (takes : Taking O) (v w x : ProcessValue) (entry : Record) (o o' : O)
     (done : RunsToStep takes entry.step v w o o') where
   abbrev on : (guest : Guest) (p : ProcessState) → ShowsProcess v guest p
@@ -65,10 +58,6 @@ module _ {O : Type 0} (takes : Taking O) (v w x : ProcessValue) (entry : Record)
       let next = number guest p shows in
       up_to guest p g.process g.steps entry g.runs (omega arith)
 
-  pub copied_in_vain : ReplaysInVain takes v (entry ∷ []) fault.Memory o o'
-  copied_in_vain guest p shows =
-      (replays_up_to guest p shows, ((on guest p shows).told, inr (here guest p shows)))
-
   pub given_in_vain : (why : ProcessFault) → GivesAnswer w entry.answer (Err why) x
       → ReplaysInVain takes v (entry ∷ []) (replay_fault why) o o'
   given_in_vain stop.WrongAnswer gives guest p shows =
@@ -86,7 +75,7 @@ module _ {O : Type 0} (takes : Taking O) (v w x : ProcessValue) (entry : Record)
       let g = on guest p shows in
       let refused = gives guest g.process g.shows in
       let next = here guest p shows in
-      (replays_up_to guest p shows, (g.told, inl (refused.2, omega arith, refused.3)))
+      (replays_up_to guest p shows, (g.told, (refused.2, omega arith, refused.3)))
   given_in_vain stop.StepsSpent gives guest p shows =
       let g = on guest p shows in
       let refused = gives guest g.process g.shows in

@@ -252,7 +252,7 @@ module _ {O : Type 0} (takes : Taking O) where
         let few : stop.1.steps ≤ fuel_left = omega arith in
         let before : on.process.steps < entry.step = omega arith in (
           stops_at guest p shows stop.1 few,
-          (on.told, inl (stop.3, before, stop.4)),
+          (on.told, (stop.3, before, stop.4)),
         )
     cannot_advance stop.StepsSpent advances guest p shows =
         let stop = advances guest (at guest p shows).process (at guest p shows).shows in

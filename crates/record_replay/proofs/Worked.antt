@@ -1,7 +1,7 @@
 -- What a worker says of its making, and of what its process has done.
 use Rattle.std.proofs.Common.{◌≡◌, ℕ, List, Bool, true, false, refl, subst}
 use Rattle.wasm_syntax.specs.declared.module.Module.{Module}
-use Rattle.wasm_semantics.specs.Linking.{IsLinkable}
+use Rattle.wasm_rules.specs.Linking.{IsLinkable}
 use Rattle.machine.specs.declared.instance.fault.LinkFault.{LinkFault}
 use Rattle.machine.specs.rules.Offers.{offer}
 use Rattle.machine.specs.rules.Refusals.{IsRefused as IsUnlinked, LinkDenies as DeniesLink}

@@ -6,7 +6,6 @@ ghost use Rattle.record_replay.specs.Plays.{replay_fault};
 ghost use Rattle.record_replay.specs.declared.fault.ReplayFault.TheVariants as replay;
 
 use process::ProcessFault;
-use std::alloc::AllocError;
 use thiserror::Error;
 
 /// A source couldn't tell whether there is an answer.
@@ -49,13 +48,5 @@ impl From<OutletFault> for ReplayFault {
 
     fn from(_fault: OutletFault) -> ReplayFault {
         ReplayFault::Outlet
-    }
-}
-
-impl From<AllocError> for ReplayFault {
-    ghost from_gives = { λ _ e. e ≡ replay.Memory };
-
-    fn from(_fault: AllocError) -> ReplayFault {
-        ReplayFault::Memory
     }
 }

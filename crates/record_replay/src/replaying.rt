@@ -7,9 +7,7 @@
 //! - Where a process has come by its records is a relation of two processes (`Recorded`), which a
 //!   disk stands by and a replay meets. A replay says nothing of how it goes. The process that is
 //!   given is right where the last record leads: none further was reached.
-//! - A replay lends its records, and `give` takes an answer, so each one is copied. Out of memory
-//!   is answered for that copy as well as for a call of the host. Nothing is required: lines that
-//!   wait are released first.
+//! - Nothing is required: lines that wait are released first.
 //! - `Diverged` is answered where a number is at its end, too: the step or its lines have none.
 
 ghost use Rattle.std.specs.Prelude.{◌≡◌, ◌+◌, [], ◌∷◌, IfOk, IfErr, OnOk};
@@ -18,18 +16,15 @@ ghost use Rattle.record_replay.specs.Plays.{RunsToStep};
 ghost use Rattle.record_replay.specs.rules.Replays.{Replays, ReplaysInVain};
 
 use crate::Outlet;
-use crate::copying::copy_answer;
 use crate::fault::ReplayFault;
 use crate::releasing::release_waiting;
 use disk_layout::Record;
 use process::{Process, Stop};
-use std::alloc::Global;
 
 /// Runs a process to where its records lead, and releases each line that it emits on the way, or
 /// that waited. It takes the step of the last record, and none after that. Gives the process, and
 /// how many steps were taken. After an error the process is closed.
 pub fn replay<O: Outlet>(
-    alloc: Global,
     mut process: Process,
     records: &[Record],
     outlet: &mut O,
@@ -42,7 +37,7 @@ pub fn replay<O: Outlet>(
     ensures stopped { IfErr result
         (λ why. ReplaysInVain O.takes process records.now why outlet.old outlet.new) }
 {
-    match play_all(alloc, &mut process, records, outlet) {
+    match play_all(&mut process, records, outlet) {
         Ok(count) => Ok((process, count)),
         Err(fault) => {
             process.close();
@@ -54,7 +49,6 @@ pub fn replay<O: Outlet>(
 /// Releases the lines that wait, and then takes the steps up to that of each record, and this one
 /// with its answer. Gives how many steps were taken.
 fn play_all<O: Outlet>(
-    alloc: Global,
     process: &mut Process,
     records: &[Record],
     outlet: &mut O,
@@ -70,19 +64,14 @@ fn play_all<O: Outlet>(
     let first = process.steps();
     release_waiting(process, outlet)?;
     for entry in records {
-        play(alloc, process, entry, outlet)?;
+        play(process, entry, outlet)?;
     }
     Ok(process.steps() - first)
 }
 
 /// Takes steps up to that of the record, and this one with its answer. Each line is released before
 /// the next step.
-fn play<O: Outlet>(
-    alloc: Global,
-    process: &mut Process,
-    entry: &Record,
-    outlet: &mut O,
-) -> Result<(), ReplayFault>
+fn play<O: Outlet>(process: &mut Process, entry: &Record, outlet: &mut O) -> Result<(), ReplayFault>
     requires none_waits { waiting_in process.old ≡ [] }
     ensures played { OnOk result
         (Replays O.takes process.old (entry.now ∷ []) process.new outlet.old outlet.new) }
@@ -91,8 +80,7 @@ fn play<O: Outlet>(
         (λ why. ReplaysInVain O.takes process.old (entry.now ∷ []) why outlet.old outlet.new) }
 {
     run_to_step(process, entry, outlet)?;
-    let answer = copy_answer(alloc, &entry.answer)?;
-    process.give(answer)?;
+    process.give(&entry.answer)?;
     release_waiting(process, outlet)?;
     Ok(())
 }

@@ -12,10 +12,10 @@ use Rattle.std.proofs.lemmas.Option.{slice_get_within, same_Some}
 use borrow.Author.Count.{below_more}
 use Rattle.wasm_syntax.specs.declared.module.Module.{Module}
 use Rattle.wasm_syntax.specs.declared.module.ExportItem.TheVariants as export
-use Rattle.wasm_semantics.specs.Validity.{IsValid}
-use Rattle.wasm_semantics.specs.Linking.{HasEntry}
-use Rattle.wasm_semantics.specs.Typed.{IsTypedMemory}
-use Rattle.wasm_semantics.proofs.Soundness.Beginning.{programs_typed}
+use Rattle.wasm_rules.specs.Validity.{IsValid}
+use Rattle.wasm_rules.specs.Linking.{HasEntry}
+use Rattle.wasm_rules.specs.Typed.{IsTypedMemory}
+use Rattle.wasm_rules.proofs.Soundness.Beginning.{programs_typed}
 use Rattle.machine_slots.specs.rules.Places.{ShownFrame}
 use Rattle.machine.specs.rules.Loading.{ShowsSome}
 use Rattle.machine.specs.rules.Values.{MachineValue}

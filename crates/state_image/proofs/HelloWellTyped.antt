@@ -5,14 +5,14 @@ use Rattle.std.specs.List.{AllByRecursion}
 use Rattle.std.proofs.lemmas.List.{length-replicate}
 use Rattle.wasm_syntax.specs.laws.Examples.{hello, no_type}
 use Rattle.guest_memory.specs.rules.Bytes.{IsByte}
-use Rattle.wasm_semantics.specs.Typing.{Context, HasType, body_context}
-use Rattle.wasm_semantics.specs.Validity.{module_context}
-use Rattle.wasm_semantics.specs.Configuration.{Own, Program, Configuration}
-use Rattle.wasm_semantics.specs.Instantiation.{IsProgram}
-use Rattle.wasm_semantics.specs.Steps.{here, on}
-use Rattle.wasm_semantics.specs.Typed.{IsTyped}
-use Rattle.wasm_semantics.specs.laws.Examples.{program_of_hello, hello_sequence, in_hello}
-use Rattle.wasm_semantics.proofs.Soundness.Beginning.{programs_typed}
+use Rattle.wasm_rules.specs.Typing.{Context, HasType, body_context}
+use Rattle.wasm_rules.specs.Validity.{module_context}
+use Rattle.wasm_rules.specs.Configuration.{Own, Program, Configuration}
+use Rattle.wasm_rules.specs.Instantiation.{IsProgram}
+use Rattle.wasm_rules.specs.Steps.{here, on}
+use Rattle.wasm_rules.specs.Typed.{IsTyped}
+use Rattle.wasm_rules.specs.laws.Examples.{program_of_hello, hello_sequence, in_hello}
+use Rattle.wasm_rules.proofs.Soundness.Beginning.{programs_typed}
 use Rattle.wasi_abi.specs.declared.call.Call.TheVariants as call
 use Rattle.wasi_abi.specs.declared.version.Version.TheVariants.{Two}
 use Rattle.wasi_abi.specs.rules.Configs.{Settings}

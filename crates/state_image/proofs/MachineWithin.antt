@@ -8,12 +8,12 @@ use Rattle.wasm_syntax.specs.declared.types.ValueType.TheVariants.{I32, I64}
 use Rattle.wasm_syntax.specs.declared.types.FunctionType.{FunctionType}
 use Rattle.wasm_syntax.specs.declared.value.Value.{Value}
 use Rattle.wasm_syntax.specs.declared.value.Value.TheVariants as value
-use Rattle.wasm_semantics.specs.Types.{IsOf, AreOf, number_in, value_type_of}
-use Rattle.wasm_semantics.specs.Typing.{Context}
-use Rattle.wasm_semantics.specs.Configuration.{Program, Label, LabelOf, FrameOf, Thread}
-use Rattle.wasm_semantics.specs.Configuration.{Configuration}
-use Rattle.wasm_semantics.specs.Typed.{IsTypedMemory}
-use Rattle.wasm_semantics.specs.Shapes.{LabelShape, ShapeOf}
+use Rattle.wasm_rules.specs.Types.{IsOf, AreOf, number_in, value_type_of}
+use Rattle.wasm_rules.specs.Typing.{Context}
+use Rattle.wasm_rules.specs.Configuration.{Program, Label, LabelOf, FrameOf, Thread}
+use Rattle.wasm_rules.specs.Configuration.{Configuration}
+use Rattle.wasm_rules.specs.Typed.{IsTypedMemory}
+use Rattle.wasm_rules.specs.Shapes.{LabelShape, ShapeOf}
 use Rattle.machine_slots.specs.rules.Places.{ShownFrame, HaveShape, all_below}
 use Rattle.machine_slots.specs.rules.Places.{slots_of, ShowsCallers, ShowsThread, Shows}
 use Rattle.state_image.specs.rules.ProcessImage.{Saved}

@@ -11,18 +11,18 @@ use Rattle.wasm_syntax.specs.declared.instruction.Instruction.{Instruction}
 use Rattle.wasm_syntax.specs.declared.instruction.Instruction.TheVariants as instr
 use Rattle.wasm_syntax.specs.declared.module.Module.{Module}
 use Rattle.wasm_syntax.specs.rules.Sequence.{Sequence, Stop, Plain, InBlock, InLoop, InIf, InIfElse}
-use Rattle.wasm_semantics.specs.Types.{number_in, takes_of, gives_of, is_same_function_type}
-use Rattle.wasm_semantics.specs.Typing.{Context}
-use Rattle.wasm_semantics.specs.Configuration.{Callee, Imported, Own, Program, Store}
-use Rattle.wasm_semantics.specs.Configuration.{Label, LabelOf, FrameOf, Thread}
-use Rattle.wasm_semantics.specs.Configuration.{Configuration, Outcome, Goes, Traps, Asks, Stuck}
-use Rattle.wasm_semantics.specs.Effects.{Effect, Gives, Fails, Wrong, effect}
-use Rattle.wasm_semantics.specs.Instantiation.{calls_of}
-use Rattle.wasm_semantics.specs.Steps.{where_some, topmost, branch, is_exhausted, entered}
-use Rattle.wasm_semantics.specs.Steps.{called, calls, signature_of, calls_entry, after_effect}
-use Rattle.wasm_semantics.specs.Steps.{execute, goes_on, counted_step_of, counted_step, returned}
-use Rattle.wasm_semantics.specs.Steps.{exited, begun}
-use Rattle.wasm_semantics.specs.Steps.{exited_by, ReducesTo, here, on}
+use Rattle.wasm_rules.specs.Types.{number_in, takes_of, gives_of, is_same_function_type}
+use Rattle.wasm_rules.specs.Typing.{Context}
+use Rattle.wasm_rules.specs.Configuration.{Callee, Imported, Own, Program, Store}
+use Rattle.wasm_rules.specs.Configuration.{Label, LabelOf, FrameOf, Thread}
+use Rattle.wasm_rules.specs.Configuration.{Configuration, Outcome, Goes, Traps, Asks, Stuck}
+use Rattle.wasm_rules.specs.Effects.{Effect, Gives, Fails, Wrong, effect}
+use Rattle.wasm_rules.specs.Instantiation.{calls_of}
+use Rattle.wasm_rules.specs.Steps.{where_some, topmost, branch, is_exhausted, entered}
+use Rattle.wasm_rules.specs.Steps.{called, calls, signature_of, calls_entry, after_effect}
+use Rattle.wasm_rules.specs.Steps.{execute, goes_on, counted_step_of, counted_step, returned}
+use Rattle.wasm_rules.specs.Steps.{exited, begun}
+use Rattle.wasm_rules.specs.Steps.{exited_by, ReducesTo, here, on}
 use Rattle.machine_slots.specs.rules.Places.{ShownFrame, ShowsCallers, ShowsThread}
 use Rattle.machine_frame.proofs.FramePosition.Effects.{table_stays}
 use Rattle.wasi_abi.specs.declared.answer.Answer.{Answer}

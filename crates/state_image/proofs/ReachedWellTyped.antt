@@ -7,14 +7,14 @@ use Rattle.wasm_syntax.specs.declared.value.Trap.{Trap}
 use Rattle.wasm_syntax.specs.declared.value.Trap.TheVariants as trap
 use Rattle.wasm_syntax.specs.declared.module.Module.{Module}
 use Rattle.wasm_syntax.specs.rules.Limits.{IsWithinLimits}
-use Rattle.wasm_semantics.specs.Acceptance.{IsAccepted}
-use Rattle.wasm_semantics.specs.Instantiation.{IsProgram}
-use Rattle.wasm_semantics.specs.Types.{number_in}
-use Rattle.wasm_semantics.specs.Typing.{Context}
-use Rattle.wasm_semantics.specs.Validity.{AreFunctionTypes, module_context}
-use Rattle.wasm_semantics.specs.Configuration.{Program, Thread}
-use Rattle.wasm_semantics.specs.Typed.{IsTypedProgram}
-use Rattle.wasm_semantics.proofs.Soundness.Beginning.{programs_typed}
+use Rattle.wasm_rules.specs.Acceptance.{IsAccepted}
+use Rattle.wasm_rules.specs.Instantiation.{IsProgram}
+use Rattle.wasm_rules.specs.Types.{number_in}
+use Rattle.wasm_rules.specs.Typing.{Context}
+use Rattle.wasm_rules.specs.Validity.{AreFunctionTypes, module_context}
+use Rattle.wasm_rules.specs.Configuration.{Program, Thread}
+use Rattle.wasm_rules.specs.Typed.{IsTypedProgram}
+use Rattle.wasm_rules.proofs.Soundness.Beginning.{programs_typed}
 use Rattle.machine_slots.specs.rules.Places.{ShownFrame, ShowsThread}
 use Rattle.machine_frame.proofs.Threads.Fitting.{shown_fits}
 use Rattle.machine.specs.rules.Offers.{offer}

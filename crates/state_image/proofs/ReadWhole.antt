@@ -4,8 +4,8 @@ use Rattle.std.proofs.Common.{append-nil, append_assoc, Option, None, refl, sym,
 use Rattle.std.proofs.Common.{subst, arith}
 use Rattle.std.specs.Option.{option_map}
 use Rattle.wasm_syntax.specs.declared.module.Module.{Module}
-use Rattle.wasm_semantics.specs.Validity.{IsValid, module_context}
-use Rattle.wasm_semantics.specs.Typed.{IsTypedMemory}
+use Rattle.wasm_rules.specs.Validity.{IsValid, module_context}
+use Rattle.wasm_rules.specs.Typed.{IsTypedMemory}
 use Rattle.machine_slots.specs.declared.slots.TheConstants.{SLOTS}
 use Rattle.machine_slots.specs.rules.Places.{MachineState, Shows}
 use Rattle.machine.specs.rules.Loading.{ShowsSome}

@@ -7,8 +7,8 @@ use Rattle.std.specs.List.{AllByRecursion}
 use Rattle.std.proofs.lemmas.List.Sums.{sum_by-cons}
 use Rattle.wasm_syntax.specs.declared.module.Module.{Module}
 use Rattle.wasm_syntax.specs.laws.Examples.{hello}
-use Rattle.wasm_semantics.specs.Validity.{memories_of}
-use Rattle.wasm_semantics.specs.Instantiation.{least_pages_of}
+use Rattle.wasm_rules.specs.Validity.{memories_of}
+use Rattle.wasm_rules.specs.Instantiation.{least_pages_of}
 use Rattle.wasi_abi.specs.rules.Versions.{text_limit, widenings}
 use Rattle.wasi_abi.specs.rules.Answers.{IsNoNewline, AreBytes}
 use Rattle.wasi_abi.specs.rules.Configs.{Settings}

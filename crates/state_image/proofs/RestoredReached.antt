@@ -1,6 +1,6 @@
 -- A process that is restored shows the one that was reached and saved.
 use Rattle.std.proofs.Common.{◌≡◌, ℕ, List, Option, sym, subst, ◌∙◌}
-use Rattle.wasm_semantics.specs.Validity.{module_context}
+use Rattle.wasm_rules.specs.Validity.{module_context}
 use Rattle.process_rules.proofs.ReachedStates.{reached_are_configured}
 use Rattle.state_image.specs.rules.ProcessImage.{Saved, SavedShowsProcess}
 use Rattle.state_image.specs.rules.Restored.{SavedShowsIn}

@@ -10,11 +10,11 @@ use Rattle.std.proofs.lemmas.List.{length-replicate}
 use Rattle.wasm_syntax.specs.declared.types.FunctionType.{FunctionType}
 use Rattle.wasm_syntax.specs.declared.module.Module.{Module}
 use Rattle.wasm_syntax.specs.declared.module.ExportItem.TheVariants as export
-use Rattle.wasm_semantics.specs.Validity.{AreFunctionTypes, module_context, IsValid}
-use Rattle.wasm_semantics.specs.Configuration.{Program, Store}
-use Rattle.wasm_semantics.specs.Instantiation.{IsProgram, Begins}
-use Rattle.wasm_semantics.specs.Linking.{HasEntry}
-use Rattle.wasm_semantics.specs.Steps.{IsEnded}
+use Rattle.wasm_rules.specs.Validity.{AreFunctionTypes, module_context, IsValid}
+use Rattle.wasm_rules.specs.Configuration.{Program, Store}
+use Rattle.wasm_rules.specs.Instantiation.{IsProgram, Begins}
+use Rattle.wasm_rules.specs.Linking.{HasEntry}
+use Rattle.wasm_rules.specs.Steps.{IsEnded}
 use Rattle.machine_slots.specs.rules.Places.{Shows}
 use Rattle.machine.specs.rules.Runs.{HasBegun}
 use Rattle.machine.specs.rules.Values.{MachineValue, ShowsIn, IsProgramIn, HoldsMemory}

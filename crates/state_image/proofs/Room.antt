@@ -11,8 +11,8 @@ use Rattle.std.specs.Prelude.{min}
 use Rattle.std.specs.Option.{option_map_or}
 use Rattle.wasm_syntax.specs.declared.module.Module.{Module}
 use Rattle.wasm_syntax.specs.declared.types.MemoryType.{MemoryType}
-use Rattle.wasm_semantics.specs.Validity.{memories_of}
-use Rattle.wasm_semantics.specs.Instantiation.{most_pages_of}
+use Rattle.wasm_rules.specs.Validity.{memories_of}
+use Rattle.wasm_rules.specs.Instantiation.{most_pages_of}
 use Rattle.guest_memory.specs.rules.Bytes.{page_size}
 use Rattle.guest_memory.proofs.ByteLemmas.{length-bytes_of}
 use Rattle.wasi_abi.specs.rules.Layouts.{u16_bytes, u32_bytes, u64_bytes}

@@ -21,21 +21,21 @@ use Rattle.wasm_syntax.specs.declared.limits.TheConstants.{FUNCTIONS, INSTRUCTIO
 use Rattle.wasm_syntax.specs.rules.Limits.{is_function, IsSmallFunction, IsWithinLimits}
 use Rattle.wasm_syntax.specs.rules.Modules.{function_type_of}
 use Rattle.wasm_syntax.specs.rules.Sequence.{Sequence, Stop, spelled}
-use Rattle.wasm_semantics.specs.Types.{AreOf, gives_of, imported_functions, imported_globals}
-use Rattle.wasm_semantics.specs.Types.{with_function_index, value_type_of, global_type_of}
-use Rattle.wasm_semantics.specs.Types.{number_in}
-use Rattle.wasm_semantics.specs.Typing.{Context, body_context}
-use Rattle.wasm_semantics.specs.Validity.{AreFunctionTypes, module_context, globals_of}
-use Rattle.wasm_semantics.specs.Validity.{IsFunctionTypeValid, IsValid}
-use Rattle.wasm_semantics.specs.Configuration.{Main, Callee, Own, Program, Label, LabelOf}
-use Rattle.wasm_semantics.specs.Configuration.{FrameOf}
-use Rattle.wasm_semantics.specs.Configuration.{Thread}
-use Rattle.wasm_semantics.specs.Instantiation.{IsProgram}
-use Rattle.wasm_semantics.specs.Linking.{IsOffered}
-use Rattle.wasm_semantics.specs.Shapes.{Shape, LabelShape, ShapeOf, shape_at, body_shape}
-use Rattle.wasm_semantics.specs.Typed.{IsTypedMemory}
-use Rattle.wasm_semantics.specs.laws.Laws.{labels_height, GivesOneAtMost}
-use Rattle.wasm_semantics.proofs.Heights.{heights_small}
+use Rattle.wasm_rules.specs.Types.{AreOf, gives_of, imported_functions, imported_globals}
+use Rattle.wasm_rules.specs.Types.{with_function_index, value_type_of, global_type_of}
+use Rattle.wasm_rules.specs.Types.{number_in}
+use Rattle.wasm_rules.specs.Typing.{Context, body_context}
+use Rattle.wasm_rules.specs.Validity.{AreFunctionTypes, module_context, globals_of}
+use Rattle.wasm_rules.specs.Validity.{IsFunctionTypeValid, IsValid}
+use Rattle.wasm_rules.specs.Configuration.{Main, Callee, Own, Program, Label, LabelOf}
+use Rattle.wasm_rules.specs.Configuration.{FrameOf}
+use Rattle.wasm_rules.specs.Configuration.{Thread}
+use Rattle.wasm_rules.specs.Instantiation.{IsProgram}
+use Rattle.wasm_rules.specs.Linking.{IsOffered}
+use Rattle.wasm_rules.specs.Shapes.{Shape, LabelShape, ShapeOf, shape_at, body_shape}
+use Rattle.wasm_rules.specs.Typed.{IsTypedMemory}
+use Rattle.wasm_rules.specs.laws.Laws.{labels_height, GivesOneAtMost}
+use Rattle.wasm_rules.proofs.Heights.{heights_small}
 use Rattle.machine_slots.specs.declared.slots.TheConstants.{SLOTS}
 use Rattle.machine_slots.specs.rules.Places.{ShownFrame, HaveShape, all_below, slots_of, IsCallOf}
 use Rattle.machine_slots.specs.rules.Places.{ShowsRunning, IsFrameOf, ShowsCallers, ShowsThread}

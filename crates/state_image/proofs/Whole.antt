@@ -4,7 +4,7 @@ use Rattle.std.proofs.Common.{length-append, Option, Some, None, refl, sym, ap, 
 use Rattle.std.specs.Prelude.{codes}
 use Rattle.wasm_syntax.specs.declared.module.Module.{Module}
 use Rattle.wasm_syntax.specs.declared.module.ExportItem.TheVariants as export
-use Rattle.wasm_semantics.specs.Validity.{module_context}
+use Rattle.wasm_rules.specs.Validity.{module_context}
 use Rattle.wasi_abi.specs.declared.version.Version.{Version}
 use Rattle.wasi_abi.specs.rules.Configs.{Settings}
 use Rattle.file_tree.specs.rules.Files.{Files, IsFiles}

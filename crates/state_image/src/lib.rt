@@ -45,7 +45,7 @@
 //! # Who may touch what
 //!
 //! Only these definitions and this code say which byte of an image means what. `worker_store`
-//! cites the definitions, for the disk that stands for a worker. It writes images, and
+//! cites the definitions, for the disk that stands for a worker. The same crate writes images, and
 //! `worker` makes processes of them again, by `restore_into`. A process is read by the questions of
 //! `process`, `machine`, `wasi_calls` and `file_tree`, and nothing of it is changed. The image has
 //! no lines that wait: whoever writes one has released them. Only `write_process_image`, `ByteSink`

@@ -1,9 +1,9 @@
 -- When a step has lines that can't be numbered.
 use Rattle.std.specs.Prelude.{◌≡◌, ℕ, List, Option, Some, Ok, slice_get, reverse, map}
 use Rattle.wasm_syntax.specs.declared.value.Value.{Value}
-use Rattle.wasm_semantics.specs.Types.{number_in}
-use Rattle.wasm_semantics.specs.Configuration.{Thread, Asks}
-use Rattle.wasm_semantics.specs.Steps.{counted_step}
+use Rattle.wasm_rules.specs.Types.{number_in}
+use Rattle.wasm_rules.specs.Configuration.{Thread, Asks}
+use Rattle.wasm_rules.specs.Steps.{counted_step}
 use Rattle.wasi_abi.specs.declared.answer.Answer.{Answer}
 use Rattle.wasi_abi.specs.declared.call.Call.{Call}
 use Rattle.wasi_calls_rules.specs.WasiStates.{WasiState}

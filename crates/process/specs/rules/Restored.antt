@@ -1,6 +1,6 @@
 -- A process that is put together from its parts.
 use Rattle.std.specs.Prelude.{ℕ}
-use Rattle.wasm_semantics.specs.Linking.{IsLinkable}
+use Rattle.wasm_rules.specs.Linking.{IsLinkable}
 use Rattle.machine.specs.rules.Offers.{offer}
 use Rattle.machine.specs.rules.Values.{MachineValue}
 use Rattle.process.specs.declared.restoring.ProcessParts.{ProcessParts}

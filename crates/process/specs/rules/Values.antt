@@ -3,8 +3,8 @@
 use Rattle.std.specs.Prelude.{◌≡◌, ℕ, ◌+◌, ◌<◌, ◌≤◌, ◌^◌, List, [], length, Option, None}
 use Rattle.std.specs.Prelude.{option_map}
 use Rattle.wasm_syntax.specs.declared.module.Module.{Module}
-use Rattle.wasm_semantics.specs.Steps.{IsEnded}
-use Rattle.wasm_semantics.specs.Linking.{IsLinkable}
+use Rattle.wasm_rules.specs.Steps.{IsEnded}
+use Rattle.wasm_rules.specs.Linking.{IsLinkable}
 use Rattle.wasi_abi.specs.rules.Configs.{Settings}
 use Rattle.wasi_abi.specs.rules.Versions.{widenings}
 use Rattle.wasi_calls_rules.specs.WasiStates.{Line}

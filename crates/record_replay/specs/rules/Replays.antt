@@ -83,12 +83,11 @@ Diverges guest reached [] p = ⊥
 Diverges guest reached (next ∷ others) p = FitsNowhere guest reached next
     ⊎ ((p.ended ≡ None) × (p.steps < next.step) × IsBeyond guest p (answer_due p next))
 
--- The next step, which isn't after the next record, is a call of the host; or it is that record's,
--- whose answer is copied.
+-- the next step, which isn't after the next record, is a call of the host
 abbrev pub WantsMemory : Guest → List Record → ProcessState → Type 0
 WantsMemory guest [] p = ⊥
 WantsMemory guest (next ∷ others) p =
-    ((p.ended ≡ None) × (p.steps < next.step) × CallsHost guest p) ⊎ (suc p.steps ≡ next.step)
+    (p.ended ≡ None) × (p.steps < next.step) × CallsHost guest p
 
 -- Why a replay stops that has come to p. All lines of p were released, up to the one that was
 -- refused.

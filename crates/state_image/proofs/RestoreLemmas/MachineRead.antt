@@ -8,8 +8,8 @@ use Rattle.std.proofs.lemmas.List.Sums.{sum_by-cons}
 use Rattle.guest_memory.specs.rules.Bytes.{page_size}
 use Rattle.wasm_syntax.specs.declared.module.Module.{Module}
 use Rattle.wasm_syntax.specs.declared.module.ExportItem.TheVariants as export
-use Rattle.wasm_semantics.specs.Validity.{IsValid}
-use Rattle.wasm_semantics.specs.Linking.{HasEntry}
+use Rattle.wasm_rules.specs.Validity.{IsValid}
+use Rattle.wasm_rules.specs.Linking.{HasEntry}
 use Rattle.wasi_abi.specs.rules.Layouts.{u64_bytes}
 use Rattle.process_rules.proofs.OneStart.{entry_once, item_number}
 use Rattle.machine_slots.specs.declared.limits.TheConstants.{FRAMES}

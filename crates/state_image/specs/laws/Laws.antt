@@ -4,8 +4,8 @@ use Rattle.std.specs.List.{AllByRecursion}
 use Rattle.wasm_syntax.specs.declared.types.FunctionType.{FunctionType}
 use Rattle.wasm_syntax.specs.declared.module.Module.{Module}
 use Rattle.guest_memory.specs.rules.Bytes.{IsByte}
-use Rattle.wasm_semantics.specs.Acceptance.{IsAccepted}
-use Rattle.wasm_semantics.specs.Validity.{AreFunctionTypes, module_context}
+use Rattle.wasm_rules.specs.Acceptance.{IsAccepted}
+use Rattle.wasm_rules.specs.Validity.{AreFunctionTypes, module_context}
 use Rattle.wasi_abi.specs.rules.Configs.{Settings}
 use Rattle.wasi_calls_rules.specs.laws.Laws.{IsOfBytes}
 use Rattle.process_rules.specs.Processes.{ProcessState, Guest, HasLineNumbers, host_of}

@@ -3,8 +3,8 @@ use Rattle.std.specs.Prelude.{◌≡◌, ◌≢◌, ℕ, ◌+◌, ◌*◌, ◌<�
 use Rattle.std.specs.Prelude.{Some, None, slice_get}
 use Rattle.wasm_syntax.specs.declared.module.Module.{Module}
 use Rattle.wasm_syntax.specs.laws.Examples.{hello}
-use Rattle.wasm_semantics.specs.Validity.{memories_of}
-use Rattle.wasm_semantics.specs.Instantiation.{least_pages_of}
+use Rattle.wasm_rules.specs.Validity.{memories_of}
+use Rattle.wasm_rules.specs.Instantiation.{least_pages_of}
 use Rattle.wasi_abi.specs.declared.version.Version.TheVariants.{One, Two}
 use Rattle.wasi_abi.specs.rules.Configs.{Settings}
 use Rattle.file_tree.specs.rules.Files.{Content, Directory, File, FileNode}

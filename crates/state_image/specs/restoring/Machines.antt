@@ -3,7 +3,7 @@ use Rattle.std.specs.Prelude.{◌≡◌, ◌≢◌, ℕ, ◌+◌, ◌≤◌, Lis
 use Rattle.std.specs.Prelude.{Result, Err}
 use Rattle.std.specs.List.{AllByRecursion}
 use Rattle.wasm_syntax.specs.declared.module.Module.{Module}
-use Rattle.wasm_semantics.specs.Linking.{HasEntry}
+use Rattle.wasm_rules.specs.Linking.{HasEntry}
 use Rattle.machine_slots.specs.declared.limits.TheConstants.{FRAMES}
 use Rattle.machine_slots.specs.declared.slots.TheConstants.{SLOTS}
 use Rattle.machine_slots.specs.rules.Places.{ShownFrame}

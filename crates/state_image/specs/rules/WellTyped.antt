@@ -5,7 +5,7 @@ use Rattle.std.specs.Prelude.{length, sum_by, Option, Some, None}
 use Rattle.std.specs.List.{AllByRecursion}
 use Rattle.wasm_syntax.specs.declared.types.FunctionType.{FunctionType}
 use Rattle.wasm_syntax.specs.declared.module.Module.{Module}
-use Rattle.wasm_semantics.specs.Validity.{AreFunctionTypes, module_context, IsValid}
+use Rattle.wasm_rules.specs.Validity.{AreFunctionTypes, module_context, IsValid}
 use Rattle.wasi_abi.specs.rules.Configs.{Settings}
 use Rattle.wasi_abi.specs.rules.Versions.{text_limit, widenings}
 use Rattle.wasi_calls_rules.specs.WasiStates.{WasiState, IsWasiState}

@@ -7,7 +7,7 @@ ghost use Rattle.state_image.specs.rules.LentFrames.{frame_of};
 ghost use Rattle.state_image.specs.rules.Reading.{ReadsField};
 
 use crate::reading::cursor::ProcessImageReader;
-use crate::reading::words::{Words, read_words};
+use crate::reading::words::{Words, read_word_list};
 use guest_memory::PAGE_SIZE;
 
 /// A frame: its function, its position, and its slots.
@@ -23,7 +23,7 @@ pub fn read_frame<'a>(reader: &mut ProcessImageReader<'a>) -> Option<ReadFrame<'
 {
     let function = reader.u32()?;
     let position = reader.u32()?;
-    let slots = read_words(reader)?;
+    let slots = read_word_list(reader)?;
     Some(ReadFrame {
         function,
         position,

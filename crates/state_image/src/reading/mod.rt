@@ -16,4 +16,4 @@ pub use mark::{is_marked_otherwise, read_mark};
 pub use progress::{
     ReadCounts, ReadEnd, ReadPhase, ReadStreams, read_counts, read_end, read_streams,
 };
-pub use words::{Words, read_words};
+pub use words::{Words, read_word_list};

@@ -52,7 +52,7 @@ impl<'a> Words<'a> {
 }
 
 /// How many words there are, and the words.
-pub fn read_words<'a>(reader: &mut ProcessImageReader<'a>) -> Option<Words<'a>>
+pub fn read_word_list<'a>(reader: &mut ProcessImageReader<'a>) -> Option<Words<'a>>
     ensures { ReadsField (items_bytes u64_bytes) AreWords result reader.old reader.new }
 {
     let count = reader.count()?;

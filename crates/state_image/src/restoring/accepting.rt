@@ -7,14 +7,14 @@
 
 ghost use Rattle.std.specs.Prelude.{◌≡◌, ◌↔◌, ◌≤◌, ◌+◌, ℕ, IsTrue, [], Some, length};
 ghost use Rattle.std.specs.List.{AllByRecursion};
-ghost use Rattle.wasm_semantics.specs.Linking.{HasEntry};
+ghost use Rattle.wasm_rules.specs.Linking.{HasEntry};
 ghost use Rattle.wasi_abi.specs.rules.Versions.{text_limit};
 ghost use Rattle.machine.specs.rules.LentFrames.{lent_frame};
 ghost use Rattle.state_image.specs.rules.Saving.{saved_of};
 ghost use Rattle.state_image.specs.rules.WellTyped.{IsOutermost, IsCalled, IsAlive, IsPlaceWithin};
 ghost use Rattle.state_image.specs.restoring.Processes.{MayCome, MayBeAccepted};
 
-use machine::{FramePlace, Machine, entry_of};
+use machine::{LentFrame, Machine, entry_of};
 use process::Process;
 use wasm_syntax::limits::{FUNCTIONS, GLOBALS, INSTRUCTIONS};
 
@@ -53,7 +53,7 @@ fn is_outermost(machine: &Machine) -> bool
     if machine.frame_count() == 0 {
         return true;
     }
-    is_called(machine, machine.place(0).function)
+    is_called(machine, machine.frame(0).function)
 }
 
 /// Whether a process that runs has a frame, and one that has ended has none, nothing to come and no
@@ -82,7 +82,7 @@ fn is_over(process: &Process) -> bool
 }
 
 /// Whether function and position of a frame are within the limits.
-fn is_place_within(place: &FramePlace) -> bool
+fn is_place_within(place: &LentFrame) -> bool
     ensures { IsTrue result ↔ IsPlaceWithin (lent_frame place.now) }
 {
     (place.function as usize) < FUNCTIONS && place.position < INSTRUCTIONS
@@ -93,7 +93,7 @@ fn are_places_within(machine: &Machine) -> bool
     ensures { IsTrue result ↔ AllByRecursion IsPlaceWithin machine.now.state.frames }
 {
     for index in 0..machine.frame_count() {
-        if !is_place_within(&machine.place(index)) {
+        if !is_place_within(&machine.frame(index)) {
             return false;
         }
     }

@@ -6,7 +6,7 @@
 ghost use Rattle.std.specs.Prelude.{◌≡◌, ◌≢◌, ◌+◌, ◌<◌, ◌≤◌, ◌∷◌, [], ℕ, List, length};
 ghost use Rattle.std.specs.Prelude.{IfOk, IfErr, OnOk, Err};
 ghost use Rattle.std.specs.List.{flat_map};
-ghost use Rattle.wasm_semantics.specs.Validity.{IsValid};
+ghost use Rattle.wasm_rules.specs.Validity.{IsValid};
 ghost use Rattle.wasi_abi.specs.rules.Layouts.{u64_bytes};
 ghost use Rattle.machine_slots.specs.declared.slots.TheConstants.{SLOTS};
 ghost use Rattle.machine_slots.specs.rules.Places.{ShownFrame};
@@ -26,7 +26,7 @@ ghost use Rattle.state_image.specs.restoring.Machines.{with_bytes_in, AreSoManyP
 ghost use Rattle.state_image.specs.restoring.Machines.{HaveStackRoom, IsMemoryWithin};
 
 use crate::reading::{
-    ProcessImageReader, ReadFrame, ReadPhase, Words, read_frame, read_memory, read_words,
+    ProcessImageReader, ReadFrame, ReadPhase, Words, read_frame, read_memory, read_word_list,
 };
 use crate::restoring::fault::RestoreFault;
 use machine::{LoadFault, Loading, Machine};
@@ -116,7 +116,7 @@ fn load_globals(machine: &mut Loading, reader: &mut ProcessImageReader) -> Resul
         machine.old machine.new reader.old reader.new) }
     ensures refused { RefusesField result (items_bytes u64_bytes) AreWords reader.old }
 {
-    let Some(words) = read_words(reader) else {
+    let Some(words) = read_word_list(reader) else {
         return Err(RestoreFault::NotAnImage);
     };
     push_globals(machine, words)

@@ -7,7 +7,7 @@
 //! - **A module that can't be linked has no image**: `restore` then says `I1 NotAnImage`.
 
 ghost use Rattle.std.specs.Prelude.{◌≡◌, ◌≢◌, ◌↔◌, ℕ, [], IsTrue, IfOk, Err};
-ghost use Rattle.wasm_semantics.specs.Linking.{HasEntry, IsLinkable};
+ghost use Rattle.wasm_rules.specs.Linking.{HasEntry, IsLinkable};
 ghost use Rattle.machine.specs.rules.Loading.{ShowsSome};
 ghost use Rattle.machine.specs.rules.Offers.{offer};
 ghost use Rattle.machine.specs.rules.Runs.{HasBegun};

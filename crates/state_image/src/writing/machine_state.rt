@@ -26,7 +26,7 @@ fn push_frames<S: Sink>(machine: &Machine, sink: &mut S) -> Result<(), S::Fault>
     let count = machine.frame_count();
     push_count(count, sink)?;
     for index in 0..count {
-        let place = machine.place(index);
+        let place = machine.frame(index);
         push_place(place.function, place.position, place.slots, sink)?;
     }
     Ok(())

@@ -1,4 +1,4 @@
-use Rattle.wasm_semantics.specs.Steps.{IsEnded}
+use Rattle.wasm_rules.specs.Steps.{IsEnded}
 use Rattle.process.proofs.PartsTested.{tells_not}
 use Rattle.process.proofs.restoring.is_open.Goals as goal
 

@@ -1,16 +1,8 @@
-use Rattle.std.proofs.Common.{Ok, Err, ap, ◌∙◌}
+use Rattle.std.proofs.Common.{ap, ◌∙◌}
 use Rattle.std.proofs.lemmas.Result.{err_from_is_err_and}
 use Rattle.process.specs.rules.Values.{ProcessValue}
-use Rattle.record_replay.proofs.Played.{given_as, copied_in_vain, given_in_vain, played}
-use Rattle.record_replay.proofs.Played.{told_in_vain}
+use Rattle.record_replay.proofs.Played.{given_in_vain, played, told_in_vain}
 use Rattle.record_replay.proofs.replaying.play.Goals as goal
-
-pub returns-in_err-answer-clause-stopped : goal.returns-in_err-answer-clause-stopped
-returns-in_err-answer-clause-stopped g c =
-    let p = err_from_is_err_and c.from_residual-in_err-answer.result
-    c.from_residual-in_err-answer.ensures.1 in
-    rw (p.1, p.2) (copied_in_vain _ _ _ c.run_to_step.new.process c.args.entry.now _ _
-    c.in_ok-run_to_step.ensures.done)
 
 pub returns-in_err-give-clause-stopped : goal.returns-in_err-give-clause-stopped
 returns-in_err-give-clause-stopped g c =
@@ -18,8 +10,7 @@ returns-in_err-give-clause-stopped g c =
     c.from_residual-in_err-give.ensures.1 in
     rw (p.1, p.2) (given_in_vain _ _ _ c.give.new.self c.args.entry.now _ _
     c.in_ok-run_to_step.ensures.done c.in_err-give.field-0.0
-    (given_as c.run_to_step.new.process c.give.new.self _ _ (Err c.in_err-give.field-0.0)
-    c.in_ok-answer.ensures c.in_err-give.ensures.gives))
+    c.in_err-give.ensures.gives)
 
 pub returns-in_err-release_waiting-clause-stopped :
     goal.returns-in_err-release_waiting-clause-stopped
@@ -28,15 +19,13 @@ returns-in_err-release_waiting-clause-stopped g c =
     c.from_residual-in_err-release_waiting.ensures.1 in
     rw (p.1, p.2) (told_in_vain _ _ _ c.give.new.self c.args.entry.now _ _
     c.in_ok-run_to_step.ensures.done
-    (given_as c.run_to_step.new.process c.give.new.self _ _ (Ok tt) c.in_ok-answer.ensures
-    c.in_ok-give.ensures.gives)
+    c.in_ok-give.ensures.gives
     c.in_ok-give.ensures.released _ _ c.in_err-release_waiting.ensures.some)
 
 pub returns-clause-played : goal.returns-clause-played
 returns-clause-played g c =
     played _ _ _ c.give.new.self c.args.entry.now _ _ c.in_ok-run_to_step.ensures.done
-    (given_as c.run_to_step.new.process c.give.new.self _ _ (Ok tt) c.in_ok-answer.ensures
-    c.in_ok-give.ensures.gives)
+    c.in_ok-give.ensures.gives
     c.in_ok-give.ensures.released _ _ c.in_ok-release_waiting.ensures.all
 
 pub returns-clause-guest : goal.returns-clause-guest

@@ -1,6 +1,6 @@
 use Rattle.std.proofs.Common.{ℕ, subst, sym}
 use Rattle.wasm_syntax.specs.declared.module.Module.{Module}
-use Rattle.wasm_semantics.specs.Linking.{IsLinkable}
+use Rattle.wasm_rules.specs.Linking.{IsLinkable}
 use Rattle.machine.specs.rules.Offers.{offer}
 use Rattle.machine.specs.rules.Runs.{HasBegun}
 use Rattle.state_image.specs.rules.Restored.{IsRestored}

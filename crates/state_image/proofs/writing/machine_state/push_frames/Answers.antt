@@ -24,7 +24,7 @@ pub returns-in_err-push_place : goal.returns-in_err-push_place
 returns-in_err-push_place g c =
     let frames = reverse c.args.machine.now.state.frames in
     pushes_item_exit (u32_bytes (length frames)) place_bytes frames c.loop-index.index
-    (lent_frame c.place-place.result) _ (front_more frames _ _ c.place-place.ensures)
+    (lent_frame c.frame-place.result) _ (front_more frames _ _ c.frame-place.ensures)
     c.loop-index.invariant
     c.from_residual-in_err-push_place.ensures.1 c.in_err-push_place.ensures
 
@@ -32,7 +32,7 @@ pub loop-index-preserved : goal.loop-index-preserved
 loop-index-preserved g c =
     let frames = reverse c.args.machine.now.state.frames in
     pushes_item (u32_bytes (length frames)) place_bytes frames c.loop-index.index
-    (lent_frame c.place-place.result) (front_more frames _ _ c.place-place.ensures)
+    (lent_frame c.frame-place.result) (front_more frames _ _ c.frame-place.ensures)
     c.loop-index.invariant
     c.in_ok-push_place.ensures
 

@@ -1,5 +1,5 @@
 use Rattle.state_image.proofs.TextReads.{counted_words, no_words}
-use Rattle.state_image.proofs.reading.words.read_words.Goals as goal
+use Rattle.state_image.proofs.reading.words.read_word_list.Goals as goal
 
 pub returns-in_err-bytes : goal.returns-in_err-bytes
 returns-in_err-bytes c =

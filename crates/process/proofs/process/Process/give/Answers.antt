@@ -7,7 +7,7 @@ use Rattle.process.specs.rules.Stops.{GivesFor}
 use Rattle.process.proofs.Lines.{below_when, empty_when}
 use Rattle.process.proofs.Counting.{parts_of}
 use Rattle.process.proofs.Giving.{running_when, is_kept, not_given, takes_answer, is_process_given}
-use Rattle.process.proofs.process.Process.take_answer.Goals as goal
+use Rattle.process.proofs.process.Process.give.Goals as goal
 
 pub invariant_of-self : goal.invariant_of-self
 invariant_of-self c =
