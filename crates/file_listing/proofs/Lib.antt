@@ -1,2 +1,3 @@
 mod PathLemmas
 mod NodeLemmas
+mod NameLemmas

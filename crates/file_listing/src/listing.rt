@@ -3,7 +3,7 @@
 ghost use Rattle.std.specs.Prelude.{◌≡◌, ◌++◌, IfOk, OnOk, Some, option_to_list};
 ghost use Rattle.file_tree.specs.rules.Changes.{path_at};
 ghost use Rattle.file_tree.specs.rules.Files.{FileNode, node_of};
-ghost use Rattle.file_listing.specs.rules.Listed.{path_text, listed_of, listing_in};
+ghost use Rattle.file_listing.specs.rules.Listed.{HaveNames, path_text, listed_of, listing_in};
 ghost use Rattle.file_listing.specs.Separators.{separator_behind};
 
 use crate::listed::ListedNode;
@@ -64,7 +64,8 @@ fn push_some(nodes: &mut Vec<ListedNode>, node: Option<ListedNode>) -> Result<()
 /// The nodes of a tree that have a path, but for the root, by rising numbers. It fails only when
 /// out of memory.
 pub fn list_nodes(alloc: Global, tree: &Tree) -> Result<Vec<ListedNode>, AllocError>
-    ensures { IfOk result (λ nodes. nodes.items ≡ listing_in tree.now) }
+    ensures all { IfOk result (λ nodes. nodes.items ≡ listing_in tree.now) }
+    ensures named { IfOk result (λ nodes. HaveNames nodes.items) }
 {
     let mut nodes = Vec::new(alloc);
     let count = tree.len();

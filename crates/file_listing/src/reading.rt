@@ -25,8 +25,8 @@ fn find_path<'a>(nodes: &'a [ListedNode], path: &[u8]) -> Option<&'a ListedNode>
     None
 }
 
-/// The bytes of a file: none of a directory.
-fn bytes_of(alloc: Global, tree: &Tree, number: u64) -> Result<Vec<u8>, AllocError>
+/// The bytes of a file: none of a directory. It fails only when out of memory.
+pub fn read_node(alloc: Global, tree: &Tree, number: u64) -> Result<Vec<u8>, AllocError>
     ensures { IfOk result (λ bytes. bytes.items ≡ bytes_of_node tree.now number) }
 {
     let mut bytes = vec![in alloc; 0; tree.size(number) as usize]?;
@@ -48,7 +48,7 @@ pub fn read_path(alloc: Global, tree: &Tree, path: &[u8]) -> Result<Vec<u8>, Pat
     if node.is_directory {
         return Err(PathFault::Directory);
     }
-    match bytes_of(alloc, tree, node.number) {
+    match read_node(alloc, tree, node.number) {
         Ok(bytes) => Ok(bytes),
         Err(_) => Err(PathFault::Memory),
     }

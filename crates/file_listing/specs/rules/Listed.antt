@@ -1,10 +1,10 @@
 -- The nodes of a tree that are listed, by their paths (this project's own).
 use Rattle.std.specs.Prelude.{◌≡◌, ◌≢◌, ℕ, true, false, List, [], ◌∷◌, ◌++◌, length, Option, Some}
 use Rattle.std.specs.Prelude.{None, Result, Ok, Err, Contains, All, Vec}
-use Rattle.std.specs.List.{filter_map}
+use Rattle.std.specs.List.{AllByRecursion, filter_map}
 use Rattle.std.specs.declared.alloc.Global.{Global}
-use Rattle.file_tree.specs.rules.Files.{Path, FileNode, Files, slash, is_directory_content}
-use Rattle.file_tree.specs.rules.Files.{bytes_of_content, bytes_of_node}
+use Rattle.file_tree.specs.rules.Files.{Name, Path, FileNode, Files, IsNodeName, slash}
+use Rattle.file_tree.specs.rules.Files.{bytes_of_content, bytes_of_node, is_directory_content}
 use Rattle.file_listing.specs.declared.listed.ListedNode.{ListedNode}
 use Rattle.file_listing.specs.declared.fault.PathFault.{PathFault}
 use Rattle.file_listing.specs.declared.fault.PathFault.TheVariants as fault
@@ -14,6 +14,14 @@ abbrev pub path_text : Path → List ℕ
 path_text [] = []
 path_text (name ∷ []) = name
 path_text (name ∷ next ∷ path) = name ++ slash ∷ path_text (next ∷ path)
+
+-- The text of a path of names that a node may have, but not the root's. So it is UTF-8 without a
+-- byte 0, and none of its names is empty, `.` or `..`.
+pub record IsPathText (text : List ℕ) : Type 0 where
+  pub first : Name
+  pub path : Path
+  pub named : AllByRecursion IsNodeName (first ∷ path)
+  pub is : text ≡ path_text (first ∷ path)
 
 -- What is listed of a node with this path. Nothing is where it is that of the root, nor where it
 -- was removed and has none.
@@ -34,6 +42,10 @@ listed_of n = listed_at n n.path
 -- all that is listed of a tree, by rising numbers
 abbrev pub listing_in : Files → List ListedNode
 listing_in fs = filter_map listed_of fs.nodes
+
+-- all listed nodes have such paths
+abbrev pub HaveNames : List ListedNode → Type 0
+HaveNames = All (λ (node : ListedNode). IsPathText node.path)
 
 -- the node is listed under this path
 abbrev pub IsListedAt : Files → List ℕ → ListedNode → Type 0

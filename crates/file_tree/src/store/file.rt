@@ -4,9 +4,9 @@
 //!
 //! - **Behind a file's bytes its last chunk is zeros.** A file that grows within a chunk so changes
 //!   its length alone. A cut pays for it, with zeros in one chunk at most.
-//! - **All chunks of a growth are taken first**, in a list of their own. So is room for them in the
-//!   slab, and for their keys in the file. Then they are put in, which can't fail. Where memory
-//!   ends they are dropped, and nothing has changed.
+//! - **All chunks of a growth are taken first**, in a list of their own. Room for them in the slab,
+//!   and for their keys in the file, is taken, too. Then the chunks are put in, which can't fail.
+//!   Where memory ends they are dropped, and nothing has changed.
 
 ghost use Rattle.std.specs.Prelude.{◌≡◌, ◌+◌, ◌-◌, ◌<◌, ◌≤◌, ◌^◌, ◌++◌, [], min, length, take};
 ghost use Rattle.std.specs.Prelude.{drop};

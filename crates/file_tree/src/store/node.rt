@@ -2,7 +2,7 @@
 //!
 //! # Choices
 //!
-//! - **A node names its directory by number, never by its key in the slab.** So a number that a
+//! - **A node names its directory by number, never by its key in the slab.** A number that a
 //!   descriptor holds means the same whatever is removed. No number is used again: the next one
 //!   only rises, and a dropped node's isn't given out.
 //! - **A path isn't kept.** Climbing from a node to the root finds it, and a rename changes one

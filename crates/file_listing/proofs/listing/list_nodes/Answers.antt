@@ -1,10 +1,22 @@
-use Rattle.std.proofs.Common.{List, Option, take, sym, ap, ◌++◌, ◌∙◌}
+use Rattle.std.proofs.Common.{List, Option, take, sym, ap, subst, arith, ◌++◌, ◌∙◌}
+use Rattle.std.proofs.lemmas.List.{take_all}
 use Rattle.std.specs.Prelude.{option_to_list}
 use Rattle.std.specs.List.{filter_map}
 use Rattle.file_listing.specs.declared.listed.ListedNode.{ListedNode}
-use Rattle.file_listing.specs.rules.Listed.{listed_of}
+use Rattle.file_listing.specs.rules.Listed.{HaveNames, listed_of}
+use Rattle.file_listing.proofs.NameLemmas.{have_names}
 use Rattle.file_listing.proofs.NodeLemmas.{place_found, listed_more}
 use Rattle.file_listing.proofs.listing.list_nodes.Goals as goal
+
+pub returns-clause-named : goal.returns-clause-named
+returns-clause-named c =
+    let tree = c.args.tree.now in
+    let place = c.loop-place.place in
+    let count = c.len-count.ensures.count in
+    let over = c.loop-place-test.false in
+    subst HaveNames (sym (c.loop-place.invariant
+    ∙ ap (filter_map listed_of) (take_all place tree.nodes (omega (arith, count, over)))))
+    (have_names tree c.len-count.ensures.shape)
 
 pub loop-place-preserved : goal.loop-place-preserved
 loop-place-preserved c =
