@@ -1,4 +1,5 @@
--- The rules of the calls on names in directories: where the path leads, and then what is done there.
+-- The rules of the calls on names in directories: where the path leads, and then what is done
+-- there.
 use Rattle.std.proofs.Common.{◌≡◌, ℕ, refl}
 use Rattle.wasi_abi.specs.rules.Numbers.{path_create_directory_right, path_unlink_file_right}
 use Rattle.wasi_abi.specs.rules.Numbers.{path_remove_directory_right}
@@ -8,12 +9,14 @@ use Rattle.wasi_calls_rules.specs.Checks.{with_right, lent}
 use Rattle.wasi_calls_rules.specs.Paths.{WalkEnd, formed}
 use Rattle.wasi_calls_rules.specs.Entries.{path_create_directory, path_remove_directory}
 use Rattle.wasi_calls_rules.specs.Entries.{path_unlink_file}
-use Rattle.wasi_calls.specs.Entries.{named_place, directory_made, directory_removed, file_unlinked}
+use Rattle.wasi_calls.specs.Entries.{place_of_path, directory_made, directory_removed}
+use Rattle.wasi_calls.specs.Entries.{file_unlinked}
 use Rattle.wasi_calls.proofs.Through.{through}
 
 pub create_directory_is : (fd path len : ℕ) (m : Bytes) (h : WasiState)
     → path_create_directory fd path len m h
-    ≡ (named_place path_create_directory_right fd path len m h >>= λ place. directory_made place m h)
+    ≡ (place_of_path path_create_directory_right fd path len m h
+    >>= λ place. directory_made place m h)
 create_directory_is fd path len m h =
     let k : WalkEnd → Ruling = λ place. directory_made place m h in
     through (open_descriptor h fd) _ _ k (λ d.
@@ -24,7 +27,7 @@ create_directory_is fd path len m h =
 
 pub remove_directory_is : (fd path len : ℕ) (m : Bytes) (h : WasiState)
     → path_remove_directory fd path len m h
-    ≡ (named_place path_remove_directory_right fd path len m h >>= λ place.
+    ≡ (place_of_path path_remove_directory_right fd path len m h >>= λ place.
     directory_removed place m h)
 remove_directory_is fd path len m h =
     let k : WalkEnd → Ruling = λ place. directory_removed place m h in
@@ -36,7 +39,7 @@ remove_directory_is fd path len m h =
 
 pub unlink_file_is : (fd path len : ℕ) (m : Bytes) (h : WasiState)
     → path_unlink_file fd path len m h
-    ≡ (named_place path_unlink_file_right fd path len m h >>= λ place. file_unlinked place m h)
+    ≡ (place_of_path path_unlink_file_right fd path len m h >>= λ place. file_unlinked place m h)
 unlink_file_is fd path len m h =
     let k : WalkEnd → Ruling = λ place. file_unlinked place m h in
     through (open_descriptor h fd) _ _ k (λ d.

@@ -12,8 +12,8 @@ use Rattle.wasi_calls_rules.specs.Entries.{placed, a_leaf, whole_path, a_free_no
 use Rattle.wasi_calls_rules.specs.Entries.{is_directory_empty, without}
 
 -- where a path leads from an open directory whose descriptor needs this right
-abbrev pub named_place : ℕ → ℕ → ℕ → ℕ → Bytes → WasiState → Result WalkEnd Halt
-named_place right fd path len m h =
+abbrev pub place_of_path : ℕ → ℕ → ℕ → ℕ → Bytes → WasiState → Result WalkEnd Halt
+place_of_path right fd path len m h =
     open_descriptor h fd >>= λ d.
     a_directory h d >>= λ _.
     with_right right d >>= λ _.

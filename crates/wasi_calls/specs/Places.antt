@@ -3,11 +3,11 @@ use Rattle.std.specs.Prelude.{◌≡◌, false, true, List, [], ◌∷◌, Optio
 use Rattle.std.specs.List.{AllByRecursion}
 use Rattle.file_tree.specs.rules.Files.{Name, Files, IsNodeName, is_directory}
 use Rattle.wasi_calls_rules.specs.Paths.{WalkEnd, Self, Leaf, is_back}
-use Rattle.wasi_calls.specs.declared.paths.walk.Place.{Place}
-use Rattle.wasi_calls.specs.declared.paths.walk.Place.TheVariants as place
+use Rattle.wasi_calls.specs.declared.paths.walk.PathEnd.{PathEnd}
+use Rattle.wasi_calls.specs.declared.paths.walk.PathEnd.TheVariants as place
 
 -- where the code's walk ends
-abbrev pub walk_end_of : Place → WalkEnd
+abbrev pub walk_end_of : PathEnd → WalkEnd
 walk_end_of (place.Directory k) = Self k
 walk_end_of (place.Leaf d name) = Leaf d name.now
 

@@ -1,8 +1,8 @@
 //! The buffers of a guest that bytes are moved from or to.
 //!
-//! **Buffers are read once, before anything is written**, into an inline array. So a buffer may lie
-//! over the array of the buffers. An array of as many as a call may name has 8 KB, which are
-//! cleared first. So a call that names few has a shorter array.
+//! **Buffers are read once, before anything is written**, into an inline array. A buffer may then
+//! lie over the array of the buffers. An array of as many as a call may name has 8 KB, which are
+//! cleared first. A call that names few has a shorter array for that.
 
 ghost use Rattle.std.specs.Prelude.{◌≡◌, ◌≤◌, ◌+◌, ◌-◌, ◌*◌, ◌<◌, ◌^◌};
 ghost use Rattle.std.specs.Prelude.{min, [], ◌∷◌, ◌++◌, length, IfOk, OnOk, Ok};

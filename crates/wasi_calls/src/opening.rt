@@ -23,7 +23,7 @@ ghost use Rattle.wasi_calls.specs.rules.Calls.{IsAsLarge};
 use crate::descriptor::{Descriptor, Names};
 use crate::host::WasiState;
 use crate::memory::in_range;
-use crate::paths::{PathNames, Place, find_place, path_bytes};
+use crate::paths::{PathEnd, PathNames, path_bytes, place_of_names};
 use crate::stop::CallStop;
 use file_tree::NodeType;
 use guest_memory::Memory;
@@ -235,7 +235,7 @@ fn cut_if(host: &mut WasiState, node: u64, is_cut: bool) -> Result<(), AllocErro
 fn open_new(
     alloc: Global,
     host: &mut WasiState,
-    place: Place<'_>,
+    place: PathEnd<'_>,
     mode: CheckedMode,
 ) -> Result<u32, CallStop>
     requires well { IsWellPlaced host.old.host.files (walk_end_of place) }
@@ -253,7 +253,7 @@ fn open_new(
     if !mode.flags.has(OpenFlags::CREATE) {
         return Err(CallStop::Refused(Errno::Noent));
     }
-    let Place::Leaf(directory, name) = place else {
+    let PathEnd::Leaf(directory, name) = place else {
         return Err(CallStop::Refused(Errno::Inval));
     };
     host.check_path(directory)?;
@@ -268,7 +268,7 @@ fn open_new(
 fn open_at(
     alloc: Global,
     host: &mut WasiState,
-    place: Place<'_>,
+    place: PathEnd<'_>,
     mode: CheckedMode,
 ) -> Result<u32, CallStop>
     requires well { IsWellPlaced host.old.host.files (walk_end_of place) }
@@ -314,7 +314,7 @@ pub fn open(
     let bytes = path_bytes(memory, arguments.path, arguments.len)?;
     in_range(memory, arguments.ret, 4)?;
     let names = PathNames::of(bytes)?;
-    let place = find_place(host, descriptor, names)?;
+    let place = place_of_names(host, descriptor, names)?;
     let number = open_at(alloc, host, place, mode)?;
     memory.store_u32(arguments.ret, 0, number).unwrap();
     Ok(())

@@ -14,7 +14,7 @@ ghost use Rattle.wasi_calls.specs.Steps.{GivesValue, StopsStep};
 
 use crate::descriptor::Names;
 use crate::host::WasiState;
-use crate::paths::{PathNames, Place, find_place, path_bytes};
+use crate::paths::{PathEnd, PathNames, path_bytes, place_of_names};
 use crate::stop::CallStop;
 use file_tree::ByteList;
 use guest_memory::Memory;
@@ -96,8 +96,8 @@ fn rename_over(
 fn rename_place(
     alloc: Global,
     host: &mut WasiState,
-    source: Place<'_>,
-    target: Place<'_>,
+    source: PathEnd<'_>,
+    target: PathEnd<'_>,
 ) -> Result<(), CallStop>
     requires source { IsWellPlaced host.old.host.files (walk_end_of source) }
     requires target { IsWellPlaced host.old.host.files (walk_end_of target) }
@@ -109,10 +109,10 @@ fn rename_place(
     ensures kept { IfErr result (λ _. host.new ≡ host.old) }
     ensures released { host.new.released ≡ host.old.released }
 {
-    let Place::Leaf(from, _) = source else {
+    let PathEnd::Leaf(from, _) = source else {
         return Err(CallStop::Refused(Errno::Inval));
     };
-    let Place::Leaf(to, name) = target else {
+    let PathEnd::Leaf(to, name) = target else {
         return Err(CallStop::Refused(Errno::Inval));
     };
     let Some(node) = host.node_there(source) else {
@@ -159,8 +159,8 @@ pub fn rename(
     let new_bytes = path_bytes(memory, arguments.new_path, arguments.new_len)?;
     let old_names = PathNames::of(old_bytes)?;
     let new_names = PathNames::of(new_bytes)?;
-    let source = find_place(host, old, old_names)?;
-    let target = find_place(host, new, new_names)?;
+    let source = place_of_names(host, old, old_names)?;
+    let target = place_of_names(host, new, new_names)?;
     rename_place(alloc, host, source, target)?;
     Ok(())
 }

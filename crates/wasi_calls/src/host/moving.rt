@@ -1,8 +1,8 @@
 //! Bytes that are moved between a guest's memory and the files, the input and the output of a host.
 //!
 //! **A write to a file makes room first, and then puts pieces in place.** `Tree::resize` alone can
-//! need memory. `Tree::write` stays within the size and can't fail. So the guest's buffers go into
-//! the file one after the other, and none are joined.
+//! need memory. `Tree::write` stays within the size and can't fail. The guest's buffers go into the
+//! file one after the other, and none are joined.
 
 ghost use Rattle.std.specs.Prelude.{◌≡◌, ◌≤◌, ◌<◌, ◌+◌, ◌^◌, ◌==◌, false};
 ghost use Rattle.std.specs.Prelude.{length, vec_len, min, take, drop, option_copied, Ok};

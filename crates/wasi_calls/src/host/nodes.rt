@@ -18,7 +18,7 @@ ghost use Rattle.wasi_calls.specs.Steps.{GivesValue};
 use crate::descriptor::Names;
 use crate::host::WasiState;
 use crate::host::descriptors::sweep;
-use crate::paths::Place;
+use crate::paths::PathEnd;
 use file_tree::NodeType;
 use file_tree::limits::NODES;
 use std::alloc::{AllocError, Global};
@@ -33,12 +33,12 @@ impl WasiState {
     }
 
     /// The node at a place.
-    pub(crate) fn node_at(&self, place: Place<'_>) -> Option<u64>
+    pub(crate) fn node_at(&self, place: PathEnd<'_>) -> Option<u64>
         ensures { result ≡ node_at self.now.host.files (walk_end_of place.entry) }
     {
         match place {
-            Place::Directory(directory) => Some(directory),
-            Place::Leaf(directory, name) => self.child(directory, name),
+            PathEnd::Directory(directory) => Some(directory),
+            PathEnd::Leaf(directory, name) => self.child(directory, name),
         }
     }
 
@@ -114,8 +114,8 @@ impl WasiState {
         ensures number { IfOk result (λ number. number ≡ self.old.host.files.next) }
         ensures created { OnOk result (self.new ≡ record self.old {
           host = record self.old.host {
-            files = created (path_at self.old.host.files directory ++ name.now ∷ []) (empty node_type)
-                self.old.host.files;
+            files = created (path_at self.old.host.files directory ++ name.now ∷ [])
+                (empty node_type) self.old.host.files;
           };
         }) }
         ensures unchanged { OnErr result (self.new ≡ self.old) }

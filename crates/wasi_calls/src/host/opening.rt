@@ -13,7 +13,7 @@ ghost use Rattle.wasi_calls.specs.Steps.{GivesValue};
 
 use crate::descriptor::Descriptor;
 use crate::host::WasiState;
-use crate::paths::Place;
+use crate::paths::PathEnd;
 use std::alloc::AllocError;
 use wasi_abi::Errno;
 
@@ -22,7 +22,7 @@ const FIRST_FREE: usize = 3;
 
 impl WasiState {
     /// The node at a place, which is there.
-    pub(crate) fn node_there(&self, place: Place<'_>) -> Option<u64>
+    pub(crate) fn node_there(&self, place: PathEnd<'_>) -> Option<u64>
         requires well { IsWellPlaced self.now.host.files (walk_end_of place) }
         ensures node { result ≡ node_at self.now.host.files (walk_end_of place.entry) }
         ensures there { IfSome result (λ k. IsThere self.now.host.files (Node k)) }

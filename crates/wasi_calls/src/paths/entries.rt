@@ -13,7 +13,7 @@ ghost use Rattle.wasi_calls.specs.rules.Calls.{IsAsLarge};
 use crate::descriptor::Names;
 use crate::host::WasiState;
 use crate::memory::in_range;
-use crate::paths::{PathNames, Place, find_place, named_place, path_bytes};
+use crate::paths::{PathEnd, PathNames, path_bytes, place_of_names, place_of_path};
 use crate::status::put_filestat;
 use crate::stop::CallStop;
 use file_tree::NodeType;
@@ -56,7 +56,7 @@ pub fn get_path_filestat(
     let bytes = path_bytes(memory, arguments.path, arguments.len)?;
     in_range(memory, arguments.ret, FILESTAT_BYTES as u32)?;
     let names = PathNames::of(bytes)?;
-    let place = find_place(host, descriptor, names)?;
+    let place = place_of_names(host, descriptor, names)?;
     let node = host.node_at(place).ok_or(Errno::Noent)?;
     put_filestat(host, memory, Names::Node(node), arguments.ret);
     Ok(())
@@ -78,12 +78,12 @@ pub fn create_directory(
     ensures kept { IfErr result (λ _. host.new ≡ host.old) }
     ensures released { host.new.released ≡ host.old.released }
 {
-    let place = named_place(host, memory, fd, Rights::PATH_CREATE_DIRECTORY, path, len)?;
+    let place = place_of_path(host, memory, fd, Rights::PATH_CREATE_DIRECTORY, path, len)?;
     make_directory(alloc, host, place)
 }
 
 /// Makes a directory at a place.
-fn make_directory(alloc: Global, host: &mut WasiState, place: Place<'_>) -> Result<(), CallStop>
+fn make_directory(alloc: Global, host: &mut WasiState, place: PathEnd<'_>) -> Result<(), CallStop>
     requires well { IsWellPlaced host.old.host.files (walk_end_of place) }
     ensures done { (m : Bytes) → OnOk result (directory_made (walk_end_of place.entry) m
         host.old.host ≡ Ok (record { memory = m; host = host.new.host })) }
@@ -92,7 +92,7 @@ fn make_directory(alloc: Global, host: &mut WasiState, place: Place<'_>) -> Resu
     ensures kept { IfErr result (λ _. host.new ≡ host.old) }
     ensures released { host.new.released ≡ host.old.released }
 {
-    let Place::Leaf(directory, name) = place else {
+    let PathEnd::Leaf(directory, name) = place else {
         return Err(CallStop::Refused(Errno::Inval));
     };
     if host.child(directory, name).is_some() {
@@ -119,12 +119,12 @@ pub fn remove_directory(
     ensures kept { IfErr result (λ _. host.new ≡ host.old) }
     ensures released { host.new.released ≡ host.old.released }
 {
-    let place = named_place(host, memory, fd, Rights::PATH_REMOVE_DIRECTORY, path, len)?;
+    let place = place_of_path(host, memory, fd, Rights::PATH_REMOVE_DIRECTORY, path, len)?;
     remove_directory_at(host, place)
 }
 
 /// Removes the directory at a place.
-fn remove_directory_at(host: &mut WasiState, place: Place<'_>) -> Result<(), Errno>
+fn remove_directory_at(host: &mut WasiState, place: PathEnd<'_>) -> Result<(), Errno>
     ensures done { (m : Bytes) → OnOk result (directory_removed (walk_end_of place.entry) m
         host.old.host ≡ Ok (record { memory = m; host = host.new.host })) }
     ensures refused { (m : Bytes) → IfErr result (λ e.
@@ -132,7 +132,7 @@ fn remove_directory_at(host: &mut WasiState, place: Place<'_>) -> Result<(), Err
     ensures kept { IfErr result (λ _. host.new ≡ host.old) }
     ensures released { host.new.released ≡ host.old.released }
 {
-    let Place::Leaf(directory, name) = place else {
+    let PathEnd::Leaf(directory, name) = place else {
         return Err(Errno::Inval);
     };
     let node = host.child(directory, name).ok_or(Errno::Noent)?;
@@ -161,12 +161,12 @@ pub fn unlink_file(
     ensures kept { IfErr result (λ _. host.new ≡ host.old) }
     ensures released { host.new.released ≡ host.old.released }
 {
-    let place = named_place(host, memory, fd, Rights::PATH_UNLINK_FILE, path, len)?;
+    let place = place_of_path(host, memory, fd, Rights::PATH_UNLINK_FILE, path, len)?;
     unlink_file_at(host, place)
 }
 
 /// Unlinks the file at a place.
-fn unlink_file_at(host: &mut WasiState, place: Place<'_>) -> Result<(), Errno>
+fn unlink_file_at(host: &mut WasiState, place: PathEnd<'_>) -> Result<(), Errno>
     ensures done { (m : Bytes) → OnOk result (file_unlinked (walk_end_of place.entry) m
         host.old.host ≡ Ok (record { memory = m; host = host.new.host })) }
     ensures refused { (m : Bytes) → IfErr result (λ e.
@@ -174,7 +174,7 @@ fn unlink_file_at(host: &mut WasiState, place: Place<'_>) -> Result<(), Errno>
     ensures kept { IfErr result (λ _. host.new ≡ host.old) }
     ensures released { host.new.released ≡ host.old.released }
 {
-    let Place::Leaf(directory, name) = place else {
+    let PathEnd::Leaf(directory, name) = place else {
         return Err(Errno::Inval);
     };
     let node = host.child(directory, name).ok_or(Errno::Noent)?;

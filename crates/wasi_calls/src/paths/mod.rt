@@ -9,7 +9,7 @@ ghost use Rattle.wasi_calls.specs.Steps.{GivesValue};
 
 pub use form::PathNames;
 use guest_memory::Memory;
-pub use walk::{Place, find_place, named_place};
+pub use walk::{PathEnd, place_of_names, place_of_path};
 use wasi_abi::Errno;
 
 /// The bytes of a path, or `Fault`.

@@ -10,7 +10,8 @@ moved_front : (xs : List ℕ) (len n : ℕ) → len ≡ length xs
 moved_front xs len n e =
     let k : ℕ = len - n in
     let size : length (drop n xs) ≡ k = omega (arith, length-drop n xs, e) in
-    ap (λ (ys : List ℕ). take k (ys ++ drop (0 + k) xs)) (take_all k (drop n xs) (omega (arith, size)))
+    ap (λ (ys : List ℕ). take k (ys ++ drop (0 + k) xs))
+    (take_all k (drop n xs) (omega (arith, size)))
     ∙ take_at (drop n xs) (drop (0 + k) xs) k size
 
 pub returns : goal.returns
