@@ -21,7 +21,7 @@ use Rattle.worker_store.proofs.LawLemmas.Reading.{reads_the_module}
 use Rattle.worker_store.specs.declared.read_fault.ReadFault.{ReadFault}
 use Rattle.worker_store.specs.rules.ReadFaults.{read_of_layout}
 use Rattle.worker_store.specs.rules.Readings.{ReadsContents}
-use Rattle.worker_store.proofs.FillLemmas.{ok_no_err}
+use Rattle.snapshot.proofs.PushLemmas.{ok_no_err}
 
 -- ---- configuration and module
 

@@ -11,6 +11,7 @@ pub mod RefusingSuccessors
 pub mod FileLives
 pub mod NumbersKept
 pub mod Disks
+pub mod Copies
 pub mod Pleas
 pub mod Abreast
 pub mod LastQuestions

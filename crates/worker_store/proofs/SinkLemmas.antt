@@ -17,7 +17,7 @@ module _ {D : Type 0} {disk : Ghosts D} where
     geometry = refl;
     same_snapshots = refl;
     same_disk = refl;
-    takes = takes_none a.geometry a.snapshots.now (disk.medium a.disk.now) a.begun;
+    takes = takes_none a.geometry a.snapshots.now (disk.medium a.disk.now);
   }
 
   piece_then : (a b c : AreaSink D disk) (x y : List ℕ) (said : Result (Unit {0}) SnapshotFault)

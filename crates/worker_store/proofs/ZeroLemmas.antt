@@ -14,7 +14,7 @@ use Rattle.sector_disk.specs.rules.Run.{IsTornRun, IsWrittenRun, WritesRun}
 use Rattle.sector_disk.specs.declared.fault.DiskFault.{DiskFault}
 use Rattle.sector_disk.specs.declared.fault.DiskFault.TheVariants.{Range, Memory}
 use Rattle.sector_disk.proofs.RunLemmas.{run_leaves_only}
-use Rattle.worker_store.proofs.FillLemmas.{ok_no_err}
+use Rattle.snapshot.proofs.PushLemmas.{ok_no_err}
 
 -- so many sectors of zeros
 abbrev pub zero_sectors : ℕ → List (List ℕ)

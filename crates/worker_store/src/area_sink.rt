@@ -26,6 +26,7 @@ impl<'a, D: Disk> Sink for AreaSink<'a, D> {
 
     ghost takes = { λ old piece said new. TakesPiece old piece said new };
 
+    #[tactic(auto, using(crate::proofs::FillLemmas::takes_one))]
     fn push(&mut self, bytes: &[u8]) -> Result<(), SnapshotFault> {
         self.snapshots.push(self.disk, &self.geometry, bytes)
     }

@@ -2,7 +2,7 @@
 
 ghost use Rattle.std.specs.Prelude.{◌≡◌, ◌≤◌, false};
 ghost use Rattle.disk_layout.specs.rules.Places.{journal_place};
-ghost use Rattle.snapshot.specs.rules.Snapshots.{is_idle};
+ghost use Rattle.snapshot.specs.rules.Snapshots.{is_idle, is_failed};
 ghost use Rattle.state_image.specs.rules.ProcessImage.{process_image};
 ghost use Rattle.state_image.specs.rules.Saving.{saved_of};
 ghost use Rattle.worker_store.specs.Filling.{TakesBytes};
@@ -23,6 +23,7 @@ pub(crate) fn fill_area<D: Disk>(
     process: &Process,
 ) -> Result<(), SnapshotFault>
     requires begun { is_idle snapshots.old ≡ false }
+    requires works { is_failed snapshots.old ≡ false }
     requires places { journal_place geometry.now ≤ (D.medium disk.old).sectors }
     ensures { TakesBytes geometry.now (process_image (saved_of process.now)) result snapshots.old
         snapshots.new (D.medium disk.old) (D.medium disk.new) }

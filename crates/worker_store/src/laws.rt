@@ -1,5 +1,10 @@
 //! Laws of what the steps of journal and snapshots leave of a disk that stands for a worker, and
 //! laws of stores. The functions do nothing: what they ensure is the law.
+//!
+//! # Choices
+//!
+//! - **The laws of a worker's disk are a module of this crate.** In a crate of their own they
+//!   doubled the paths below `worker`.
 
 ghost use Rattle.worker_store.specs.laws.Savepoints.{IsAtItsSavepoint, PointStands};
 ghost use Rattle.worker_store.specs.laws.Savepoints.{PointStandsAlone, ReadAlikeIsAtSavepoint};

@@ -1,7 +1,6 @@
 //! Where a worker on its disk keeps its records and snapshots, and the laws of that disk (this
 //! project's own). The crate joins `journal`, `snapshot`, `disk_layout` and the writing of
-//! `state_image`. Whoever calls it speaks of records, processes and savepoints, and of no sector or
-//! byte.
+//! `state_image`. Its callers speak of records, processes and savepoints, and of no sector or byte.
 //!
 //! # Example
 //!
@@ -57,13 +56,8 @@
 //! # Who may touch what
 //!
 //! A store knows where things lie and which records wait for a barrier. Each call that touches the
-//! disk is handed it. `worker` alone uses this crate. `append`, `lay_out` and the readings take
+//! disk is handed it. `worker` alone calls this crate. `append`, `lay_out` and the readings take
 //! memory; `barrier`, `commit` and `reopen` take none.
-//!
-//! # Choices
-//!
-//! - **The laws of a worker's disk are a module of this crate.** In a crate of their own they
-//!   doubled the paths below `worker`.
 #![tactic(auto)]
 
 mod area_sink;

@@ -32,7 +32,8 @@
 //! - Of workers that go on from what another one has left, with other code: `successors_go_on`, and
 //!   that all of them, one after another, tell one history (`successors_tell_one_history`).
 //! - Of disks: what a disk stands for is reached by the module, by one generation alone
-//!   (`disks_stand_for_what_is_reached`, `disks_stand_by_one_generation`).
+//!   (`disks_stand_for_what_is_reached`, `disks_stand_by_one_generation`). Its first
+//!   sectors, as many as the worker has, decide it (`disks_stand_by_their_first_sectors`).
 //! - Of the text: workers that nobody wants are refused (`refused_workers`, `refused_events`,
 //!   `refused_upgrades`, `refused_batches`, `refused_successors`), and right ones are not
 //!   (`honest_stories`, `honest_upgrades`, `honest_batches`, `hello_goes_on`).
@@ -91,6 +92,10 @@ ghost use Rattle.worker_store.specs.restart_theorem.laws.Found.{PromisedLivesGoO
 ghost use Rattle.worker_store.specs.restart_theorem.laws.Files.{LivesOnFilesGoOn};
 ghost use Rattle.worker_store.specs.restart_theorem.laws.Files.{PromisedLivesOnFilesGoOn};
 ghost use Rattle.worker_store.specs.restart_theorem.laws.Files.{OpenedAfterCut, ZerosAreBlank};
+ghost use Rattle.worker_store.specs.restart_theorem.laws.Copies.{FirstSectorsDecide};
+ghost use Rattle.worker_store.specs.restart_theorem.laws.Copies.{StandsByItsContents};
+ghost use Rattle.worker_store.specs.restart_theorem.laws.Copies.{TheSameIsHeld, TheSameIsWithin};
+ghost use Rattle.worker_store.specs.restart_theorem.laws.Copies.{LivesOnCopiesGoOn};
 ghost use Rattle.worker_store.specs.restart_theorem.laws.Disks.{StandsForWhatIsReached};
 ghost use Rattle.worker_store.specs.restart_theorem.laws.Disks.{RecordsAscend};
 ghost use Rattle.worker_store.specs.restart_theorem.laws.Disks.{StandsByItsParts};
@@ -233,6 +238,16 @@ pub fn disks_stand_by_one_generation()
     ensures within { StandsWithin }
     ensures blank_within { BlankIsWithin }
     ensures examples { DiskExamples }
+{}
+
+/// What an image stands for is in its first sectors, as many as the worker has. So a copy of these
+/// stands for the same, and for nothing else. It holds what was promised, and lives on it go on.
+pub fn disks_stand_by_their_first_sectors<F>()
+    ensures decide { FirstSectorsDecide }
+    ensures contents { StandsByItsContents }
+    ensures held { TheSameIsHeld }
+    ensures within { TheSameIsWithin }
+    ensures lives { LivesOnCopiesGoOn F }
 {}
 
 /// Events that break a promise are refused, whatever was promised and wherever a life is.

@@ -8,8 +8,8 @@ use Rattle.std.proofs.lemmas.List.{append-nil, take_all, take-append-le, map-app
 use Rattle.std.proofs.lemmas.List.{length-take-le, take-append-drop}
 use Rattle.wasm_syntax.specs.declared.value.Value.{Value}
 use Rattle.wasm_syntax.specs.declared.module.Module.{Module}
-use Rattle.wasm_semantics.specs.Configuration.{Configuration, Thread, Outcome}
-use Rattle.wasm_semantics.specs.Validity.{IsValid}
+use Rattle.wasm_rules.specs.Configuration.{Configuration, Thread, Outcome}
+use Rattle.wasm_rules.specs.Validity.{IsValid}
 use Rattle.wasi_abi.specs.declared.answer.Question.{Question}
 use Rattle.wasi_abi.specs.declared.call.Call.{Call}
 use Rattle.wasi_abi.specs.rules.Configs.{Settings}

@@ -8,7 +8,7 @@ use Rattle.std.proofs.lemmas.Option.{slice_get_within}
 use Rattle.wasm_syntax.specs.declared.module.Module.{Module}
 use Rattle.wasi_abi.specs.rules.Configs.{Settings}
 use Rattle.wasi_calls_rules.specs.WasiStates.{Line}
-use Rattle.wasm_semantics.specs.Configuration.{Thread}
+use Rattle.wasm_rules.specs.Configuration.{Thread}
 use Rattle.wasi_calls_rules.specs.Lines.{rest_of}
 use Rattle.wasi_calls_rules.specs.declared.output_stream.OutputStream.TheVariants.{Stdout, Stderr}
 use Rattle.process_rules.specs.Processes.{ProcessState, Guest, IsStart, closed_at}

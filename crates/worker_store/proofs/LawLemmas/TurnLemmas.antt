@@ -7,7 +7,7 @@ use Rattle.std.specs.Prelude.{max}
 use Rattle.std.proofs.lemmas.Bool.{cases_lt}
 use Rattle.std.proofs.lemmas.List.{take_all, take-append-le, length-take-le}
 use Rattle.wasm_syntax.specs.declared.module.Module.{Module}
-use Rattle.wasm_semantics.specs.Validity.{IsValid}
+use Rattle.wasm_rules.specs.Validity.{IsValid}
 use Rattle.wasi_abi.specs.declared.answer.Question.{Question}
 use Rattle.wasi_abi.specs.rules.Configs.{Settings}
 use Rattle.process_rules.specs.Processes.{ProcessState}

@@ -44,6 +44,7 @@ use Rattle.worker_store.specs.restart_theorem.laws.Disks.{DiskExamples}
 use Rattle.worker_store.specs.restart_theorem.laws.Disks.{OneSpelledWorker, StandsWithin}
 use Rattle.worker_store.specs.restart_theorem.laws.Disks.{BlankIsWithin}
 use Rattle.worker_store.specs.restart_theorem.laws.Disks.{HeadsTellWidenings}
+use Rattle.worker_store.specs.restart_theorem.laws.Copies.{StandsByItsContents}
 
 -- ---- what is reached
 
@@ -185,6 +186,19 @@ one_spelled_worker disk m other config settings kept others n k left right =
     (gives_contents disk m config kept n (x + y) left (omega arith))
     (gives_contents disk other settings others k (x + y) right (omega arith))) in
     (ap (λ (c : Contents). c.config) same, ap (λ (c : Contents). c.wasm) same)
+
+pub stands_by_its_contents : StandsByItsContents
+stands_by_its_contents disk m config kept n c stands held =
+    let x : ℕ = total_sectors c.geometry in
+    let y : ℕ = total_sectors (geometry_of config (length stands.wasm)) in
+    let found : Contents = contents_of config stands.wasm in
+    let same = same_contents c found (Ok c) (Ok found) refl refl
+    (one_answer (x + y) disk (Ok c) (Ok found) tt tt (held, omega arith)
+    (gives_contents disk m config kept n (x + y) stands (omega arith))) in (
+      ap (λ (d : Contents). d.config) same,
+      ap (λ (d : Contents). d.wasm) same,
+      ap (λ (d : Contents). d.geometry) same,
+    )
 
 pub stands_within : StandsWithin
 stands_within disk m config kept n latest sectors stands early room other settings others k

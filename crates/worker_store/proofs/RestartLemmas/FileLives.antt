@@ -27,7 +27,7 @@ module _ {F : Type 0} where
       at_first
 
   -- one image alone is on it
-  opened_is_fresh : (image : DiskImage) (disk : FileDisk F) → IsJustOpened image disk
+  pub opened_is_fresh : (image : DiskImage) (disk : FileDisk F) → IsJustOpened image disk
       → IsFresh image (file_medium disk)
   opened_is_fresh image disk opened = record {
     only = opened_only image disk opened;

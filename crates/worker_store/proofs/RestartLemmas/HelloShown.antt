@@ -3,7 +3,7 @@ use Rattle.std.proofs.Common.{◌≡◌, ℕ, zero, suc, ◌^◌, ◌≤◌, Lis
 use Rattle.std.proofs.Common.{replicate, refl, sym, subst, lit≤, arith}
 use Rattle.std.proofs.lemmas.List.{length-replicate}
 use Rattle.wasm_syntax.specs.laws.Examples.{hello}
-use Rattle.wasm_semantics.specs.Typed.{IsTyped}
+use Rattle.wasm_rules.specs.Typed.{IsTyped}
 use Rattle.wasi_abi.specs.declared.version.Version.TheVariants.{One}
 use Rattle.wasi_abi.specs.rules.Answers.{AreBytes}
 use Rattle.wasi_abi.specs.rules.Configs.{Settings}

@@ -4,7 +4,7 @@ use Rattle.std.proofs.Common.{◌∷◌, length, Option, Some, refl, sym, ◌∙
 use Rattle.std.proofs.Common.{arith}
 use Rattle.std.proofs.lemmas.Option.{same_Some}
 use Rattle.wasm_syntax.specs.declared.module.Module.{Module}
-use Rattle.wasm_semantics.specs.Validity.{IsValid}
+use Rattle.wasm_rules.specs.Validity.{IsValid}
 use Rattle.wasi_abi.specs.rules.Configs.{Settings}
 use Rattle.wasi_abi.specs.declared.answer.Question.{Question}
 use Rattle.process_rules.specs.Processes.{ProcessState}

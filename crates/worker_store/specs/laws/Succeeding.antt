@@ -2,7 +2,7 @@
 -- begins there holds.
 use Rattle.std.specs.Prelude.{◌≡◌, ℕ, List, [], length}
 use Rattle.wasm_syntax.specs.declared.module.Module.{Module}
-use Rattle.wasm_semantics.specs.Acceptance.{IsAccepted}
+use Rattle.wasm_rules.specs.Acceptance.{IsAccepted}
 use Rattle.wasi_abi.specs.declared.version.Version.{Version}
 use Rattle.wasi_abi.specs.rules.Configs.{Settings, AreSettingsWithinLimits}
 use Rattle.machine.specs.rules.Offers.{offer}

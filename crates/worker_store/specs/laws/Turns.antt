@@ -1,7 +1,7 @@
 -- Parts of a call, one after another: what they make of what was promised, and of the disk.
 use Rattle.std.specs.Prelude.{◌≡◌, ℕ, ◌≤◌, Bool, true, List, length}
 use Rattle.wasm_syntax.specs.declared.module.Module.{Module}
-use Rattle.wasm_semantics.specs.Validity.{IsValid}
+use Rattle.wasm_rules.specs.Validity.{IsValid}
 use Rattle.wasi_abi.specs.declared.answer.Question.{Question}
 use Rattle.wasi_abi.specs.rules.Configs.{Settings}
 use Rattle.process_rules.specs.Processes.{ProcessState}

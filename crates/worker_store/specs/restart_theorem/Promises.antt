@@ -3,7 +3,7 @@ use Rattle.std.specs.Prelude.{◌≡◌, ◌≢◌, ◌⊎◌, ℕ, ◌+◌, ◌
 use Rattle.std.specs.Prelude.{List, [], ◌∷◌, ◌++◌, length, take, drop, Option, Some, None, Ok}
 use Rattle.wasm_syntax.specs.declared.module.Module.{Module}
 use Rattle.wasm_syntax.specs.declared.types.FunctionType.{FunctionType}
-use Rattle.wasm_semantics.specs.Validity.{module_context, AreFunctionTypes}
+use Rattle.wasm_rules.specs.Validity.{module_context, AreFunctionTypes}
 use Rattle.wasi_abi.specs.declared.numbers.TheConstants.{NUMBERS_END}
 use Rattle.wasi_abi.specs.declared.answer.Question.{Question}
 use Rattle.wasi_abi.specs.declared.answer.Answer.{Answer}
@@ -11,7 +11,7 @@ use Rattle.wasi_abi.specs.rules.Answers.{Fits}
 use Rattle.wasi_abi.specs.rules.Configs.{Settings}
 use Rattle.wasi_abi.specs.declared.version.Version.TheVariants.{One, Two}
 use Rattle.wasi_abi.specs.rules.Versions.{text_limit}
-use Rattle.wasm_semantics.specs.Configuration.{Configuration}
+use Rattle.wasm_rules.specs.Configuration.{Configuration}
 use Rattle.wasi_calls_rules.specs.WasiStates.{WasiState}
 use Rattle.process_rules.specs.Processes.{ProcessState, HasLineNumbers}
 use Rattle.process_rules.specs.Runs.{Kept, Given, On, Wants, next_of, version_after, Reaches}

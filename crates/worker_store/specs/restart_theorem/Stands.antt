@@ -2,8 +2,8 @@
 use Rattle.std.specs.Prelude.{◌≡◌, ℕ, ◌+◌, ◌^◌, ◌<◌, ◌≤◌, List, ◌++◌, length, map, Option}
 use Rattle.wasm_syntax.specs.declared.module.Module.{Module}
 use Rattle.wasm_syntax.specs.declared.types.FunctionType.{FunctionType}
-use Rattle.wasm_semantics.specs.Acceptance.{IsAccepted}
-use Rattle.wasm_semantics.specs.Validity.{AreFunctionTypes, module_context}
+use Rattle.wasm_rules.specs.Acceptance.{IsAccepted}
+use Rattle.wasm_rules.specs.Validity.{AreFunctionTypes, module_context}
 use Rattle.wasi_abi.specs.rules.Configs.{Settings, AreSettingsWithinLimits}
 use Rattle.wasi_abi.specs.rules.Versions.{version_number}
 use Rattle.machine.specs.rules.Offers.{offer}

@@ -1,4 +1,5 @@
 pub mod Batches
+pub mod Copies
 pub mod Disks
 pub mod Examples
 pub mod Files

@@ -5,12 +5,14 @@ use Rattle.state_image.specs.rules.ProcessImage.{process_image}
 use Rattle.state_image.specs.rules.Saving.{saved_of}
 use Rattle.disk_layout.specs.rules.Unsynced.{most_unsynced}
 use Rattle.worker_store.specs.rules.Creations.{creation_calls}
-use Rattle.worker_store.specs.Filling.{behind_sectors}
+use Rattle.snapshot.specs.declared.writing.Writing.TheVariants.{Whole}
+use Rattle.worker_store.specs.Filling.{behind_sectors, snapshot_of}
 use Rattle.worker_store.proofs.CreationLemmas.{blank_on, err_calls}
 use Rattle.worker_store.proofs.FirstLemmas.{commit_leaves_none, blank_or_first, super_leaves}
 use Rattle.worker_store.proofs.FirstLemmas.{super_stands, creation_first, creation_second}
 use Rattle.worker_store.proofs.FirstLemmas.{creation_third, creation_all}
 use Rattle.worker_store.proofs.LayingCounts.{process_image_counts_behind, super_counts_behind}
+use Rattle.worker_store.proofs.SavingLemmas.{area_counts}
 use Rattle.worker_store.proofs.creation.lay_worker.Goals as goal
 
 pub returns-in_err-lay_contents-clause-any_moment :
@@ -38,7 +40,7 @@ returns-in_err-write_snapshot-clause-any_moment g c settings spelled placed =
     (λ all. blank_on old mid next (c.lay_contents.ensures.blank all)
     (commit_leaves_none c.args.geometry.now (version_number (saved_of c.args.process.now).version)
     (process_image (saved_of c.args.process.now)) mid
-    next c.in_ok-lay_contents.ensures.none c.write_snapshot.ensures.any_moment))
+    next c.in_ok-lay_contents.ensures.none c.write_snapshot.ensures.writes.any_moment))
 
 pub returns-in_err-write_snapshot-clause-calls : goal.returns-in_err-write_snapshot-clause-calls
 returns-in_err-write_snapshot-clause-calls g c =
@@ -50,7 +52,7 @@ returns-in_err-write_snapshot-clause-calls g c =
     c.from_residual-in_err-write_snapshot.result
     old next c.from_residual-in_err-write_snapshot.ensures.0
     (creation_second c.args.geometry.now count c.write_snapshot.result old mid next
-    c.in_ok-lay_contents.ensures.calls.all c.write_snapshot.ensures.calls)
+    c.in_ok-lay_contents.ensures.calls.all c.write_snapshot.ensures.writes.calls)
 
 pub returns-in_err-write_super-clause-any_moment : goal.returns-in_err-write_super-clause-any_moment
 returns-in_err-write_super-clause-any_moment g c settings spelled placed m point first =
@@ -64,9 +66,9 @@ returns-in_err-write_super-clause-any_moment g c settings spelled placed m point
     (λ all. blank_on old mid next (c.lay_contents.ensures.blank all)
     (commit_leaves_none c.args.geometry.now (version_number (saved_of c.args.process.now).version)
     (process_image (saved_of c.args.process.now)) mid
-    next c.in_ok-lay_contents.ensures.none c.write_snapshot.ensures.any_moment))
+    next c.in_ok-lay_contents.ensures.none c.write_snapshot.ensures.writes.any_moment))
     (c.in_ok-lay_contents.ensures.awaits settings spelled placed)
-    c.in_ok-write_snapshot.ensures.done c.write_super.ensures.any_moment
+    c.in_ok-write_snapshot.ensures.writes.done c.write_super.ensures.any_moment
 
 pub returns-in_err-write_super-clause-calls : goal.returns-in_err-write_super-clause-calls
 returns-in_err-write_super-clause-calls g c =
@@ -75,7 +77,7 @@ returns-in_err-write_super-clause-calls g c =
     let next = g.D.Disk.medium c.write_snapshot.new.disk in
     let new = g.D.Disk.medium c.write_super.new.disk in
     let count = length (process_image (saved_of c.args.process.now)) in
-    let made = c.in_ok-write_snapshot.ensures.calls in
+    let made = c.in_ok-write_snapshot.ensures.writes.calls in
     err_calls (creation_calls c.args.geometry.now count) c.from_residual-in_err-write_super.result
     old new c.from_residual-in_err-write_super.ensures.0
     (creation_third c.args.geometry.now count old mid next new
@@ -94,9 +96,9 @@ returns-clause-any_moment g c settings spelled placed m point first =
     (λ all. blank_on old mid next (c.lay_contents.ensures.blank all)
     (commit_leaves_none c.args.geometry.now (version_number (saved_of c.args.process.now).version)
     (process_image (saved_of c.args.process.now)) mid
-    next c.in_ok-lay_contents.ensures.none c.write_snapshot.ensures.any_moment))
+    next c.in_ok-lay_contents.ensures.none c.write_snapshot.ensures.writes.any_moment))
     (c.in_ok-lay_contents.ensures.awaits settings spelled placed)
-    c.in_ok-write_snapshot.ensures.done c.write_super.ensures.any_moment
+    c.in_ok-write_snapshot.ensures.writes.done c.write_super.ensures.any_moment
 
 pub returns-clause-done : goal.returns-clause-done
 returns-clause-done g c settings spelled placed m point first =
@@ -105,7 +107,7 @@ returns-clause-done g c settings spelled placed m point first =
     (g.D.Disk.medium c.lay_contents.new.disk) (g.D.Disk.medium c.write_snapshot.new.disk)
     (g.D.Disk.medium c.write_super.new.disk) c.digest_of-digest.ensures
     (c.in_ok-lay_contents.ensures.awaits settings spelled placed)
-    c.in_ok-write_snapshot.ensures.done c.in_ok-write_super.ensures.stored
+    c.in_ok-write_snapshot.ensures.writes.done c.in_ok-write_super.ensures.stored
 
 pub returns-clause-calls : goal.returns-clause-calls
 returns-clause-calls g c =
@@ -114,7 +116,7 @@ returns-clause-calls g c =
     let next = g.D.Disk.medium c.write_snapshot.new.disk in
     let new = g.D.Disk.medium c.write_super.new.disk in
     let count = length (process_image (saved_of c.args.process.now)) in
-    let made = c.in_ok-write_snapshot.ensures.calls in
+    let made = c.in_ok-write_snapshot.ensures.writes.calls in
     let all = creation_all c.args.geometry.now count old mid next new
     c.in_ok-lay_contents.ensures.calls.all made.0 made.1 made.2.all
     c.in_ok-write_super.ensures.calls.all in
@@ -133,26 +135,35 @@ returns-in_err-write_snapshot-clause-counts g c =
     process_image_counts_behind c.args.geometry.now (g.D.Disk.medium c.args.disk.now)
     (g.D.Disk.medium c.lay_contents.new.disk) (g.D.Disk.medium c.write_snapshot.new.disk)
     c.in_ok-lay_contents.ensures.all_synced c.lay_contents.ensures.passes
-    c.lay_contents.ensures.counts c.write_snapshot.ensures.counts
+    c.lay_contents.ensures.counts
+    (area_counts c.args.geometry.now (snapshot_of 1 Whole c.args.process.now)
+    c.write_snapshot.result (g.D.Disk.medium c.lay_contents.new.disk)
+    (g.D.Disk.medium c.write_snapshot.new.disk) c.write_snapshot.ensures.writes)
 
 pub returns-in_err-write_super-clause-counts : goal.returns-in_err-write_super-clause-counts
 returns-in_err-write_super-clause-counts g c =
-    let leaves = c.write_snapshot.ensures.any_moment in
+    let leaves = c.write_snapshot.ensures.writes.any_moment in
     super_counts_behind c.args.geometry.now (g.D.Disk.medium c.args.disk.now)
     (g.D.Disk.medium c.lay_contents.new.disk) (g.D.Disk.medium c.write_snapshot.new.disk)
     c.in_ok-lay_contents.ensures.all_synced c.lay_contents.ensures.passes
-    c.lay_contents.ensures.counts c.write_snapshot.ensures.counts
-    (g.D.Disk.medium c.write_super.new.disk) c.in_ok-write_snapshot.ensures.all_synced
+    c.lay_contents.ensures.counts
+    (area_counts c.args.geometry.now (snapshot_of 1 Whole c.args.process.now)
+    c.write_snapshot.result (g.D.Disk.medium c.lay_contents.new.disk)
+    (g.D.Disk.medium c.write_snapshot.new.disk) c.write_snapshot.ensures.writes)
+    (g.D.Disk.medium c.write_super.new.disk) c.in_ok-write_snapshot.ensures.writes.all_synced
     (let p = leaves.passes in p.later)
     c.write_super.ensures.counts
 
 pub returns-clause-counts : goal.returns-clause-counts
 returns-clause-counts g c =
-    let leaves = c.write_snapshot.ensures.any_moment in
+    let leaves = c.write_snapshot.ensures.writes.any_moment in
     super_counts_behind c.args.geometry.now (g.D.Disk.medium c.args.disk.now)
     (g.D.Disk.medium c.lay_contents.new.disk) (g.D.Disk.medium c.write_snapshot.new.disk)
     c.in_ok-lay_contents.ensures.all_synced c.lay_contents.ensures.passes
-    c.lay_contents.ensures.counts c.write_snapshot.ensures.counts
-    (g.D.Disk.medium c.write_super.new.disk) c.in_ok-write_snapshot.ensures.all_synced
+    c.lay_contents.ensures.counts
+    (area_counts c.args.geometry.now (snapshot_of 1 Whole c.args.process.now)
+    c.write_snapshot.result (g.D.Disk.medium c.lay_contents.new.disk)
+    (g.D.Disk.medium c.write_snapshot.new.disk) c.write_snapshot.ensures.writes)
+    (g.D.Disk.medium c.write_super.new.disk) c.in_ok-write_snapshot.ensures.writes.all_synced
     (let p = leaves.passes in p.later)
     c.write_super.ensures.counts

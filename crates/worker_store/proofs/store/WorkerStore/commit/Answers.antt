@@ -16,7 +16,8 @@ use Rattle.state_image.specs.rules.Saving.{saved_of}
 use Rattle.worker_store.specs.declared.fault.StoreFault.{StoreFault}
 use Rattle.worker_store.specs.declared.fault.StoreFault.TheVariants.{Disk, Failed}
 use Rattle.worker_store.proofs.SavingLemmas.{none_performed, none_performed_still, stored_err}
-use Rattle.worker_store.proofs.SavingLemmas.{stored_ok}
+use Rattle.worker_store.proofs.SavingLemmas.{stored_ok, area_counts}
+use Rattle.worker_store.specs.Filling.{snapshot_of}
 use Rattle.worker_store.specs.declared.store.WorkerStore.{WorkerStore}
 use Rattle.worker_store.proofs.StoreLemmas.{commit_leaves, commit_stores, failed_before}
 use Rattle.worker_store.proofs.store.WorkerStore.commit.Goals as goal
@@ -57,7 +58,7 @@ returns-in-Err-written-clause-commits g c =
           c.write_snapshot-written.new.disk c.saturating_add-next.result
           (λ below. let e = c.saturating_add-next.ensures in let s = c.generation.ensures in
           omega (arith, below, e, s))
-          c.write_snapshot-written.ensures.any_moment;
+          c.write_snapshot-written.ensures.writes.any_moment;
       durable = first_of (search rules, grind (arith, common_steps));
       calls = let s = c.args.self.now in
           let r : Result (Unit {0}) StoreFault = Err c.from.result in
@@ -69,7 +70,7 @@ returns-in-Err-written-clause-commits g c =
           (g.D.Disk.medium c.args.disk.now) (g.D.Disk.medium c.write_snapshot-written.new.disk)
           (let e = c.saturating_add-next.ensures in let s = c.generation.ensures in
           omega (arith, early, e, s)) c.write_snapshot-written.result r refl
-          c.write_snapshot-written.ensures.calls)
+          c.write_snapshot-written.ensures.writes.calls)
           (λ (late : NUMBERS_END ≤ s.journal.generation).
           none_performed_still g.D.Disk.medium Changes (area_place s.geometry
           (s.journal.generation + 1)) count (s.journal.generation
@@ -85,12 +86,16 @@ returns-in-Err-written-clause-commits g c =
       fresh = first_of (search rules, grind (arith, common_steps));
       begun = first_of (search rules, grind (arith, common_steps));
       all_synced = search rules;
-      passes = let leaves = c.write_snapshot-written.ensures.any_moment in
+      passes = let leaves = c.write_snapshot-written.ensures.writes.any_moment in
           weaker (g.D.Disk.medium c.args.disk.now) (g.D.Disk.medium
           c.write_snapshot-written.new.disk) _
           (λ image. Unit {0}) leaves.passes (λ image at. tt);
       asks = first_of (search rules, grind (arith, common_steps));
-      counts = first_of (search rules, grind (arith, common_steps));
+      counts = area_counts c.args.self.now.geometry
+          (snapshot_of c.saturating_add-next.result Changes c.args.process.now)
+          c.write_snapshot-written.result (g.D.Disk.medium c.args.disk.now)
+          (g.D.Disk.medium c.write_snapshot-written.new.disk)
+          c.write_snapshot-written.ensures.writes;
     }
 
 pub returns-clause-commits : goal.returns-clause-commits
@@ -100,13 +105,13 @@ returns-clause-commits g c =
           c.write_snapshot-written.new.disk c.saturating_add-next.result
           (λ below. let e = c.saturating_add-next.ensures in let s = c.generation.ensures in
           omega (arith, below, e, s))
-          c.write_snapshot-written.ensures.any_moment;
+          c.write_snapshot-written.ensures.writes.any_moment;
       durable = let before = c.args.self.now in
           let after : WorkerStore = record {
             geometry = before.geometry;
             journal = c.fresh.result;
           } in
-          let leaves = c.write_snapshot-written.ensures.any_moment in
+          let leaves = c.write_snapshot-written.ensures.writes.any_moment in
           let p = leaves.passes in
           let ok = c.in_default-written.ensures in
           commit_stores g.D.Disk.medium before c.args.process.now c.args.disk.now
@@ -114,7 +119,7 @@ returns-clause-commits g c =
           (λ below. let e = c.saturating_add-next.ensures in let s = c.generation.ensures in
           omega (arith, below, e, s))
           after (c.fresh.ensures ∙ ap (λ v. state v c.saturating_add-next.result 0 [] false)
-          c.version.ensures) refl p.sectors ok.done ok.all_synced
+          c.version.ensures) refl p.sectors ok.writes.done ok.writes.all_synced
           (let early = ok.early in omega (arith, early));
       calls = let s = c.args.self.now in
           stored_ok {E = StoreFault} {F = SnapshotFault} s.geometry Changes
@@ -124,7 +129,7 @@ returns-clause-commits g c =
           (let early = c.in_default-written.ensures.early in
           let e = c.saturating_add-next.ensures in
           let s = c.generation.ensures in omega (arith, early, e, s)) tt tt
-          c.in_default-written.ensures.calls;
+          c.in_default-written.ensures.writes.calls;
       cause = first_of (search rules, grind (arith, common_steps));
       fails = search rules;
       unchanged = search rules;
@@ -136,13 +141,17 @@ returns-clause-commits g c =
           omega (arith, fresh, early, next, now);
       fresh = first_of (search rules, grind (arith, common_steps));
       begun = first_of (search rules, grind (arith, common_steps));
-      all_synced = search rules;
-      passes = let leaves = c.write_snapshot-written.ensures.any_moment in
+      all_synced = let ok = c.in_default-written.ensures in ok.writes.all_synced;
+      passes = let leaves = c.write_snapshot-written.ensures.writes.any_moment in
           weaker (g.D.Disk.medium c.args.disk.now) (g.D.Disk.medium
           c.write_snapshot-written.new.disk) _
           (λ image. Unit {0}) leaves.passes (λ image at. tt);
       asks = first_of (search rules, grind (arith, common_steps));
-      counts = first_of (search rules, grind (arith, common_steps));
+      counts = area_counts c.args.self.now.geometry
+          (snapshot_of c.saturating_add-next.result Changes c.args.process.now)
+          c.write_snapshot-written.result (g.D.Disk.medium c.args.disk.now)
+          (g.D.Disk.medium c.write_snapshot-written.new.disk)
+          c.write_snapshot-written.ensures.writes;
     }
 
 pub returns-then-has_failed-clause-commits : goal.returns-then-has_failed-clause-commits

@@ -14,7 +14,8 @@ use Rattle.state_image.specs.rules.Saving.{saved_of}
 use Rattle.worker_store.proofs.LawLemmas.Passing.{crashed_in_the_end}
 use Rattle.worker_store.specs.declared.fault.StoreFault.{StoreFault}
 use Rattle.worker_store.specs.declared.fault.StoreFault.TheVariants.{Disk}
-use Rattle.worker_store.proofs.SavingLemmas.{none_performed, stored_err, stored_ok}
+use Rattle.worker_store.proofs.SavingLemmas.{none_performed, stored_err, stored_ok, area_counts}
+use Rattle.worker_store.specs.Filling.{snapshot_of}
 use Rattle.worker_store.specs.declared.store.WorkerStore.{WorkerStore}
 use Rattle.worker_store.proofs.StoreLemmas.{reopening_leaves, reopening_leaves_point}
 use Rattle.worker_store.proofs.StoreLemmas.{reopening_stores}
@@ -53,19 +54,19 @@ returns-in-Err-written-clause-reopens g c =
       any_moment = reopening_leaves g.D.Disk.medium c.args.geometry.now c.args.generation
           c.args.process.now
           c.args.disk.now c.write_snapshot-written.new.disk
-          c.write_snapshot-written.ensures.any_moment;
+          c.write_snapshot-written.ensures.writes.any_moment;
       point_or_next = reopening_leaves_point g.D.Disk.medium c.args.geometry.now c.args.generation
           c.args.process.now c.args.disk.now c.write_snapshot-written.new.disk
-          c.write_snapshot-written.ensures.any_moment;
+          c.write_snapshot-written.ensures.writes.any_moment;
       some = λ image crashed. let before = crashed_in_the_end (g.D.Disk.medium c.args.disk.now)
           (g.D.Disk.medium c.write_snapshot-written.new.disk) _
-          c.write_snapshot-written.ensures.any_moment image crashed in
+          c.write_snapshot-written.ensures.writes.any_moment image crashed in
           (before.0, before.1);
       durable = first_of (search rules, grind (arith, common_steps));
       begun = first_of (search rules, grind (arith, common_steps));
       numbered = search rules;
       placed = search rules;
-      passes = let leaves = c.write_snapshot-written.ensures.any_moment in
+      passes = let leaves = c.write_snapshot-written.ensures.writes.any_moment in
           weaker (g.D.Disk.medium c.args.disk.now) (g.D.Disk.medium
           c.write_snapshot-written.new.disk) _
           (λ image. Unit {0}) leaves.passes (λ image at. tt);
@@ -74,10 +75,14 @@ returns-in-Err-written-clause-reopens g c =
           (rounded_up (length (process_image (saved_of c.args.process.now)))) c.args.generation
           c.args.generation
           (g.D.Disk.medium c.args.disk.now) (g.D.Disk.medium c.write_snapshot-written.new.disk) refl
-          c.write_snapshot-written.result r refl c.write_snapshot-written.ensures.calls;
+          c.write_snapshot-written.result r refl c.write_snapshot-written.ensures.writes.calls;
       cause = first_of (search rules, grind (arith, common_steps));
       asks = first_of (search rules, grind (arith, common_steps));
-      counts = first_of (search rules, grind (arith, common_steps));
+      counts = area_counts c.args.geometry.now
+          (snapshot_of c.args.generation Changes c.args.process.now)
+          c.write_snapshot-written.result (g.D.Disk.medium c.args.disk.now)
+          (g.D.Disk.medium c.write_snapshot-written.new.disk)
+          c.write_snapshot-written.ensures.writes;
     }
 
 pub returns-clause-reopens : goal.returns-clause-reopens
@@ -86,31 +91,31 @@ returns-clause-reopens g c =
       any_moment = reopening_leaves g.D.Disk.medium c.args.geometry.now c.args.generation
           c.args.process.now
           c.args.disk.now c.write_snapshot-written.new.disk
-          c.write_snapshot-written.ensures.any_moment;
+          c.write_snapshot-written.ensures.writes.any_moment;
       point_or_next = reopening_leaves_point g.D.Disk.medium c.args.geometry.now c.args.generation
           c.args.process.now c.args.disk.now c.write_snapshot-written.new.disk
-          c.write_snapshot-written.ensures.any_moment;
+          c.write_snapshot-written.ensures.writes.any_moment;
       some = λ image crashed. let before = crashed_in_the_end (g.D.Disk.medium c.args.disk.now)
           (g.D.Disk.medium c.write_snapshot-written.new.disk) _
-          c.write_snapshot-written.ensures.any_moment image crashed in
+          c.write_snapshot-written.ensures.writes.any_moment image crashed in
           (before.0, before.1);
       durable = let store : WorkerStore = record {
         geometry = c.args.geometry.now;
         journal = c.fresh.result;
       } in
-          let leaves = c.write_snapshot-written.ensures.any_moment in
+          let leaves = c.write_snapshot-written.ensures.writes.any_moment in
           let p = leaves.passes in
           let ok = c.in_default-written.ensures in
           reopening_stores g.D.Disk.medium c.args.geometry.now c.args.generation c.args.process.now
           c.args.disk.now c.write_snapshot-written.new.disk store
           (c.fresh.ensures ∙ ap (λ v. state v c.args.generation 0 [] false) c.version.ensures) refl
           (let r = c.in_default.ensures.enough in let n = c.total_sectors.ensures in
-          omega (arith, r, n, p.sectors)) ok.done ok.all_synced
+          omega (arith, r, n, p.sectors)) ok.writes.done ok.writes.all_synced
           (let early = ok.early in omega (arith, early));
       begun = first_of (search rules, grind (arith, common_steps));
       numbered = ap (λ (j : JournalState). j.generation) c.fresh.ensures;
       placed = search rules;
-      passes = let leaves = c.write_snapshot-written.ensures.any_moment in
+      passes = let leaves = c.write_snapshot-written.ensures.writes.any_moment in
           weaker (g.D.Disk.medium c.args.disk.now) (g.D.Disk.medium
           c.write_snapshot-written.new.disk) _
           (λ image. Unit {0}) leaves.passes (λ image at. tt);
@@ -122,8 +127,12 @@ returns-clause-reopens g c =
           (rounded_up (length (process_image (saved_of c.args.process.now)))) c.args.generation
           c.args.generation
           (g.D.Disk.medium c.args.disk.now) (g.D.Disk.medium c.write_snapshot-written.new.disk) refl
-          store tt c.in_default-written.ensures.calls;
+          store tt c.in_default-written.ensures.writes.calls;
       cause = first_of (search rules, grind (arith, common_steps));
       asks = first_of (search rules, grind (arith, common_steps));
-      counts = first_of (search rules, grind (arith, common_steps));
+      counts = area_counts c.args.geometry.now
+          (snapshot_of c.args.generation Changes c.args.process.now)
+          c.write_snapshot-written.result (g.D.Disk.medium c.args.disk.now)
+          (g.D.Disk.medium c.write_snapshot-written.new.disk)
+          c.write_snapshot-written.ensures.writes;
     }
