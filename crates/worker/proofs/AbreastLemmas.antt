@@ -6,7 +6,7 @@ use Rattle.std.proofs.lemmas.List.{drop_all, length-take}
 use Rattle.std.proofs.Math.Nat.{le_trans}
 use Rattle.std.proofs.Math.Seq.{take-length}
 use Rattle.wasm_syntax.specs.declared.module.Module.{Module}
-use Rattle.wasm_semantics.specs.Validity.{IsValid}
+use Rattle.wasm_rules.specs.Validity.{IsValid}
 use Rattle.wasi_abi.specs.declared.answer.Question.{Question}
 use Rattle.wasi_abi.specs.rules.Configs.{Settings}
 use Rattle.process_rules.specs.Processes.{Ending, ProcessState, Guest}

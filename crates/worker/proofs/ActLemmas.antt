@@ -6,78 +6,56 @@ use Rattle.std.proofs.lemmas.List.{drop_all}
 use Rattle.std.specs.Prelude.{Result, Ok, Err, map}
 use Rattle.sector_disk.specs.rules.Medium.{Medium}
 use Rattle.record_replay.specs.rules.Calls.{Giving, Taking}
-use Rattle.worker_store.specs.restart_theorem.Lives.{Act, Slice, Batch, Checkpoint, Upgrade}
-use Rattle.record_replay.specs.declared.slices.now.Now.{Now}
+use Rattle.worker_store.specs.restart_theorem.Lives.{Act}
 use Rattle.worker.specs.declared.fault.WorkFault.{WorkFault}
 use Rattle.worker.specs.declared.recover_fault.RecoverFault.{RecoverFault}
 use Rattle.worker.specs.declared.recover_fault.RecoverFault.TheVariants as recover
-use Rattle.worker.specs.rules.Batches.{BatchCarries}
-use Rattle.worker.specs.rules.Checkpoints.{CheckpointFails}
-use Rattle.worker.specs.rules.DurableCalls.{SliceCarries, CheckpointCarries, UpgradeCarries}
-use Rattle.worker.specs.rules.Upgrades.{UpgradeFails}
+use Rattle.worker.specs.rules.DurableCalls.{ActCarries, Answered, CallKeeps, MayExchange}
 use Rattle.worker.specs.rules.DurableValues.{DurableValue}
-use Rattle.worker.specs.rules.OneLife.{CallsInOrder, no_more, sliced, slice_failed, batched}
-use Rattle.worker.specs.rules.OneLife.{batch_failed, saved, saving_failed, was_upgraded}
-use Rattle.worker.specs.rules.OneLife.{upgrade_failed}
+use Rattle.worker.specs.rules.OneLife.{CallsInOrder, FailsBy, no_more, called, call_failed}
+use Rattle.worker.specs.rules.Scenes.{scene}
+use Rattle.worker.proofs.DurableLemmas.Working.{nothing_alone}
 use Rattle.worker.specs.declared.story.life.PlannedAct.{PlannedAct}
 use Rattle.worker.specs.rules.Planned.{act_of}
 use Rattle.worker.specs.LifeCalls.{DoesAct}
 
-module _ {D S O : Type 0} (medium : D → Medium) (gives : Giving S) (takes : Taking O)
+module _ {D S O : Type 0} (medium : D → Medium) (gives : Giving S) (takes : Taking O) (act : Act)
     (w w' : DurableValue) (disk disk' : D) where
-  pub slice_is_done : (fuel : ℕ) (said : Now) (source source' : S) (outlet outlet' : O)
-      → SliceCarries gives takes w fuel (Ok said) w' (medium disk) (medium disk') source source'
-      outlet outlet'
-      → DoesAct medium gives takes (Slice fuel) w disk source outlet (Ok tt) w' disk' source'
-      outlet'
-  slice_is_done fuel said source source' outlet outlet' carries =
-      λ acts undone last source_last outlet_last rest. sliced said carries rest
+  -- a call that has an answer, and one that has failed
+  pub call_is_done : (source source' : S) (outlet outlet' : O) (said : Answered act)
+      → CallKeeps medium gives takes act (scene w disk source outlet) (Ok said)
+      (scene w' disk' source' outlet')
+      → DoesAct medium gives takes act w disk source outlet (Ok tt) w' disk' source' outlet'
+  call_is_done source source' outlet outlet' said keeps =
+      λ acts undone last source_last outlet_last rest. called said keeps rest
 
-  pub slice_fails : (fuel : ℕ) (why : WorkFault) (source source' : S) (outlet outlet' : O)
-      → SliceCarries gives takes w fuel (Err why) w' (medium disk) (medium disk') source source'
-      outlet outlet'
-      → DoesAct medium gives takes (Slice fuel) w disk source outlet (Err why) w' disk' source'
-      outlet'
-  slice_fails fuel why source source' outlet outlet' carries = λ acts. slice_failed carries
+  pub call_fails : (source source' : S) (outlet outlet' : O) (why : WorkFault)
+      → CallKeeps medium gives takes act (scene w disk source outlet) (Err why)
+      (scene w' disk' source' outlet')
+      → FailsBy act w why w' (medium disk) (medium disk')
+      → DoesAct medium gives takes act w disk source outlet (Err why) w' disk' source' outlet'
+  call_fails source source' outlet outlet' why keeps fails = λ acts. call_failed keeps fails
 
-  pub batch_is_done : (fuel most : ℕ) (said : Now) (source source' : S) (outlet outlet' : O)
-      → BatchCarries gives takes w fuel most (Ok said) w' (medium disk) (medium disk') source
-      source' outlet outlet'
-      → DoesAct medium gives takes (Batch fuel most) w disk source outlet (Ok tt) w' disk' source'
-      outlet'
-  batch_is_done fuel most said source source' outlet outlet' carries =
-      λ acts undone last source_last outlet_last rest. batched said carries rest
+  -- one that asks no source and tells no line
+  module _ (source : S) (outlet : O) (quiet : MayExchange act []) where
+    pub quiet_keeps : (result : Result (Answered act) WorkFault)
+        → ActCarries act [] w result w' (medium disk) (medium disk')
+        → CallKeeps medium gives takes act (scene w disk source outlet) result
+        (scene w' disk' source outlet)
+    quiet_keeps result carries = ([], nothing_alone gives takes source outlet, carries, quiet)
 
-  pub batch_fails : (fuel most : ℕ) (why : WorkFault) (source source' : S) (outlet outlet' : O)
-      → BatchCarries gives takes w fuel most (Err why) w' (medium disk) (medium disk') source
-      source' outlet outlet'
-      → DoesAct medium gives takes (Batch fuel most) w disk source outlet (Err why) w' disk' source'
-      outlet'
-  batch_fails fuel most why source source' outlet outlet' carries = λ acts. batch_failed carries
+    pub quiet_is_done : (said : Answered act)
+        → ActCarries act [] w (Ok said) w' (medium disk) (medium disk')
+        → DoesAct medium gives takes act w disk source outlet (Ok tt) w' disk' source outlet
+    quiet_is_done said carries =
+        call_is_done source source outlet outlet said (quiet_keeps (Ok said) carries)
 
-  pub saving_is_done : (source : S) (outlet : O)
-      → CheckpointCarries w (Ok tt) w' (medium disk) (medium disk')
-      → DoesAct medium gives takes Checkpoint w disk source outlet (Ok tt) w' disk' source outlet
-  saving_is_done source outlet carries =
-      λ acts undone last source_last outlet_last rest. saved carries rest
-
-  pub saving_fails : (why : WorkFault) (source : S) (outlet : O)
-      → CheckpointCarries w (Err why) w' (medium disk) (medium disk')
-      → CheckpointFails w (medium disk) (medium disk') why
-      → DoesAct medium gives takes Checkpoint w disk source outlet (Err why) w' disk' source outlet
-  saving_fails why source outlet carries fails = λ acts. saving_failed carries fails
-
-  pub upgrade_is_done : (source : S) (outlet : O)
-      → UpgradeCarries w (Ok tt) w' (medium disk) (medium disk')
-      → DoesAct medium gives takes Upgrade w disk source outlet (Ok tt) w' disk' source outlet
-  upgrade_is_done source outlet carries =
-      λ acts undone last source_last outlet_last rest. was_upgraded carries rest
-
-  pub upgrade_fails : (why : WorkFault) (source : S) (outlet : O)
-      → UpgradeCarries w (Err why) w' (medium disk) (medium disk')
-      → UpgradeFails w w'.process (medium disk) (medium disk') why
-      → DoesAct medium gives takes Upgrade w disk source outlet (Err why) w' disk' source outlet
-  upgrade_fails why source outlet carries fails = λ acts. upgrade_failed carries fails
+    pub quiet_fails : (why : WorkFault)
+        → ActCarries act [] w (Err why) w' (medium disk) (medium disk')
+        → FailsBy act w why w' (medium disk) (medium disk')
+        → DoesAct medium gives takes act w disk source outlet (Err why) w' disk' source outlet
+    quiet_fails why carries fails =
+        call_fails source source outlet outlet why (quiet_keeps (Err why) carries) fails
 
 -- ---- a list of them
 

@@ -1,7 +1,7 @@
 -- A checkpoint, as an event of a life, and what its disk holds.
 use Rattle.std.proofs.Common.{◌≡◌, ℕ, ◌+◌, ◌≤◌, [], ◌++◌, length, true, false, refl, sym}
 use Rattle.std.proofs.Common.{subst, arith, ap, ◌∙◌}
-use Rattle.std.specs.Prelude.{Ok, Err}
+use Rattle.std.specs.Prelude.{List, Result, Ok, Err}
 use Rattle.process_rules.specs.Runs.{none}
 use Rattle.process.specs.rules.Values.{IsProcess}
 use Rattle.state_image.specs.rules.ProcessImage.{process_image}
@@ -9,12 +9,13 @@ use Rattle.state_image.specs.rules.Saving.{saved_of}
 use Rattle.sector_disk.specs.rules.Medium.{Medium, Passes}
 use Rattle.sector_disk.specs.rules.Medium.{CallsUpTo}
 use Rattle.sector_disk.proofs.CallLemmas.{no_calls}
+use Rattle.record_replay.specs.rules.Calls.{Exchange}
 use Rattle.disk_layout.specs.declared.geometry.Geometry.{Geometry}
 use Rattle.disk_layout.specs.rules.Places.{area_place, rounded_up, total_sectors}
 use Rattle.journal.specs.rules.Steps.{barrier_calls}
 use Rattle.snapshot.specs.rules.Calls.{with_head}
 use Rattle.snapshot.proofs.StoreCalls.{some_none}
-use Rattle.worker_store.specs.restart_theorem.Lives.{Checkpoint}
+use Rattle.worker_store.specs.restart_theorem.Lives.{Act, Checkpoint}
 use Rattle.worker_store.proofs.LawLemmas.Acts.{checkpoints_save}
 use Rattle.worker_store.specs.declared.fault.StoreFault.{StoreFault}
 use Rattle.worker_store.specs.declared.fault.StoreFault.TheVariants as store
@@ -25,7 +26,7 @@ use Rattle.worker.specs.declared.running_worker.RunningWorker.{RunningWorker}
 use Rattle.worker.specs.declared.fault.WorkFault.{WorkFault}
 use Rattle.worker.specs.rules.WorkFaults.{fault_of_store}
 use Rattle.worker.specs.rules.DurableValues.{DurableValue, durable_of}
-use Rattle.worker.specs.rules.DurableCalls.{CheckpointCarries}
+use Rattle.worker.specs.rules.DurableCalls.{ActCarries, Answered}
 use Rattle.worker.specs.Savings.{HasSaveCause, LeavesFrontOrNext, SaveFails, SaveCalls}
 use Rattle.worker.specs.rules.CallCounts.{most_saving}
 use Rattle.worker.specs.rules.Checkpoints.{CheckpointFails, CheckpointCalls, IsSavedIn}
@@ -73,7 +74,7 @@ module _ {D : Type 0} (medium : D → Medium) (running : RunningWorker) (replaye
     (few : CallsUpTo (most_saving (medium disk).sectors) (medium disk) (medium disk')) where
   pub done_carries : after_store.journal.has_failed ≡ false
       → StoresNext running.store after_store running.process (medium disk) (medium disk')
-      → CheckpointCarries (durable_of running replayed) (Ok tt)
+      → ActCarries Checkpoint [] (durable_of running replayed) (Ok tt)
       (durable_of (record running { store = after_store }) replayed) (medium disk)
       (medium disk')
   done_carries works stores =
@@ -84,7 +85,7 @@ module _ {D : Type 0} (medium : D → Medium) (running : RunningWorker) (replaye
 
   pub fault_carries : (fault : StoreFault)
       → SaveFails running.store running.process (medium disk) (medium disk') fault
-      → CheckpointCarries (durable_of running replayed) (Err (fault_of_store fault))
+      → ActCarries Checkpoint [] (durable_of running replayed) (Err (fault_of_store fault))
       (durable_of (record running { store = after_store }) replayed) (medium disk)
       (medium disk')
   fault_carries fault fails =
@@ -107,10 +108,11 @@ module _ {D : Type 0} (medium : D → Medium) (running : RunningWorker) (replaye
 
 -- it does nothing
 module _ (old : DurableValue) (failed : old.has_failed ≡ true) (disk disk' : Medium) where
-  pub failed_carries : (why : WorkFault) (new : DurableValue)
-      → CheckpointCarries old (Err why) new disk disk'
-  failed_carries why new m config guest promise stage p acts opened next_act =
-      let works = opened.works in absurd (cc)
+  pub failed_carries : (act : Act) (exchanges : List Exchange)
+      (result : Result (Answered act) WorkFault) (new : DurableValue)
+      → ActCarries act exchanges old result new disk disk'
+  failed_carries act exchanges result new m config guest promise stage p acts opened next_act
+      foretold = let works = opened.works in absurd (cc)
 
   pub failed_fails : (why : WorkFault) → CheckpointFails old disk disk' why
   failed_fails why m config guest promise stage p opened = let works = opened.works in absurd (cc)
@@ -198,10 +200,10 @@ module _ {D : Type 0} (medium : D → Medium) (running : RunningWorker) (replaye
       (medium disk) (medium disk')) where
     pub done_keeps : after_store.journal.has_failed ≡ false
         → StoresNext running.store after_store running.process (medium disk) (medium disk')
-        → CheckpointCarries old (Ok tt)
+        → ActCarries Checkpoint [] old (Ok tt)
         (durable_of (record running { store = after_store }) replayed) (medium disk)
         (medium disk')
-    done_keeps works stores = subst (λ (w : DurableValue). CheckpointCarries w (Ok tt)
+    done_keeps works stores = subst (λ (w : DurableValue). ActCarries Checkpoint [] w (Ok tt)
         (durable_of (record running { store = after_store }) replayed) (medium disk)
         (medium disk')) is_old
         (done_carries medium running replayed disk disk' fit is after_store leaves few works
@@ -209,13 +211,13 @@ module _ {D : Type 0} (medium : D → Medium) (running : RunningWorker) (replaye
 
     module _ (fault : StoreFault) (why : WorkFault) (same : why ≡ fault_of_store fault)
         (fails : SaveFails running.store running.process (medium disk) (medium disk') fault) where
-      pub fault_keeps : CheckpointCarries old (Err why)
+      pub fault_keeps : ActCarries Checkpoint [] old (Err why)
           (durable_of (record running { store = after_store }) replayed) (medium disk)
           (medium disk')
-      fault_keeps = subst (λ (e : WorkFault). CheckpointCarries old (Err e)
+      fault_keeps = subst (λ (e : WorkFault). ActCarries Checkpoint [] old (Err e)
           (durable_of (record running { store = after_store }) replayed) (medium disk)
           (medium disk')) (sym same)
-          (subst (λ (w : DurableValue). CheckpointCarries w (Err (fault_of_store fault))
+          (subst (λ (w : DurableValue). ActCarries Checkpoint [] w (Err (fault_of_store fault))
           (durable_of (record running { store = after_store }) replayed) (medium disk)
           (medium disk')) is_old
           (fault_carries medium running replayed disk disk' fit is after_store leaves few fault

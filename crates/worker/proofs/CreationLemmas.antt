@@ -8,7 +8,7 @@ use Rattle.std.specs.Prelude.{true, Result, Ok, Err, IfOk, IfErr}
 use Rattle.wasm_syntax.specs.declared.module.Module.{Module}
 use Rattle.wasm_syntax.proofs.Grammar.Exact.{some_is}
 use Rattle.wasm_syntax.proofs.Grammar.Whole.{module_complete}
-use Rattle.wasm_semantics.specs.Acceptance.{IsAccepted}
+use Rattle.wasm_rules.specs.Acceptance.{IsAccepted}
 use Rattle.wasi_abi.specs.rules.Configs.{Settings, AreSettingsWithinLimits}
 use Rattle.wasi_calls_rules.specs.laws.Laws.{IsOfBytes}
 use Rattle.machine.specs.rules.Offers.{offer}

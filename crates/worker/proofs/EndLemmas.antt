@@ -7,14 +7,14 @@ use Rattle.std.specs.Prelude.{nat_le}
 use Rattle.std.specs.Prelude.{◌||◌, ◌↔◌, ◌⊎◌}
 use Rattle.sector_disk.specs.declared.fault_disk.FaultDisk.{FaultDisk}
 use Rattle.sector_disk.specs.declared.memory.MemDisk.{MemDisk}
-use Rattle.sector_disk.specs.declared.place.Place.{Place}
+use Rattle.sector_disk.specs.declared.fault_point.FaultPoint.{FaultPoint}
 use Rattle.sector_disk.specs.rules.DiskImage.{DiskImage}
 use Rattle.sector_disk.specs.rules.FaultDisk.{call_counts_of}
 use Rattle.sector_disk.specs.rules.Medium.{IsAllSynced}
 use Rattle.sector_disk.specs.laws.Memory.{memory_stays}
 use Rattle.sector_disk.specs.rules.Memory.{memory_medium, MemoryState}
 use Rattle.sector_disk.specs.rules.Memory.{memory_state_of, after_cut}
-use Rattle.sector_disk.specs.rules.Trouble.{place_numbers, has_begun, call_number}
+use Rattle.sector_disk.specs.rules.Trouble.{point_numbers, has_begun, call_number}
 use Rattle.worker_store.specs.restart_theorem.Lives.{Act, Cause, OfDisk, End, Inputs}
 use Rattle.worker_store.specs.restart_theorem.Lives.End.{Finished as finished, Stopped as stopped}
 use Rattle.worker_store.specs.restart_theorem.Lives.End.{Failed as failed}
@@ -95,46 +95,46 @@ begun_so call n begun = by (nat_le call n) refl begun
     by true e is = grind (arith, nat_tests)
     by false e is = absurd (cc)
 
--- the places of one disk, as numbers, are those of another
-same_places : (stop stop' fail fail' : Option Place)
-    → place_numbers stop' ++ place_numbers fail' ++ [] ≡ place_numbers stop ++ place_numbers fail
+-- the fault points of one disk, as numbers, are those of another
+same_points : (stop stop' fail fail' : Option FaultPoint)
+    → point_numbers stop' ++ point_numbers fail' ++ [] ≡ point_numbers stop ++ point_numbers fail
     ++ [] → (call_at stop' ≡ call_at stop) × (call_at fail' ≡ call_at fail)
-same_places None None None None told = (refl, refl)
-same_places None None None (Some q) told = absurd (cc)
-same_places None None (Some p) None told = absurd (cc)
-same_places None None (Some p) (Some q) told =
+same_points None None None None told = (refl, refl)
+same_points None None None (Some q) told = absurd (cc)
+same_points None None (Some p) None told = absurd (cc)
+same_points None None (Some p) (Some q) told =
     let same : q.call ≡ p.call = cc in (refl, ap (λ (n : ℕ). Some n) same)
-same_places None (Some q) fail fail' told = absurd (cc)
-same_places (Some p) None fail fail' told = absurd (cc)
-same_places (Some p) (Some q) None None told =
+same_points None (Some q) fail fail' told = absurd (cc)
+same_points (Some p) None fail fail' told = absurd (cc)
+same_points (Some p) (Some q) None None told =
     let same : q.call ≡ p.call = cc in (ap (λ (n : ℕ). Some n) same, refl)
-same_places (Some p) (Some q) None (Some f) told = absurd (cc)
-same_places (Some p) (Some q) (Some f) None told = absurd (cc)
-same_places (Some p) (Some q) (Some f) (Some f') told =
+same_points (Some p) (Some q) None (Some f) told = absurd (cc)
+same_points (Some p) (Some q) (Some f) None told = absurd (cc)
+same_points (Some p) (Some q) (Some f) (Some f') told =
     let same : q.call ≡ p.call = cc in
     let other : f'.call ≡ f.call = cc in
     (ap (λ (n : ℕ). Some n) same, ap (λ (n : ℕ). Some n) other)
 
--- the call of a place has begun
-begun_at : (place : Option Place) (n : ℕ) → IsTrue (has_begun place n)
-    → HasStopped (call_at place) n
+-- the call of a fault point has begun
+begun_at : (point : Option FaultPoint) (n : ℕ) → IsTrue (has_begun point n)
+    → HasStopped (call_at point) n
 begun_at None n begun = absurd (cc)
-begun_at (Some place) n begun = begun_so place.call n (by (nat_le place.call n) begun)
+begun_at (Some point) n begun = begun_so point.call n (by (nat_le point.call n) begun)
   where
     by : (b : Bool) → IsTrue b → IsTrue (b || false)
     by true e = refl
     by false e = absurd (cc)
 
 -- a disk has met trouble only at its stop, or where it was told to fail
-met_as_told : (stop fail : Option Place) (n : ℕ)
+met_as_told : (stop fail : Option FaultPoint) (n : ℕ)
     → IsTrue (has_begun stop n || has_begun fail n)
     → HasDiskFault (call_at fail) OfDisk n ⊎ HasStopped (call_at stop) n
 met_as_told stop fail n met = by (has_begun stop n) refl met
   where
-    failing : (fail : Option Place) → IsTrue (has_begun fail n)
+    failing : (fail : Option FaultPoint) → IsTrue (has_begun fail n)
         → HasDiskFault (call_at fail) OfDisk n
     failing None begun = absurd (cc)
-    failing (Some place) begun = begun_at (Some place) n begun
+    failing (Some point) begun = begun_at (Some point) n begun
 
     by : (b : Bool) → has_begun stop n ≡ b → IsTrue (b || has_begun fail n)
         → HasDiskFault (call_at fail) OfDisk n ⊎ HasStopped (call_at stop) n
@@ -142,18 +142,18 @@ met_as_told stop fail n met = by (has_begun stop n) refl met
     by false is e = inl (failing fail e)
 
 -- so it is over the calls of a life
-pub faults_as_planned : (found last : FaultDisk MemDisk) (stop fail : Option Place)
+pub faults_as_planned : (found last : FaultDisk MemDisk) (stop fail : Option FaultPoint)
     → found.stop ≡ stop → found.fail ≡ fail → IsLater (story_medium found) (story_medium last)
     → (story_medium found).faults < (story_medium last).faults
     → HasDiskFault (call_at fail) OfDisk (call_number (call_counts_of last))
     ⊎ HasStopped (call_at stop) (call_number (call_counts_of last))
 faults_as_planned found last stop fail is fails later fell =
-    let planned : place_numbers last.stop ++ place_numbers last.fail ++ []
-    ≡ place_numbers stop ++ place_numbers fail ++ [] =
+    let planned : point_numbers last.stop ++ point_numbers last.fail ++ []
+    ≡ point_numbers stop ++ point_numbers fail ++ [] =
     later.fault_plan
-    ∙ ap (λ (s : Option Place). place_numbers s ++ place_numbers found.fail ++ []) is
-    ∙ ap (λ (f : Option Place). place_numbers stop ++ place_numbers f ++ []) fails in
-    let same = same_places stop last.stop fail last.fail planned in
+    ∙ ap (λ (s : Option FaultPoint). point_numbers s ++ point_numbers found.fail ++ []) is
+    ∙ ap (λ (f : Option FaultPoint). point_numbers stop ++ point_numbers f ++ []) fails in
+    let same = same_points stop last.stop fail last.fail planned in
     let n : ℕ = call_number (call_counts_of last) in
     subst (λ (f : Option ℕ). HasDiskFault f OfDisk n ⊎ HasStopped (call_at stop) n) same.1
     (subst (λ (s : Option ℕ). HasDiskFault (call_at last.fail) OfDisk n ⊎ HasStopped s n) same.0

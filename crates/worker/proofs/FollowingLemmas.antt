@@ -44,7 +44,8 @@ pub successors_follow : {D N : Type 0} (medium : D → Medium) (next_medium : N 
 successors_follow medium next_medium old old' new new' left bytes settings m next config promise
     image holds reads shown room keeps accepted =
     let at : HandsOverAt holds.stands (Ok left) =
-    (handed (medium old) (medium old') left reads image shown).stands m config _ _ holds.stands room in
+    (handed (medium old) (medium old') left reads image shown).stands m config _ _ holds.stands
+    room in
     let parked : IsParked holds.stands.records holds.stands.reached.guest holds.stands.process =
     at.0 in
     record {

@@ -6,7 +6,7 @@ use Rattle.std.specs.Prelude.{Result, Ok, Err, Option, map, replicate, IfOk}
 use Rattle.std.proofs.lemmas.List.{length-replicate, take_all, take_more}
 use Rattle.std.proofs.Math.Nat.{le_refl}
 use Rattle.wasm_syntax.specs.declared.module.Module.{Module}
-use Rattle.wasm_semantics.specs.Acceptance.{IsAccepted}
+use Rattle.wasm_rules.specs.Acceptance.{IsAccepted}
 use Rattle.wasi_abi.specs.declared.answer.Answer.{Answer}
 use Rattle.wasi_abi.specs.rules.Configs.{Settings}
 use Rattle.machine.specs.rules.Offers.{offer}

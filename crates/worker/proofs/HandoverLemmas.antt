@@ -1,5 +1,6 @@
 -- What a worker hands over, by what was found of it.
-use Rattle.std.proofs.Common.{true≢false, ◌≡◌, ◌≢◌, ◌⊎◌, ◌↔◌, inl, inr, ⊎_elim, ℕ, ◌+◌, ◌*◌, ◌<◌, ◌≤◌}
+use Rattle.std.proofs.Common.{true≢false, ◌≡◌, ◌≢◌, ◌⊎◌, ◌↔◌, inl, inr, ⊎_elim, ℕ, ◌+◌, ◌*◌, ◌<◌}
+use Rattle.std.proofs.Common.{◌≤◌}
 use Rattle.std.proofs.Common.{Bool, true, false, List, [], refl, sym, ap, ◌∙◌, subst, arith}
 use Rattle.std.proofs.Common.{Option, Some, None, is_some, option_map}
 use Rattle.std.specs.Prelude.{IsTrue, Result, Ok, Err}

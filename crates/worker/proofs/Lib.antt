@@ -36,9 +36,12 @@ mod RunLemmas
 pub mod StopLemmas
 mod FoundDiskLemmas
 pub mod WantLemmas
+pub mod RefusedCreations
+pub mod CopyLemmas
 mod AnswerLemmas
 mod FollowingLemmas
 mod HandoverLemmas
 mod InspectionLemmas
 mod QuestionLemmas
 mod RefusedLemmas
+mod StepLemmas

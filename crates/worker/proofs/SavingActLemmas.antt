@@ -24,7 +24,8 @@ use Rattle.sector_disk.specs.declared.sector.TheConstants.{SECTOR_SIZE}
 use Rattle.sector_disk.specs.rules.Medium.{Medium, CallsUpTo}
 use Rattle.disk_layout.specs.declared.geometry.Geometry.{Geometry}
 use Rattle.disk_layout.specs.rules.Journal.{Record, TakesRecords}
-use Rattle.worker_store.specs.restart_theorem.Lives.{Act, Checkpoint, Reply, Done, Fails, Cause, OfDisk}
+use Rattle.worker_store.specs.restart_theorem.Lives.{Act, Checkpoint, Reply, Done, Fails, Cause}
+use Rattle.worker_store.specs.restart_theorem.Lives.{OfDisk}
 use Rattle.worker_store.specs.restart_theorem.Lives.{OfBounds, Ended, kept_by_end}
 use Rattle.worker_store.specs.restart_theorem.Courses.{Stage, Open, MayFail, next_stage}
 use Rattle.worker_store.specs.restart_theorem.Promises.{Promise, after, MayPlead}
@@ -55,13 +56,16 @@ use Rattle.worker_store.specs.rules.Stores.{IsStoreOf}
 use Rattle.worker.specs.declared.fault.WorkFault.{WorkFault}
 use Rattle.worker.specs.rules.WorkFaults.{fault_of_store}
 use Rattle.worker.specs.rules.DurableValues.{DurableValue}
-use Rattle.worker.specs.rules.DurableCalls.{CallCarries, IsFailureOf, IsReplyOfSaving}
+use Rattle.worker_store.specs.rules.BetweenCalls.{IsForetold}
+use Rattle.worker.specs.rules.DurableCalls.{CallCarries, HasCauseAt, HasCauseOf, IsFailureOf}
+use Rattle.worker.specs.rules.DurableCalls.{IsReplyOfSaving}
 use Rattle.worker.specs.rules.OpenWorkers.{IsOpenOn, IsOnDisk}
 use Rattle.worker.specs.Savings.{LeavesFrontOrNext, IsSaveFault, SaveFails}
 use Rattle.worker.specs.rules.CallCounts.{most_saving}
 use Rattle.worker.specs.rules.Checkpoints.{IsCheckpointFault, CheckpointFails}
 use Rattle.worker.proofs.CallCountLemmas.{calls_once}
 use Rattle.worker.proofs.DurableLemmas.Bounds.{saves_within}
+use Rattle.worker.proofs.DurableLemmas.Ends.{disk_cause}
 use Rattle.worker.proofs.DurableLemmas.OnDisk.{fewer_syncs, reached_now}
 
 one_more : (a b c : ℕ) → a ≡ b + 1 → b ≤ c → a ≤ c + 1
@@ -479,7 +483,9 @@ abbrev pub SavingCarries : Act → DurableValue → Result (Unit {0}) WorkFault 
 SavingCarries act old result new disk disk' =
     (m : Module) (config : Settings) (guest : Guest) (promise : Promise) (stage : Stage)
     (p : ProcessState) (acts : List Act) → IsOpenOn m config guest promise stage p old disk
-    → stage.acts ≡ act ∷ acts → (reply : Reply) × IsReplyOfSaving result reply
+    → stage.acts ≡ act ∷ acts → IsForetold stage []
+    → (reply : Reply) × IsReplyOfSaving result reply
+    × HasCauseOf result guest config new.process disk disk'
     × CallCarries m config guest promise stage act reply new disk disk' []
 
 -- how its disk is left
@@ -491,10 +497,12 @@ module _ {D : Type 0} (medium : D → Medium) (act : Act) (old new : DurableValu
       → new.is_abreast ≡ old.is_abreast
       → StoresNext old.store new.store new.process (medium disk) (medium disk')
       → SavingCarries act old (Ok tt) new (medium disk) (medium disk')
-  saving_done version works says stores m config guest promise stage p acts opened next_act =
+  saving_done version works says stores m config guest promise stage p acts opened next_act
+      foretold =
       let is = saves m config guest promise stage p opened in (
         Done,
         refl,
+        tt,
         save_done medium old new disk fit m config guest promise stage p opened is.0 is.1 is.2
             act is.3 is.4 acts next_act disk' leaves few version works says stores,
       )
@@ -502,7 +510,7 @@ module _ {D : Type 0} (medium : D → Medium) (act : Act) (old new : DurableValu
   pub saving_fault : (fault : StoreFault)
       → SaveFails old.store new.process (medium disk) (medium disk') fault
       → SavingCarries act old (Err (fault_of_store fault)) new (medium disk) (medium disk')
-  saving_fault fault fails m config guest promise stage p acts opened next_act =
+  saving_fault fault fails m config guest promise stage p acts opened next_act foretold =
       let is = saves m config guest promise stage p opened in
       carries fault (save_fault medium old new disk fit m config guest promise stage p opened is.0
       is.1 is.2 disk' fault fails)
@@ -527,14 +535,23 @@ module _ {D : Type 0} (medium : D → Medium) (act : Act) (old new : DurableValu
       carries : (fault : StoreFault)
           → IsCheckpointFault old (medium disk) (medium disk') (fault_of_store fault)
           → (reply : Reply) × IsFailureOf (fault_of_store fault) reply
+          × HasCauseAt (fault_of_store fault) guest config new.process (medium disk) (medium disk')
           × CallCarries m config guest promise stage act reply new (medium disk) (medium disk') []
       carries store.TooBig late = (
         Fails OfBounds,
         (OfBounds, refl, refl),
+        tt,
         failed OfBounds tt (λ q. on_generation q late),
       )
-      carries (store.Disk why) h =
-          (Fails OfDisk, (OfDisk, refl, refl), failed OfDisk tt (λ q. tt))
+      carries (store.Disk why) h = (
+        Fails OfDisk,
+        (OfDisk, refl, refl),
+        disk_cause
+            (record { code = m; config = config; guest = guest; act = act; first = p.steps })
+            promise p p.steps promise.events old.store old.process new.process (medium disk)
+            (medium disk') why opened.on_disk h,
+        failed OfDisk tt (λ q. tt),
+      )
       carries store.Full h = absurd h
       carries store.TooLong h = absurd h
       carries store.Damaged h = absurd h

@@ -4,10 +4,10 @@ use Rattle.std.specs.Prelude.{Bool, true, false, if◌then◌else◌, nat_le, Op
 use Rattle.std.specs.Prelude.{Result, Err, ◌==◌, slice_get, reverse, map}
 use Rattle.std.proofs.lemmas.Bool.{leb-true}
 use Rattle.wasm_syntax.specs.declared.value.Value.{Value}
-use Rattle.wasm_semantics.specs.Types.{number_in}
-use Rattle.wasm_semantics.specs.Configuration.{Configuration, Thread, Outcome, Goes, Traps, Asks}
-use Rattle.wasm_semantics.specs.Configuration.{Stuck}
-use Rattle.wasm_semantics.specs.Steps.{counted_step}
+use Rattle.wasm_rules.specs.Types.{number_in}
+use Rattle.wasm_rules.specs.Configuration.{Configuration, Thread, Outcome, Goes, Traps, Asks}
+use Rattle.wasm_rules.specs.Configuration.{Stuck}
+use Rattle.wasm_rules.specs.Steps.{counted_step}
 use Rattle.wasi_abi.specs.declared.errno.Errno.{Errno}
 use Rattle.wasi_abi.specs.declared.errno.Errno.TheVariants.{Inval}
 use Rattle.wasi_abi.specs.declared.answer.Question.{Question}

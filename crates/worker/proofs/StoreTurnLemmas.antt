@@ -583,26 +583,6 @@ stopped_slice_calls T old new after disk disk' why stops is =
     subst (λ (s : WorkerStore). SliceCalls {T = T} (Err why) old s disk disk') (sym is)
     (stops.made, stops.last, stops.are, stops.last_are, stops.left_out, stops.calls)
 
--- why it stops
-slice_cause : (running : RunningWorker) (replayed : ℕ) (disk disk' : Medium) (why : WorkFault)
-    → HasTurnCause running.store disk disk' why
-    → HasSliceCause (durable_of running replayed) disk disk' why
-slice_cause running replayed disk disk' (Disk fault) cause = cause
-slice_cause running replayed disk disk' (Work slice.Failed) cause = cause
-slice_cause running replayed disk disk' (Work slice.Source) cause = tt
-slice_cause running replayed disk disk' (Work slice.Outlet) cause = tt
-slice_cause running replayed disk disk' (Work slice.Memory) cause = tt
-slice_cause running replayed disk disk' (Work (slice.Refused why)) cause = tt
-slice_cause running replayed disk disk' (Store store.Full) cause = tt
-slice_cause running replayed disk disk' (Store store.TooLong) cause = tt
-slice_cause running replayed disk disk' (Store store.TooBig) cause = tt
-slice_cause running replayed disk disk' (Store store.Damaged) cause = cause
-slice_cause running replayed disk disk' (Store (store.Layout fault)) cause = cause
-slice_cause running replayed disk disk' (Store (store.Disk fault)) cause = cause
-slice_cause running replayed disk disk' (Store store.Memory) cause = cause
-slice_cause running replayed disk disk' (Store store.Failed) cause = cause
-slice_cause running replayed disk disk' (Upgrade fault) cause = cause
-
 module _ (running : RunningWorker) (replayed : ℕ) (old : DurableValue)
     (is_old : durable_of running replayed ≡ old) (after : WorkerStore)
     (disk disk' : Medium) where
@@ -621,4 +601,4 @@ module _ (running : RunningWorker) (replayed : ℕ) (old : DurableValue)
 
     pub has_slice_cause : HasSliceCause old disk disk' why
     has_slice_cause = subst (λ (w : DurableValue). HasSliceCause w disk disk' why) is_old
-        (slice_cause running replayed disk disk' why stops.cause)
+        stops.cause

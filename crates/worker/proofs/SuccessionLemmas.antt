@@ -4,7 +4,7 @@ use Rattle.std.proofs.Common.{ap, ◌∙◌, subst, inl, inr, ⊎_elim, arith}
 use Rattle.std.proofs.lemmas.Bool.{cases_lt}
 use Rattle.std.specs.Prelude.{Result, Ok, Err, IfErr, IfOk, OnOk}
 use Rattle.wasm_syntax.specs.declared.module.Module.{Module}
-use Rattle.wasm_semantics.specs.Acceptance.{IsAccepted}
+use Rattle.wasm_rules.specs.Acceptance.{IsAccepted}
 use Rattle.wasi_abi.specs.declared.version.Version.{Version}
 use Rattle.wasi_abi.specs.declared.version.Version.TheVariants.{One, Two}
 use Rattle.wasi_abi.specs.rules.Configs.{Settings, AreSettingsWithinLimits}

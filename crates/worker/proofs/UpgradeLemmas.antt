@@ -40,12 +40,13 @@ use Rattle.worker_store.specs.declared.store.WorkerStore.{WorkerStore}
 use Rattle.worker_store.specs.rules.Calls.{StoresNext}
 use Rattle.worker.specs.declared.fault.WorkFault.{WorkFault}
 use Rattle.worker.specs.declared.fault.WorkFault.TheVariants as work
+use Rattle.worker.specs.declared.upgrade_fault.UpgradeFault.{UpgradeFault}
 use Rattle.worker.specs.declared.upgrade_fault.UpgradeFault.TheVariants.{JournalTooSmall}
 use Rattle.worker.specs.declared.upgrade_fault.UpgradeFault.TheVariants.{NotCaughtUp}
 use Rattle.worker.specs.rules.WorkFaults.{fault_of_store}
 use Rattle.worker.specs.declared.running_worker.RunningWorker.{RunningWorker}
 use Rattle.worker.specs.rules.DurableValues.{DurableValue, durable_of}
-use Rattle.worker.specs.rules.DurableCalls.{ComesOf, UpgradeCarries}
+use Rattle.worker.specs.rules.DurableCalls.{ActCarries, ComesOf}
 use Rattle.worker.specs.rules.OpenWorkers.{IsOpenOn}
 use Rattle.worker.specs.Savings.{LeavesFrontOrNext, SaveCalls, SaveFails, HasSaveCause}
 use Rattle.worker.specs.rules.CallCounts.{most_saving}
@@ -213,7 +214,7 @@ module _ {D : Type 0} (medium : D → Medium) (old new : DurableValue) (disk dis
   pub upgrade_carries : new.process ≡ upgraded old.process → new.has_failed ≡ false
       → new.is_abreast ≡ old.is_abreast
       → StoresNext old.store new.store new.process (medium disk) (medium disk')
-      → UpgradeCarries old (Ok tt) new (medium disk) (medium disk')
+      → ActCarries Upgrade [] old (Ok tt) new (medium disk) (medium disk')
   upgrade_carries same works says stores =
       saving_done medium Upgrade old new disk disk' fit
       (upgrade_saves_shown medium old new disk is takes abreast (inr same)) leaves few
@@ -230,7 +231,7 @@ module _ {D : Type 0} (medium : D → Medium) (old new : DurableValue) (disk dis
         (after_fault_of why old.store old.process new.process after_fault)
 
     pub upgrade_fault_carries :
-        UpgradeCarries old (Err (fault_of_store why)) new (medium disk) (medium disk')
+        ActCarries Upgrade [] old (Err (fault_of_store why)) new (medium disk) (medium disk')
     upgrade_fault_carries =
         saving_fault medium Upgrade old new disk disk' fit shown_then leaves few why fails
 
@@ -285,27 +286,29 @@ module _ {D : Type 0} (medium : D → Medium) (old new : DurableValue) (disk : D
     (fit : ProcessImagesFitAreas) (is : IsProcess old.process) (same : new.process
     ≡ old.process) where
   -- for a cause that it may plead
-  refused_by : (why : WorkFault) (cause : Cause) → ComesOf why cause
+  refused_by : (why : UpgradeFault) (cause : Cause) → ComesOf (work.Upgrade why) cause
       → ((m : Module) (config : Settings) (guest : Guest) (promise : Promise) (stage : Stage)
       (p : ProcessState) → IsOpenOn m config guest promise stage p old (medium disk)
       → MayPlead config (promise.kept ++ []) stage Upgrade cause
       × HasBound m config guest promise p cause)
-      → UpgradeCarries old (Err why) new (medium disk) (medium disk)
+      → ActCarries Upgrade [] old (Err (work.Upgrade why)) new (medium disk) (medium disk)
   unfolding same_saved
-  refused_by why cause comes pleads m config guest promise stage p acts opened next_act =
+  refused_by why cause comes pleads m config guest promise stage p acts opened next_act foretold =
       let saves = same_saved medium old new disk is same m config guest promise stage p opened in
       let may = pleads m config guest promise stage p opened in (
         Fails cause,
         (cause, comes, refl),
+        tt,
         save_pleaded medium old new disk fit m config guest promise stage p opened saves.0 saves.1
             saves.2 Upgrade saves.3 saves.4 acts next_act disk
             (leaves_nothing medium old.store new.process disk) (omega arith) cause may.0 may.1,
       )
 
   pub too_small_carries : IsTooSmall old
-      → UpgradeCarries old (Err (work.Upgrade JournalTooSmall)) new (medium disk) (medium disk)
+      → ActCarries Upgrade [] old (Err (work.Upgrade JournalTooSmall)) new (medium disk)
+      (medium disk)
   too_small_carries small =
-      refused_by (work.Upgrade JournalTooSmall) OfJournal refl
+      refused_by JournalTooSmall OfJournal refl
       (λ m config guest promise stage p opened.
       let between = opened.between in (
         (
@@ -317,9 +320,9 @@ module _ {D : Type 0} (medium : D → Medium) (old new : DurableValue) (disk : D
       ))
 
   pub not_caught_up_carries : IsNotCaughtUp old
-      → UpgradeCarries old (Err (work.Upgrade NotCaughtUp)) new (medium disk) (medium disk)
+      → ActCarries Upgrade [] old (Err (work.Upgrade NotCaughtUp)) new (medium disk) (medium disk)
   not_caught_up_carries behind =
-      refused_by (work.Upgrade NotCaughtUp) OfLines refl
+      refused_by NotCaughtUp OfLines refl
       (λ m config guest promise stage p opened.
       let between = opened.between in
       let abreast = opened.abreast in (
@@ -337,11 +340,6 @@ module _ {D : Type 0} (medium : D → Medium) (old new : DurableValue) (disk : D
 
 -- it does nothing
 module _ (old : DurableValue) (failed : old.has_failed ≡ true) (disk disk' : Medium) where
-  pub failed_upgrade_carries : (why : WorkFault) (new : DurableValue)
-      → UpgradeCarries old (Err why) new disk disk'
-  failed_upgrade_carries why new m config guest promise stage p acts opened next_act =
-      let works = opened.works in absurd (cc)
-
   pub failed_upgrade_fails : (why : WorkFault) (after : ProcessValue)
       → UpgradeFails old after disk disk' why
   failed_upgrade_fails why after m config guest promise stage p opened =

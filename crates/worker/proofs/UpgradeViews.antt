@@ -1,9 +1,10 @@
 -- An upgrade, as its contract sees it.
-use Rattle.std.proofs.Common.{◌≡◌, ◌⊎◌, ℕ, ◌+◌, false, refl, sym, ap, ◌∙◌, subst}
+use Rattle.std.proofs.Common.{◌≡◌, ◌⊎◌, ℕ, ◌+◌, false, [], refl, sym, ap, ◌∙◌, subst}
 use Rattle.std.specs.Prelude.{Ok, Err}
 use Rattle.process_rules.specs.Runs.{widened}
 use Rattle.process.specs.rules.Values.{ProcessValue, ShowsProcess, IsProcess}
 use Rattle.sector_disk.specs.rules.Medium.{Medium, CallsUpTo}
+use Rattle.worker_store.specs.restart_theorem.Lives.Act.{Upgrade as upgrading}
 use Rattle.worker_store.specs.declared.fault.StoreFault.{StoreFault}
 use Rattle.worker_store.specs.laws.Laws.{ProcessImagesFitAreas}
 use Rattle.worker_store.specs.rules.Calls.{StoresNext}
@@ -14,7 +15,7 @@ use Rattle.worker.specs.declared.upgrade_fault.UpgradeFault.{UpgradeFault}
 use Rattle.worker.specs.declared.upgrade_fault.UpgradeFault.TheVariants as upgrade
 use Rattle.worker.specs.rules.WorkFaults.{fault_of_store}
 use Rattle.worker.specs.rules.CallCounts.{most_saving}
-use Rattle.worker.specs.rules.DurableCalls.{UpgradeCarries}
+use Rattle.worker.specs.rules.DurableCalls.{ActCarries}
 use Rattle.worker.specs.rules.DurableValues.{DurableValue, durable_of}
 use Rattle.worker.specs.Savings.{LeavesFrontOrNext, SaveCalls, SaveFails, HasSaveCause}
 use Rattle.worker.specs.rules.Upgrades.{upgraded, IsUpgradedIn, UpgradeCalls, UpgradeFails}
@@ -34,14 +35,14 @@ module _ {D : Type 0} (medium : D → Medium) (running after : RunningWorker) (r
 
   module _ (fault : UpgradeFault) (refused : IsUpgradeRefused running fault) where
     pub refused_carries : ProcessImagesFitAreas → after.process ≡ running.process
-        → UpgradeCarries old (Err (Upgrade fault)) (durable_of after replayed) (medium disk)
-        (medium disk)
+        → ActCarries upgrading [] old (Err (Upgrade fault)) (durable_of after replayed)
+        (medium disk) (medium disk)
     refused_carries fit same =
-        subst (λ (w : DurableValue). UpgradeCarries w (Err (Upgrade fault))
+        subst (λ (w : DurableValue). ActCarries upgrading [] w (Err (Upgrade fault))
         (durable_of after replayed) (medium disk) (medium disk)) is_old (by fault refused)
       where
         by : (fault : UpgradeFault) → IsUpgradeRefused running fault
-            → UpgradeCarries (durable_of running replayed) (Err (Upgrade fault))
+            → ActCarries upgrading [] (durable_of running replayed) (Err (Upgrade fault))
             (durable_of after replayed) (medium disk) (medium disk)
         by upgrade.JournalTooSmall small =
             too_small_carries medium (durable_of running replayed)
@@ -89,10 +90,10 @@ module _ {D : Type 0} (medium : D → Medium) (running after : RunningWorker) (r
           → after.store.journal.has_failed ≡ false
           → after.is_abreast ≡ running.is_abreast
           → StoresNext running.store after.store after.process (medium disk) (medium disk')
-          → UpgradeCarries old (Ok tt) (durable_of after replayed) (medium disk)
+          → ActCarries upgrading [] old (Ok tt) (durable_of after replayed) (medium disk)
           (medium disk')
       done_carries same works says stores =
-          subst (λ (w : DurableValue). UpgradeCarries w (Ok tt) (durable_of after replayed)
+          subst (λ (w : DurableValue). ActCarries upgrading [] w (Ok tt) (durable_of after replayed)
           (medium disk) (medium disk')) is_old
           (upgrade_carries medium (durable_of running replayed)
           (durable_of after replayed) disk disk' fit is may.takes may.abreast leaves few same
@@ -101,11 +102,11 @@ module _ {D : Type 0} (medium : D → Medium) (running after : RunningWorker) (r
       module _ (fault : StoreFault) (why : WorkFault) (same : why ≡ fault_of_store fault)
           (fails : SaveFails running.store after.process (medium disk) (medium disk') fault)
           (after_fault : AfterFault fault running.store running.process after.process) where
-        pub fault_carries : UpgradeCarries old (Err why) (durable_of after replayed)
+        pub fault_carries : ActCarries upgrading [] old (Err why) (durable_of after replayed)
             (medium disk) (medium disk')
-        fault_carries = subst (λ (e : WorkFault). UpgradeCarries old (Err e)
+        fault_carries = subst (λ (e : WorkFault). ActCarries upgrading [] old (Err e)
             (durable_of after replayed) (medium disk) (medium disk')) (sym same)
-            (subst (λ (w : DurableValue). UpgradeCarries w (Err (fault_of_store fault))
+            (subst (λ (w : DurableValue). ActCarries upgrading [] w (Err (fault_of_store fault))
             (durable_of after replayed) (medium disk) (medium disk')) is_old
             (upgrade_fault_carries medium (durable_of running replayed)
             (durable_of after replayed) disk disk' fit is may.takes may.abreast leaves few

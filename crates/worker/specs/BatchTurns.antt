@@ -42,7 +42,7 @@ use Rattle.worker.specs.rules.OpenWorkers.{IsOnDisk, IsAbreast}
 use Rattle.worker.specs.StoreTurns.{owed, HasTurnCause, PaysCalls, StoreGoes, StoreStops}
 use Rattle.worker.specs.DurableTurns.{Course, IsBetweenTurns, IsAskingOn, TurnGoes, TurnEnds}
 use Rattle.worker.specs.DurableTurns.{TurnFails, told_lines_of, to_tell, HoldsNoLine, AsksOutside}
-use Rattle.worker.specs.DurableTurns.{AsksVainly}
+use Rattle.worker.specs.DurableTurns.{IsAskFault}
 
 -- ---- lines to an outlet
 
@@ -194,7 +194,7 @@ AsksOne (Err why) exchanges = Unit {0}
 abbrev pub AsksThenFails : {S : Type 0} → Giving S → RunningWorker → Question → WorkFault
     → RunningWorker → S → S → Type 0
 AsksThenFails gives old question why new source source' = (heard : RunningWorker)
-    × (new.process ≡ heard.process) × AsksVainly gives old question why heard source source'
+    × (new.process ≡ heard.process) × IsAskFault gives old question why heard source source'
 
 -- room is made, and the source is asked, where lines are held
 abbrev pub AsksHolding : {D S : Type 0} → (D → Medium) → Giving S → RunningWorker → Question

@@ -155,28 +155,27 @@ TurnFails c promise stage why exchanges w disk disk' = (cause : Cause) × ComesO
 abbrev pub told_lines_of : List Begun → List Exchange
 told_lines_of begun = map Tells begun
 
--- the records were put on the disk, and the lines that waited were released
-abbrev pub Flushes : {O : Type 0} → Taking O → RunningWorker → RunningWorker → Medium
-    → Medium → O → O → Type 0
-Flushes takes old new disk disk' outlet outlet' = (begun : List Begun)
-    × Releases takes outlet begun outlet'
-    × ((c : Course) (promise : Promise) (stage : Stage) (p : ProcessState)
-    → IsOwingTurn c promise stage p [] old disk → IsForetold stage (told_lines_of begun)
-    → TurnGoes c promise stage (told_lines_of begun) [] new disk disk')
+-- these exchanges were made, and the slice goes on, or an error ends it
+abbrev pub TurnLeads : Result (Unit {0}) WorkFault → Course → Promise → Stage → List Exchange
+    → RunningWorker → Medium → Medium → Type 0
+TurnLeads (Ok done) c promise stage exchanges w disk disk' =
+    TurnGoes c promise stage exchanges [] w disk disk'
+TurnLeads (Err why) c promise stage exchanges w disk disk' =
+    TurnFails c promise stage why exchanges w disk disk'
 
--- one of the two failed
-abbrev pub FlushesInVain : {O : Type 0} → Taking O → RunningWorker → WorkFault
+-- The records are put on the disk, and then the lines that waited are released, up to an error.
+abbrev pub FlushesTurn : {O : Type 0} → Taking O → RunningWorker → Result (Unit {0}) WorkFault
     → RunningWorker → Medium → Medium → O → O → Type 0
-FlushesInVain takes old why new disk disk' outlet outlet' = (begun : List Begun)
+FlushesTurn takes old result new disk disk' outlet outlet' = (begun : List Begun)
     × Releases takes outlet begun outlet'
     × ((c : Course) (promise : Promise) (stage : Stage) (p : ProcessState)
     → IsOwingTurn c promise stage p [] old disk → IsForetold stage (told_lines_of begun)
-    → TurnFails c promise stage why (told_lines_of begun) new disk disk')
+    → TurnLeads result c promise stage (told_lines_of begun) new disk disk')
 
 -- the store failed, which wants no memory and no number; or the outlet did
-abbrev pub FlushesVainly : {O : Type 0} → Taking O → ProcessValue → WorkFault → ProcessValue
+abbrev pub IsFlushFault : {O : Type 0} → Taking O → ProcessValue → WorkFault → ProcessValue
     → O → O → Type 0
-FlushesVainly takes old why new outlet outlet' =
+IsFlushFault takes old why new outlet outlet' =
     ((fault : StoreFault) × (why ≡ fault_of_store fault) × (fault ≢ store.Memory)
     × (fault ≢ store.TooBig) × (new ≡ old) × (outlet' ≡ outlet))
     ⊎ ((why ≡ Work slice.Outlet) × ReleasesSome takes old new outlet outlet')
@@ -316,9 +315,9 @@ AsksTurn gives old question (Err why) new disk disk' source source' = (exchanges
     → TurnFails c promise stage why exchanges new disk disk')
 
 -- the store failed to make room, and the source wasn't asked; or it was, in vain
-abbrev pub AsksVainly : {S : Type 0} → Giving S → RunningWorker → Question → WorkFault
+abbrev pub IsAskFault : {S : Type 0} → Giving S → RunningWorker → Question → WorkFault
     → RunningWorker → S → S → Type 0
-AsksVainly gives old question why new source source' =
+IsAskFault gives old question why new source source' =
     (IsOfStoreFault why × (new.process ≡ old.process) × (source' ≡ source) × (HasRoom old → ⊥))
     ⊎ ((mid : RunningWorker) × (step : ℕ) × (mid.process ≡ old.process)
     × Hears gives mid question step (Err why) new source source')

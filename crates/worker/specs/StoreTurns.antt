@@ -1,5 +1,5 @@
 -- What the parts of a slice do to a store and its disk, whatever is on that.
-use Rattle.std.specs.Prelude.{◌≡◌, ◌⊎◌, ℕ, ◌+◌, ◌<◌, ◌≤◌, true, false, List, [], ◌∷◌, ◌++◌, drop}
+use Rattle.std.specs.Prelude.{◌≡◌, ℕ, ◌+◌, ◌≤◌, true, false, List, [], ◌∷◌, ◌++◌, drop}
 use Rattle.std.specs.Prelude.{Result, Ok, Err}
 use Rattle.sector_disk.specs.declared.disk_call.DiskCall.{DiskCall}
 use Rattle.sector_disk.specs.rules.Medium.{Medium, Passes}
@@ -10,7 +10,7 @@ use Rattle.worker_store.specs.rules.Stores.{IsOfStore}
 use Rattle.record_replay.specs.declared.slices.fault.SliceFault.TheVariants as slice
 use Rattle.worker.specs.declared.fault.WorkFault.{WorkFault}
 use Rattle.worker.specs.declared.fault.WorkFault.TheVariants.{Work, Disk, Store, Upgrade}
-use Rattle.worker.specs.rules.DurableFailures.{LacksRoom}
+use Rattle.worker.specs.rules.DurableFailures.{HasStoreCause}
 use Rattle.worker.specs.rules.WorkFaults.{fault_of_store}
 use Rattle.worker.specs.rules.SliceCalls.{AreSliceCalls, AreLastCalls}
 use Rattle.worker.specs.rules.Unsynced.{CountsInSlice}
@@ -28,15 +28,8 @@ pub record StoreGoes (old new : WorkerStore) (disk disk' : Medium) : Type 0 wher
 
 -- why it has failed
 abbrev pub HasTurnCause : WorkerStore → Medium → Medium → WorkFault → Type 0
-HasTurnCause old disk disk' (Disk fault) =
-    LacksRoom old.geometry disk ⊎ (disk.faults < disk'.faults)
-HasTurnCause old disk disk' (Work slice.Failed) = old.journal.has_failed ≡ true
-HasTurnCause old disk disk' (Work other) = Unit {0}
-HasTurnCause old disk disk' (Store store.Full) = Unit {0}
-HasTurnCause old disk disk' (Store store.TooLong) = Unit {0}
-HasTurnCause old disk disk' (Store store.TooBig) = Unit {0}
-HasTurnCause old disk disk' (Store other) = ⊥
-HasTurnCause old disk disk' (Upgrade fault) = ⊥
+HasTurnCause old disk disk' why =
+    HasStoreCause old.geometry old.journal.has_failed disk disk' why
 
 -- it has failed: after these calls of the disk others were begun
 pub record StoreStops (old new : WorkerStore) (why : WorkFault) (disk disk' : Medium) : Type 0
@@ -104,3 +97,11 @@ PaysCalls (Ok done) old new disk disk' =
     ≤ disk.counted + owed disk.sectors old.journal.kept
 PaysCalls (Err why) old new disk disk' =
     disk'.counted ≤ disk.counted + owed disk.sectors old.journal.kept
+
+-- What a call leaves of a store and its disk that puts records on the disk where it has to.
+pub record LeavesStore {T : Type 0} (result : Result T WorkFault) (old new : WorkerStore)
+    (disk disk' : Medium) : Type 0 where
+  pub runs : StoreRuns result old new disk disk'
+  pub pays : PaysCalls result old new disk disk'
+  pub places : new.geometry ≡ old.geometry
+  pub sectors : disk'.sectors ≡ disk.sectors

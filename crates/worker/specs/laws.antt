@@ -1,5 +1,6 @@
 pub mod Adding
 pub mod Bounds
+pub mod Copies
 pub mod Followings
 pub mod OneLife
 pub mod Replies

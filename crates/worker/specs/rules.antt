@@ -17,6 +17,7 @@ pub mod Planned
 pub mod RecoverFaults
 pub mod Recoveries
 pub mod ShownDisks
+pub mod Scenes
 pub mod SliceCalls
 pub mod Positions
 pub mod StoryDisks

@@ -1,8 +1,8 @@
 //! Batches of a worker on its disk: slices in which lines may wait, until one barrier serves them
 //! all.
 //!
-//! **A queue of lines serves as an outlet.** So a process runs in a batch as in a slice whose lines
-//! go to a list. What is held is the end of that list that no outlet has seen yet.
+//! **A queue of lines serves as an outlet.** A process runs in a batch as in a slice whose lines go
+//! to a list. What is held is the end of that list that no outlet has seen yet.
 
 ghost use Rattle.std.specs.Prelude.{◌≡◌, ◌≢◌, ◌≤◌, ◌-◌, [], length, take, true, false};
 ghost use Rattle.std.specs.Prelude.{◌+◌, ◌⊎◌, Err, None, IfErr, IfOk, Ok, OnErr, OnOk};
@@ -13,7 +13,7 @@ ghost use Rattle.worker.specs.BatchTurns.{RefusesOne, TellsAll, TellsVainly, Flu
 ghost use Rattle.worker.specs.BatchTurns.{FlushesNot, HasEnded, FailsQueue, HoldsLines};
 ghost use Rattle.worker.specs.BatchTurns.{HoldsOrTells, FreesOrTells, TellsRest, WorksInBatch};
 ghost use Rattle.worker.specs.BatchTurns.{held_as_begun, AsksHolding, AsksThenFails};
-ghost use Rattle.worker.specs.StoreTurns.{PaysCalls, StoreGoes, StoreRuns};
+ghost use Rattle.worker.specs.StoreTurns.{LeavesStore, StoreGoes, StoreRuns};
 ghost use Rattle.worker.specs.rules.CallCounts.{most_saving};
 ghost use Rattle.record_replay.specs.Turns.{AsksOnce};
 ghost use Rattle.sector_disk.specs.rules.Medium.{CallsUpTo};
@@ -116,11 +116,7 @@ impl RunningWorker {
             queue.old.lines self.new queue.new.lines disk.old disk.new outlet.old outlet.new) }
         ensures fails { IfErr result (λ why. FailsQueue O.takes self.old queue.old.lines why
             self.new (D.medium disk.old) (D.medium disk.new) outlet.old outlet.new) }
-        ensures runs { StoreRuns result self.old.store self.new.store (D.medium disk.old)
-            (D.medium disk.new) }
-        ensures places { self.new.store.geometry ≡ self.old.store.geometry }
-        ensures sectors { (D.medium disk.new).sectors ≡ (D.medium disk.old).sectors }
-        ensures asks { PaysCalls result self.old.store self.new.store (D.medium disk.old)
+        ensures store { LeavesStore result self.old.store self.new.store (D.medium disk.old)
             (D.medium disk.new) }
     {
         let before = queue.lines.lines().len();
@@ -147,11 +143,7 @@ impl RunningWorker {
         ensures says { OnOk result (self.new.is_abreast ≡ self.old.is_abreast) }
         ensures fails { IfErr result (λ why. FailsQueue O.takes self.old held.now why self.new
             (D.medium disk.old) (D.medium disk.new) outlet.old outlet.new) }
-        ensures runs { StoreRuns result self.old.store self.new.store (D.medium disk.old)
-            (D.medium disk.new) }
-        ensures places { self.new.store.geometry ≡ self.old.store.geometry }
-        ensures sectors { (D.medium disk.new).sectors ≡ (D.medium disk.old).sectors }
-        ensures asks { PaysCalls result self.old.store self.new.store (D.medium disk.old)
+        ensures store { LeavesStore result self.old.store self.new.store (D.medium disk.old)
             (D.medium disk.new) }
     {
         self.store.barrier(disk)?;
@@ -176,11 +168,7 @@ impl RunningWorker {
             self.new queue.new.lines disk.old disk.new outlet.old outlet.new) }
         ensures fails { IfErr result (λ why. FailsQueue O.takes self.old queue.old.lines why
             self.new (D.medium disk.old) (D.medium disk.new) outlet.old outlet.new) }
-        ensures runs { StoreRuns result self.old.store self.new.store (D.medium disk.old)
-            (D.medium disk.new) }
-        ensures places { self.new.store.geometry ≡ self.old.store.geometry }
-        ensures sectors { (D.medium disk.new).sectors ≡ (D.medium disk.old).sectors }
-        ensures asks { PaysCalls result self.old.store self.new.store (D.medium disk.old)
+        ensures store { LeavesStore result self.old.store self.new.store (D.medium disk.old)
             (D.medium disk.new) }
     {
         if queue.lines.lines().is_empty() {
@@ -208,9 +196,9 @@ impl RunningWorker {
             (Ok is_there) self.new.process source.old source.new) }
         ensures released { self.new.process.host.released ≡ self.old.process.host.released }
         ensures abreast { OnOk result (self.new.is_abreast ≡ true) }
-        ensures asks { AsksHolding D.medium S.gives self.old question result self.new disk.old
+        ensures holding { AsksHolding D.medium S.gives self.old question result self.new disk.old
             disk.new source.old source.new }
-        ensures failed { IfErr result (λ why. AsksThenFails S.gives self.old question why self.new
+        ensures fault { IfErr result (λ why. AsksThenFails S.gives self.old question why self.new
             source.old source.new) }
         ensures ended { IfErr result (λ why. (why ≡ WorkFault.Work SliceFault.Source)
             ⊎ ((why ≢ WorkFault.Work SliceFault.Source) × HasEnded why self.new)) }
@@ -319,6 +307,7 @@ fn is_refused(worked: &Result<Now, WorkFault>) -> bool
 impl Worker {
     ghost use Rattle.worker.specs.rules.Batches.{RunsBatch};
     ghost use Rattle.worker.specs.rules.DurableValues.{IsTooSmallFor, failed_worker};
+    ghost use Rattle.worker.specs.rules.Scenes.{scene};
 
     /// Takes at most `fuel` steps, as `slice` does. Fewer than `most` lines may wait while the
     /// source is ready, so that one sync of the disk serves them all. Before the source is waited
@@ -338,8 +327,9 @@ impl Worker {
         // It runs as a worker does that has no disk. Whatever was promised is kept, by Ok or by any
         // error.
         ensures runs { total_sectors self.old.store.geometry ≤ (D.medium disk.old).sectors
-            → RunsBatch S.gives O.takes fuel most self.old self.new result (D.medium disk.old)
-            (D.medium disk.new) source.old source.new outlet.old outlet.new }
+            → RunsBatch D.medium S.gives O.takes fuel most
+            (scene self.old disk.old source.old outlet.old) result
+            (scene self.new disk.new source.new outlet.new) }
         ensures small { self.old.has_failed ≡ false → IsTooSmallFor self.old (D.medium disk.old)
             → (result ≡ Err (WorkFault.Disk DiskFault.Range)) × (self.new ≡ failed_worker self.old)
             × (disk.new ≡ disk.old) × (source.new ≡ source.old) × (outlet.new ≡ outlet.old) }
@@ -361,8 +351,9 @@ impl Worker {
         outlet: &mut O,
     ) -> Result<Now, WorkFault>
         ensures runs { total_sectors self.old.store.geometry ≤ (D.medium disk.old).sectors
-            → RunsBatch S.gives O.takes watched.entry.fuel most self.old self.new result
-            (D.medium disk.old) (D.medium disk.new) source.old source.new outlet.old outlet.new }
+            → RunsBatch D.medium S.gives O.takes watched.entry.fuel most
+            (scene self.old disk.old source.old outlet.old) result
+            (scene self.new disk.new source.new outlet.new) }
         ensures small { self.old.has_failed ≡ false → IsTooSmallFor self.old (D.medium disk.old)
             → (result ≡ Err (WorkFault.Disk DiskFault.Range)) × (self.new ≡ failed_worker self.old)
             × (disk.new ≡ disk.old) × (source.new ≡ source.old) × (outlet.new ≡ outlet.old) }
@@ -387,8 +378,9 @@ impl Worker {
     ) -> Result<Now, WorkFault>
         requires works { self.old.has_failed ≡ false }
         requires sectors { total_sectors self.old.store.geometry ≤ (D.medium disk.old).sectors }
-        ensures { RunsBatch S.gives O.takes watched.entry.fuel most self.old self.new result
-            (D.medium disk.old) (D.medium disk.new) source.old source.new outlet.old outlet.new }
+        ensures { RunsBatch D.medium S.gives O.takes watched.entry.fuel most
+            (scene self.old disk.old source.old outlet.old) result
+            (scene self.new disk.new source.new outlet.new) }
     {
         let mut queue = Queue::new(self.running.alloc, most);
         let worked = self

@@ -1,7 +1,7 @@
 //! A worker is created on a disk.
 //!
 //! A creation keeps a copy of its configuration, which is lent to it, since it is also written to
-//! the disk.
+//! the disk. Memory is taken for the module, for that copy and for its bytes.
 
 ghost use Rattle.std.specs.Prelude.{◌≡◌, [], IfErr, IfOk};
 ghost use Rattle.wasi_abi.specs.rules.Configs.{AreSettingsWithinLimits};

@@ -1,8 +1,8 @@
 //! Laws of a worker on its disk. The functions do nothing: what they ensure is the law.
 //!
 //! **What a cut leaves has bounds** (`IsBounded`). Its generation is at most as much as has
-//! happened, and the disk has all its sectors. Each call keeps them. So a recovery is refused for
-//! the number of a generation only where so much has happened, and never for too few sectors.
+//! happened, and the disk has all its sectors. Each call keeps these bounds. A recovery is refused
+//! for the number of a generation only where so much has happened, and never for too few sectors.
 
 ghost use Rattle.worker.specs.laws.Adding.{SlicesOnDiskAdd};
 ghost use Rattle.worker.specs.laws.Bounds.{OpenWorkersKeepBounds, StayingKeepsBounds};

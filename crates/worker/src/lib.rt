@@ -25,12 +25,9 @@
 //!   moment leaves what holds all that was promised before. `calls_make_lives` leads from there to
 //!   the restart theorem. The clause speaks of a disk whose answers fit an image in the end: of
 //!   another one nothing is known.
-//! - `Worker::create`: the worker of the accepted module, at its start, in generation 1
-//!   (`created`).
+//! - `Worker::create`: the worker of the accepted module at its start, of generation 1 (`created`).
 //! - `Worker::recover`: nothing is written or told before a good sync, and what the disk then shows
-//!   decides the result (`recovers`, `shown`). Want of memory may end a recovery anywhere, and then
-//!   says only what the layers before have found. One that opens a worker reads heads, image and
-//!   journal once, and commits once.
+//!   decides the result (`recovers`, `shown`). Want of memory may end a recovery anywhere.
 //! - `Worker::slice` runs as a worker without a disk would (`done`, `failed`). Where it says that
 //!   the worker waits or has ended, no line is beyond its process (`abreast`). None is beyond that
 //!   of a worker that is created, or recovered at its end.
@@ -38,12 +35,11 @@
 //!   `carries`). Where it fails, it has run so far as one whose lines go to a list, and `ToldUpTo`
 //!   says how many were told (`failed`).
 //! - `Worker::position` has the worker's numbers (`position_of`). `watched_slice` and
-//!   `watched_batch` are a slice and a batch, of which an onlooker is told them before each
-//!   question.
+//!   `watched_batch` also tell them to an onlooker before each question.
 //! - `Worker::checkpoint` is a barrier and a commit: no later life opens before it (`saved`).
 //!   `Worker::upgrade` is the same, and saves the process in version 2 (`done`).
 //! - `read_survey`, `inspect`: what a disk shows, in numbers or whole. Nothing is written.
-//! - `read_legacy`: what a worker leaves that is parked, and that it isn't, exactly (`HandsOver`).
+//! - `read_legacy`: what a parked worker leaves, or that it isn't parked, exactly (`HandsOver`).
 //!   Nothing is written. `create_from`: a worker with other code goes on from there. A cut leaves
 //!   none, or one that holds all that is promised of it (`keeps`).
 //! - After an error no call does anything: each answers `Failed` (`fails`, `refused`).
@@ -59,9 +55,8 @@
 //!
 //! Only this crate decides when records are kept, when they are put on the disk, and when a process
 //! is saved. A worker is handed its disk at each call, and keeps none. `disk_commands` and
-//! `story_commands` call it. Its slices are those of `record_replay`, and its store is that of
-//! `worker_store`. A creation takes memory for the module, for a copy of the configuration and for
-//! its bytes. A recovery takes some for all that it reads. The other calls take none but what the
+//! `story_commands` use the crate. Slices are those of `record_replay`, and the store is that of
+//! `worker_store`. A creation and a recovery take memory. The other calls take none but what the
 //! process and the journal take.
 #![tactic(auto)]
 

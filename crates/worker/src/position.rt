@@ -2,9 +2,9 @@
 //!
 //! # Choices
 //!
-//! - **An onlooker is told by shared references, and answers nothing.** So a slice with one is a
-//!   slice without, and no clause of it speaks of the onlooker. That one is told before each
-//!   question is in no clause either: `scripts/runs/disk-rows` shows it.
+//! - **An onlooker is told by shared references, and answers nothing.** A slice with one is a slice
+//!   without, and no clause of it speaks of the onlooker. No clause says either that one is told
+//!   before each question: `scripts/runs/disk-rows` shows it.
 
 ghost use Rattle.std.specs.Prelude.{◌≡◌};
 ghost use Rattle.worker.specs.rules.Positions.{position_at, position_of};

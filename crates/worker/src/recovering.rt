@@ -1,9 +1,13 @@
 //! A worker that is recovered from its disk.
 //!
+//! Where memory is wanting, only what the layers before have found is known. A recovery that opens
+//! a worker reads heads, image and journal once, and commits once. Memory is taken for all that is
+//! read.
+//!
 //! # Choices
 //!
 //! - **The promise of a recovery is of a disk that obeys the model.** Of one whose answers fit no
-//!   image nothing can be known. So the clause asks for one image that a cut may leave in the end.
+//!   image nothing can be known. The clause asks for one image that a cut may leave in the end.
 //! - **Until a life has opened, a cut may leave any of the answers kept so far.** The opening then
 //!   keeps those of the prefix on which it opens, and no others.
 
@@ -82,7 +86,7 @@ fn revive<D: Disk, O: Outlet>(
         generation,
         process_image,
     };
-    match replay(alloc, process, records.as_slice(), outlet) {
+    match replay(process, records.as_slice(), outlet) {
         Ok((process, replayed)) => open_again(alloc, disk, last, process, replayed),
         Err(fault) => Err(RecoverFault::from(fault)),
     }

@@ -1,7 +1,7 @@
 //! Slices of a worker on its disk.
 //!
-//! **What a call exchanged with source and outlet doesn't hang on what was promised.** So any
-//! source and any outlet may be in the theorem, which is told what they did afterwards.
+//! **What a call exchanged with source and outlet doesn't hang on what was promised.** Any source
+//! and any outlet may be in the theorem, which is told what they did afterwards.
 
 ghost use Rattle.std.specs.Prelude.{◌≡◌, ◌≢◌, ◌≤◌, [], false, true, IfErr, IfOk, OnOk};
 ghost use Rattle.process.specs.rules.Values.{IsProcess, waiting_in};
@@ -72,6 +72,7 @@ impl Worker {
     ghost use Rattle.std.specs.Prelude.{Err};
     ghost use Rattle.worker.specs.rules.Effects.{RunsSlice};
     ghost use Rattle.worker.specs.rules.DurableValues.{IsTooSmallFor, failed_worker};
+    ghost use Rattle.worker.specs.rules.Scenes.{scene};
 
     /// Takes at most `fuel` steps: answers from the source, lines to the outlet. Before a line is
     /// released all answers are on the disk, and so they are before a sync of the guest returns.
@@ -90,8 +91,9 @@ impl Worker {
         // It runs as a worker does that has no disk. Whatever was promised is kept, by Ok or by any
         // error.
         ensures runs { total_sectors self.old.store.geometry ≤ (D.medium disk.old).sectors
-            → RunsSlice S.gives O.takes fuel self.old self.new result (D.medium disk.old)
-            (D.medium disk.new) source.old source.new outlet.old outlet.new }
+            → RunsSlice D.medium S.gives O.takes fuel
+            (scene self.old disk.old source.old outlet.old) result
+            (scene self.new disk.new source.new outlet.new) }
         ensures small { self.old.has_failed ≡ false → IsTooSmallFor self.old (D.medium disk.old)
             → (result ≡ Err (WorkFault.Disk DiskFault.Range)) × (self.new ≡ failed_worker self.old)
             × (disk.new ≡ disk.old) × (source.new ≡ source.old) × (outlet.new ≡ outlet.old) }
@@ -112,8 +114,9 @@ impl Worker {
         onlooker: &T,
     ) -> Result<Now, WorkFault>
         ensures runs { total_sectors self.old.store.geometry ≤ (D.medium disk.old).sectors
-            → RunsSlice S.gives O.takes fuel self.old self.new result (D.medium disk.old)
-            (D.medium disk.new) source.old source.new outlet.old outlet.new }
+            → RunsSlice D.medium S.gives O.takes fuel
+            (scene self.old disk.old source.old outlet.old) result
+            (scene self.new disk.new source.new outlet.new) }
         ensures small { self.old.has_failed ≡ false → IsTooSmallFor self.old (D.medium disk.old)
             → (result ≡ Err (WorkFault.Disk DiskFault.Range)) × (self.new ≡ failed_worker self.old)
             × (disk.new ≡ disk.old) × (source.new ≡ source.old) × (outlet.new ≡ outlet.old) }
@@ -138,8 +141,9 @@ impl Worker {
     ) -> Result<Now, WorkFault>
         requires works { self.old.has_failed ≡ false }
         requires sectors { total_sectors self.old.store.geometry ≤ (D.medium disk.old).sectors }
-        ensures { RunsSlice S.gives O.takes fuel self.old self.new result (D.medium disk.old)
-            (D.medium disk.new) source.old source.new outlet.old outlet.new }
+        ensures { RunsSlice D.medium S.gives O.takes fuel
+            (scene self.old disk.old source.old outlet.old) result
+            (scene self.new disk.new source.new outlet.new) }
     {
         match self.running.work(disk, fuel, source, outlet, onlooker) {
             Ok(now) => Ok(now),

@@ -10,13 +10,12 @@ ghost use Rattle.sector_disk.specs.rules.Medium.{CallsUpTo};
 ghost use Rattle.disk_layout.specs.rules.Places.{total_sectors};
 ghost use Rattle.record_replay.specs.rules.Waiting.{ReleasesAll};
 ghost use Rattle.record_replay.specs.Turns.{AsksOnce};
-ghost use Rattle.worker.specs.DurableTurns.{AsksTurn, Hears, MakesNoRoom, MakesRoom};
-ghost use Rattle.worker.specs.DurableTurns.{Flushes, FlushesVainly, AsksVainly};
-ghost use Rattle.worker.specs.DurableTurns.{HasRoom, IsOfStoreFault};
-ghost use Rattle.worker.specs.DurableTurns.{FlushesInVain, TakesNone, TakesOnRecord};
+ghost use Rattle.worker.specs.DurableTurns.{AsksTurn, FlushesTurn, IsAskFault, IsFlushFault};
+ghost use Rattle.worker.specs.DurableTurns.{Hears, HasRoom, IsOfStoreFault, MakesNoRoom};
+ghost use Rattle.worker.specs.DurableTurns.{MakesRoom, TakesNone, TakesOnRecord};
 ghost use Rattle.worker.specs.rules.CallCounts.{most_saving};
 ghost use Rattle.worker.specs.BatchTurns.{AsksHolding};
-ghost use Rattle.worker.specs.StoreTurns.{HearsOrNot, PaysCalls, StoreGoes, StoreRuns};
+ghost use Rattle.worker.specs.StoreTurns.{HearsOrNot, LeavesStore, StoreGoes, StoreRuns};
 
 use crate::fault::WorkFault;
 use crate::running_worker::RunningWorker;
@@ -37,17 +36,11 @@ impl RunningWorker {
         requires { total_sectors self.old.store.geometry ≤ (D.medium disk.old).sectors }
         ensures all { OnOk result
             (ReleasesAll O.takes self.old.process self.new.process outlet.old outlet.new) }
-        ensures flushes { OnOk result (Flushes O.takes self.old self.new (D.medium disk.old)
-            (D.medium disk.new) outlet.old outlet.new) }
-        ensures fails { IfErr result (λ why. FlushesInVain O.takes self.old why self.new
-            (D.medium disk.old) (D.medium disk.new) outlet.old outlet.new) }
-        ensures failed { IfErr result (λ why. FlushesVainly O.takes self.old.process why
+        ensures turn { FlushesTurn O.takes self.old result self.new (D.medium disk.old)
+            (D.medium disk.new) outlet.old outlet.new }
+        ensures fault { IfErr result (λ why. IsFlushFault O.takes self.old.process why
             self.new.process outlet.old outlet.new) }
-        ensures runs { StoreRuns result self.old.store self.new.store (D.medium disk.old)
-            (D.medium disk.new) }
-        ensures places { self.new.store.geometry ≡ self.old.store.geometry }
-        ensures sectors { (D.medium disk.new).sectors ≡ (D.medium disk.old).sectors }
-        ensures asks { PaysCalls result self.old.store self.new.store (D.medium disk.old)
+        ensures store { LeavesStore result self.old.store self.new.store (D.medium disk.old)
             (D.medium disk.new) }
     {
         self.store.barrier(disk)?;
@@ -69,11 +62,11 @@ impl RunningWorker {
             (Ok is_there) self.new.process source.old source.new) }
         ensures released { self.new.process.host.released ≡ self.old.process.host.released }
         ensures abreast { OnOk result (self.new.is_abreast ≡ true) }
-        ensures asks { AsksTurn S.gives self.old question result self.new (D.medium disk.old)
+        ensures turn { AsksTurn S.gives self.old question result self.new (D.medium disk.old)
             (D.medium disk.new) source.old source.new }
         ensures holding { AsksHolding D.medium S.gives self.old question result self.new
             disk.old disk.new source.old source.new }
-        ensures failed { IfErr result (λ why. AsksVainly S.gives self.old question why self.new
+        ensures fault { IfErr result (λ why. IsAskFault S.gives self.old question why self.new
             source.old source.new) }
         ensures goes { result ≡ Err (WorkFault.Work SliceFault.Source)
             → StoreGoes self.old.store self.new.store (D.medium disk.old) (D.medium disk.new) }
@@ -97,9 +90,9 @@ impl RunningWorker {
         ensures same { self.new.process ≡ self.old.process }
         ensures made { OnOk result (MakesRoom self.old self.new (D.medium disk.old)
             (D.medium disk.new)) }
-        ensures fails { IfErr result (λ why. MakesNoRoom self.old why self.new
+        ensures unmade { IfErr result (λ why. MakesNoRoom self.old why self.new
             (D.medium disk.old) (D.medium disk.new)) }
-        ensures failed { IfErr result IsOfStoreFault }
+        ensures fault { IfErr result IsOfStoreFault }
         ensures lacking { OnErr result (HasRoom self.old → ⊥) }
         ensures runs { StoreRuns result self.old.store self.new.store (D.medium disk.old)
             (D.medium disk.new) }
@@ -156,7 +149,7 @@ impl RunningWorker {
             return Err(WorkFault::Work(SliceFault::Source));
         }
         self.store.append(&entry)?;
-        self.process.give(entry.answer)?;
+        self.process.give(&entry.answer)?;
         let is_numbered = self.process.steps() < NUMBERS_END;
         prove!(is_numbered);
         Ok(())

@@ -27,9 +27,10 @@ use Rattle.record_replay.specs.Turns.{working}
 use Rattle.worker.specs.declared.fault.WorkFault.{WorkFault}
 use Rattle.worker.specs.declared.fault.WorkFault.TheVariants.{Work}
 use Rattle.worker.specs.declared.running_worker.RunningWorker.{RunningWorker}
-use Rattle.worker.specs.rules.Batches.{taking, BatchCarries, BatchFails, HasUntakenAnswer}
-use Rattle.worker.specs.rules.DurableCalls.{IsReplyOf}
-use Rattle.worker.specs.rules.DurableValues.{DurableValue, durable_of}
+use Rattle.worker.specs.rules.Batches.{taking, BatchFails, HasUntakenAnswer}
+use Rattle.worker.specs.rules.DurableCalls.{CallKeeps, IsReplyOf}
+use Rattle.worker.specs.rules.Scenes.{scene}
+use Rattle.worker.specs.rules.DurableValues.{durable_of}
 use Rattle.worker.specs.rules.OpenWorkers.{IsOpenOn}
 use Rattle.worker.specs.DurableTurns.{Course, to_tell}
 use Rattle.worker.specs.BatchTurns.{held_as_begun, EndsBatch, LeavesBatch, WorksInBatch, TellsRest}
@@ -38,7 +39,7 @@ use Rattle.worker.specs.StoreTurns.{HasTurnCause, StoreGoes, StoreStops, StoreRu
 use Rattle.worker.proofs.StoreTurnLemmas.{goes_join, goes_stop, stops_join}
 use Rattle.worker.proofs.DurableLemmas.Ends.{not_open}
 use Rattle.worker.proofs.DurableLemmas.Holding.{none_to_tell}
-use Rattle.worker.proofs.DurableLemmas.Working.{call_carries, nothing_alone}
+use Rattle.worker.proofs.DurableLemmas.Working.{call_carries}
 use Rattle.worker.proofs.DurableLemmas.Batching.{BatchSoFar, BatchFailed, BatchOver}
 use Rattle.worker.proofs.DurableLemmas.BatchParts.{StopsAt}
 use Rattle.worker.proofs.DurableLemmas.Batching.{batch_over, stopped_told}
@@ -324,9 +325,9 @@ module _ {D S O : Type 0} (medium : D → Medium) (gives : Giving S) (takes : Ta
       → store ≡ new.store)
       → BatchOver medium gives takes old fuel most result new disk disk' source source' outlet
       outlet'
-      → BatchCarries gives takes (durable_of old replayed) fuel most result
-      (durable_of (record new { store = store }) replayed) (medium disk) (medium disk') source
-      source' outlet outlet'
+      → CallKeeps medium gives takes (Batch fuel most)
+      (scene (durable_of old replayed) disk source outlet) result
+      (scene (durable_of (record new { store = store }) replayed) disk' source' outlet')
   carries_by store result same over = (
     over.0,
     over.1,
@@ -347,33 +348,23 @@ module _ {D S O : Type 0} (medium : D → Medium) (gives : Giving S) (takes : Ta
           call_carries medium c promise stage ended.0 over.0 new store replayed disk disk'
               ended.3 over.3 tt (same ended.0 ended.1),
         ),
+    tt,
   )
 
   pub batch_carries : (why : Now)
       → BatchOver medium gives takes old fuel most (Ok why) new disk disk' source source' outlet
       outlet'
-      → BatchCarries gives takes (durable_of old replayed) fuel most (Ok why)
-      (durable_of new replayed) (medium disk) (medium disk') source source' outlet outlet'
+      → CallKeeps medium gives takes (Batch fuel most)
+      (scene (durable_of old replayed) disk source outlet) (Ok why)
+      (scene (durable_of new replayed) disk' source' outlet')
   batch_carries why over = carries_by new.store (Ok why) (λ reply is ended. refl) over
 
   pub batch_fails : (store : WorkerStore) (why : WorkFault)
       → BatchOver medium gives takes old fuel most (Err why) new disk disk' source source' outlet
       outlet'
-      → BatchCarries gives takes (durable_of old replayed) fuel most (Err why)
-      (durable_of (record new { store = store }) replayed) (medium disk) (medium disk') source
-      source' outlet outlet'
+      → CallKeeps medium gives takes (Batch fuel most)
+      (scene (durable_of old replayed) disk source outlet) (Err why)
+      (scene (durable_of (record new { store = store }) replayed) disk' source' outlet')
   batch_fails store why over =
       carries_by store (Err why)
       (λ reply is ended. absurd (not_open is.0 (ap phase_ended (sym is.2) ∙ ended))) over
-
--- one that has failed is not open
-pub failed_batch_carries : {S O : Type 0} (gives : Giving S) (takes : Taking O)
-    (old new : DurableValue) (fuel most : ℕ) (result : Result Now WorkFault) (disk disk' : Medium)
-    (source : S) (outlet : O) → old.has_failed ≡ true
-    → BatchCarries gives takes old fuel most result new disk disk' source source outlet outlet
-failed_batch_carries gives takes old new fuel most result disk disk' source outlet failed = (
-  [],
-  nothing_alone gives takes source outlet,
-  λ m config guest promise stage p acts open_on next_act foretold.
-      let works = open_on.works in absurd (cc),
-)

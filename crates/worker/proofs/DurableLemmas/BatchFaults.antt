@@ -41,7 +41,7 @@ use Rattle.worker.specs.rules.Batches.{BatchFails, HasUntakenAnswer}
 use Rattle.disk_layout.specs.rules.Journal.{Record}
 use Rattle.worker.specs.rules.DurableFailures.{IsDiskCause, StopsForMemory}
 use Rattle.worker.specs.rules.WorkFaults.{fault_of_store}
-use Rattle.worker.specs.DurableTurns.{to_tell, AsksVainly, HearsBy, HasRoom, HoldsNoLine}
+use Rattle.worker.specs.DurableTurns.{to_tell, IsAskFault, HearsBy, HasRoom, HoldsNoLine}
 use Rattle.worker.specs.BatchTurns.{held_as_begun, IsBarrierFault, RefusesOne, TellsVainly}
 use Rattle.worker.specs.BatchTurns.{StopsInBatch}
 use Rattle.worker.proofs.DurableLemmas.InVain.{disk_cause_of, up_to_now, stays_at, memory_for}
@@ -379,7 +379,7 @@ module _ {S O : Type 0} (gives : Giving S) (takes : Taking O) where
     all_told (inr room) lacks = absurd (lacks room)
 
     pub asked_so : (why : WorkFault) → why ≢ Work slice.Source
-        → HoldsNoLine (held_as_begun lines) w → AsksVainly gives w question why w' t u
+        → HoldsNoLine (held_as_begun lines) w → IsAskFault gives w question why w' t u
         → BatchFails gives takes old fuel why w'.process s u o q
     asked_so why other free (inl stored) =
         let by = stored.0 in
@@ -429,7 +429,7 @@ module _ {S O : Type 0} (gives : Giving S) (takes : Taking O) where
         refused_same mid.process a h.fault w'.process at h.given
 
     -- no line waits then
-    pub still_empty : (why : WorkFault) → AsksVainly gives w question why w' t u
+    pub still_empty : (why : WorkFault) → IsAskFault gives w question why w' t u
         → waiting_in w'.process ≡ []
     still_empty why (inl stored) = ap waiting_in stored.1 ∙ questioning.empty
     still_empty why (inr heard) =

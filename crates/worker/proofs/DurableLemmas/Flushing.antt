@@ -1,6 +1,6 @@
 -- What is owed for a step: records on the disk, and then lines that are released.
 use Rattle.std.proofs.Common.{◌≡◌, ℕ, suc, ◌+◌, ◌-◌, ◌≤◌, List, [], ◌++◌, length, drop}
-use Rattle.std.proofs.Common.{refl, sym, ap, ◌∙◌, subst, arith, ◌∷◌, Err}
+use Rattle.std.proofs.Common.{refl, sym, ap, ◌∙◌, subst, arith, ◌∷◌, Ok, Err}
 use Rattle.std.proofs.lemmas.List.{append-nil, drop_all}
 use Rattle.process_rules.specs.Processes.{ProcessState}
 use Rattle.process.specs.rules.Values.{HasReleased, ProcessValue, ShowsProcess, waiting_in}
@@ -40,8 +40,7 @@ use Rattle.worker.specs.rules.OpenWorkers.{IsOnDisk, IsAbreast}
 use Rattle.worker.specs.rules.DurableCalls.{ComesOf, HasCauseAt}
 use Rattle.worker.specs.DurableTurns.{Course, to_tell}
 use Rattle.worker.specs.BatchTurns.{FlushesAll, FlushesNot, IsTellingTurn, RefusesOne, TurnTells}
-use Rattle.worker.specs.DurableTurns.{TurnFails, slice_end, told_lines_of, Flushes}
-use Rattle.worker.specs.DurableTurns.{FlushesInVain}
+use Rattle.worker.specs.DurableTurns.{TurnFails, slice_end, told_lines_of, FlushesTurn}
 use Rattle.worker.proofs.AbreastLemmas.{abreast_on, told_changes_none}
 use Rattle.worker.proofs.SavingLemmas.{barrier_fault}
 use Rattle.worker.proofs.DurableLemmas.OnDisk.{reached_now, fewer_syncs}
@@ -368,7 +367,7 @@ module _ {D O : Type 0} (medium : D → Medium) (takes : Taking O) (w : RunningW
   -- where none is
   pub flush_not_stored : (fault : StoreFault) (outlet : O)
       → BarrierFails w.store (medium disk) (medium disk') fault
-      → FlushesInVain takes w (fault_of_store fault) (with_store w after) (medium disk)
+      → FlushesTurn takes w (Err (fault_of_store fault)) (with_store w after) (medium disk)
       (medium disk') outlet outlet
   flush_not_stored fault outlet fails =
       let none = flushes_not [] fault outlet fails in (
@@ -384,7 +383,7 @@ module _ {D O : Type 0} (medium : D → Medium) (takes : Taking O) (w : RunningW
       (outlet outlet' : O) (same_store : w'.store ≡ after)
       (same_says : w'.is_abreast ≡ w.is_abreast) where
     pub flushes_all : ReleasesAll takes w.process w'.process outlet outlet'
-        → Flushes takes w w' (medium disk) (medium disk') outlet outlet'
+        → FlushesTurn takes w (Ok tt) w' (medium disk) (medium disk') outlet outlet'
     flushes_all released = (
       all_taken (suc w.process.host.released) (waiting_in w.process),
       released.told,
@@ -406,7 +405,8 @@ module _ {D O : Type 0} (medium : D → Medium) (takes : Taking O) (w : RunningW
     )
 
     pub flushes_some : ReleasesSome takes w.process w'.process outlet outlet'
-        → FlushesInVain takes w (Work slice.Outlet) w' (medium disk) (medium disk') outlet outlet'
+        → FlushesTurn takes w (Err (Work slice.Outlet)) w' (medium disk) (medium disk') outlet
+        outlet'
     flushes_some some =
         let refused = refuses_queue [] all w' same_store same_says outlet outlet' some.same
         (waiting_refused takes [] w.process outlet outlet outlet' w'.process refl some) in (

@@ -35,7 +35,7 @@ use Rattle.worker.specs.DurableTurns.{to_tell, HoldsNoLine}
 use Rattle.worker.specs.BatchTurns.{held_as_begun, HasEnded, HoldsLines, TellsQueue, FailsQueue}
 use Rattle.worker.specs.BatchTurns.{HoldsOrTells, FreesOrTells, StopsInBatch}
 use Rattle.worker.specs.BatchTurns.{WorksInBatch, AsksHolding, AsksThenFails}
-use Rattle.worker.specs.StoreTurns.{StoreGoes, StoreStops, PaysCalls, HasTurnCause}
+use Rattle.worker.specs.StoreTurns.{StoreGoes, StoreStops, HasTurnCause, LeavesStore}
 use Rattle.worker.proofs.StoreTurnLemmas.{goes_none, goes_join, stops_join, process_cause}
 use Rattle.worker.proofs.DurableLemmas.InVain.{as_on_disk, asked_vainly as heard_vainly}
 use Rattle.worker.proofs.DurableLemmas.Advancing.{with_process, says_abreast}
@@ -295,16 +295,13 @@ module _ {D S O : Type 0} (medium : D → Medium) (gives : Giving S) (takes : Ta
             sectors = i.sectors;
           }
 
-      module _ (disk' : D) (r : O)
-          (long : (medium disk').sectors ≡ (medium mid).sectors)
-          (places : w'.store.geometry ≡ w.store.geometry) where
+      module _ (disk' : D) (r : O) where
         -- they are told
         told_on : (lines' : List NumberedLine)
             → TellsQueue takes (with_process w v) lines w' lines' (medium mid) (medium disk') q r
-            → StoreGoes w.store w'.store (medium mid) (medium disk')
-            → PaysCalls {T = Unit {0}} (Ok tt) w.store w'.store (medium mid) (medium disk')
+            → LeavesStore {T = Unit {0}} (Ok tt) w.store w'.store (medium mid) (medium disk')
             → InBatch old w' fuel most first lines' disk disk' s t o r
-        told_on lines' h goes pays =
+        told_on lines' h leaves =
             let tells = h.1 in
             let behind = tells.2 in
             let more : List NumberedLine = numbered_all (first_waiting v) (waiting_in v) in
@@ -339,23 +336,22 @@ module _ {D S O : Type 0} (medium : D → Medium) (gives : Giving S) (takes : Ta
                   (owing_now medium gives takes old fuel most (held_as_begun lines) w v fuel_left
                   disk
                   mid s t o q i.so_far fuel_left_there same same_guest advances) i.sectors
-                  to_outlet h.2 pays;
+                  to_outlet h.2 leaves.pays;
               goes = goes_join old.store w.store (medium disk) (medium mid) i.goes w'.store
-                  (medium disk') goes;
-              places = places ∙ i.places;
-              sectors = long ∙ i.sectors;
+                  (medium disk') leaves.runs;
+              places = leaves.places ∙ i.places;
+              sectors = leaves.sectors ∙ i.sectors;
             })
 
         pub owed_in : (lines' : List NumberedLine)
             → HoldsOrTells medium takes most (with_process w v) lines w' lines' mid disk' q r
-            → StoreGoes w.store w'.store (medium mid) (medium disk')
-            → PaysCalls {T = Unit {0}} (Ok tt) w.store w'.store (medium mid) (medium disk')
+            → LeavesStore {T = Unit {0}} (Ok tt) w.store w'.store (medium mid) (medium disk')
             → InBatch old w' fuel most first lines' disk disk' s t o r
-        owed_in lines' (inl h) goes pays =
+        owed_in lines' (inl h) leaves =
             subst (λ d. InBatch old w' fuel most first lines' disk d s t o r) (sym h.1)
             (subst (λ z. InBatch old w' fuel most first lines' disk mid s t o z) (sym h.2)
             (held_on lines' h.0))
-        owed_in lines' (inr h) goes pays = told_on lines' h goes pays
+        owed_in lines' (inr h) leaves = told_on lines' h leaves
 
         pub owed_lower : (lines' : List NumberedLine)
             → HoldsOrTells medium takes most (with_process w v) lines w' lines' mid disk' q r
@@ -376,21 +372,20 @@ module _ {D S O : Type 0} (medium : D → Medium) (gives : Giving S) (takes : Ta
         -- they aren't
         pub unowed_in : (lines' : List NumberedLine) (why : WorkFault)
             → FailsQueue takes (with_process w v) lines why w' (medium mid) (medium disk') q r
-            → StoreStops w.store w'.store why (medium mid) (medium disk')
-            → PaysCalls {T = Unit {0}} (Err why) w.store w'.store (medium mid) (medium disk')
+            → LeavesStore {T = Unit {0}} (Err why) w.store w'.store (medium mid) (medium disk')
             → WorksInBatch medium gives takes old fuel most (Err why) w' lines' disk disk' s t o r
-        unowed_in lines' why h stopped pays =
+        unowed_in lines' why h leaves =
             fails_so old w' fuel most why lines' disk disk' s t o r h.0
             (owing_untold medium gives takes old fuel most (held_as_begun lines) (with_process w v)
             w'
             disk mid disk' s t o q r
             (owing_now medium gives takes old fuel most (held_as_begun lines) w v fuel_left disk mid
             s t
-            o q i.so_far fuel_left_there same same_guest advances) i.sectors why h.2 pays)
+            o q i.so_far fuel_left_there same same_guest advances) i.sectors why h.2 leaves.pays)
             (untold_so gives takes old.process (with_process w v) w'.process fuel first s t o q r
             i.told i.kept lines i.kept_is owing_turn i.released why h.1)
             (stops_join old.store w.store (medium disk) (medium mid) i.goes w'.store why
-            (medium disk') stopped)
+            (medium disk') leaves.runs)
 
   -- ---- questions
 
@@ -463,14 +458,11 @@ module _ {D S O : Type 0} (medium : D → Medium) (gives : Giving S) (takes : Ta
 
   module _ (old w w' : RunningWorker) (fuel most first : ℕ) (question : Question)
       (lines lines' : List NumberedLine) (disk mid disk' : D) (s t : S) (o q r : O)
-      (i : AtQuestion old w fuel most first question lines disk mid s t o q)
-      (long : (medium disk').sectors ≡ (medium mid).sectors)
-      (places : w'.store.geometry ≡ w.store.geometry) where
+      (i : AtQuestion old w fuel most first question lines disk mid s t o q) where
     asked_told : TellsQueue takes w lines w' lines' (medium mid) (medium disk') q r
-        → StoreGoes w.store w'.store (medium mid) (medium disk')
-        → PaysCalls {T = Unit {0}} (Ok tt) w.store w'.store (medium mid) (medium disk')
+        → LeavesStore {T = Unit {0}} (Ok tt) w.store w'.store (medium mid) (medium disk')
         → AtQuestion old w' fuel most first question lines' disk disk' s t o r
-    asked_told h goes pays =
+    asked_told h leaves =
         let tells = h.1 in
         let behind = tells.2 in
         let empty : waiting_in w.process ≡ [] =
@@ -499,26 +491,25 @@ module _ {D S O : Type 0} (medium : D → Medium) (gives : Giving S) (takes : Ta
           few = no_line most;
           so_far = asking_told medium gives takes old fuel most question (held_as_begun lines) w w'
               disk
-              mid disk' s t o q r i.so_far i.sectors stays to_outlet h.2 pays;
+              mid disk' s t o q r i.so_far i.sectors stays to_outlet h.2 leaves.pays;
           goes = goes_join old.store w.store (medium disk) (medium mid) i.goes w'.store
-              (medium disk') goes;
-          places = places ∙ i.places;
-          sectors = long ∙ i.sectors;
+              (medium disk') leaves.runs;
+          places = leaves.places ∙ i.places;
+          sectors = leaves.sectors ∙ i.sectors;
         })
 
     -- lines were told before it, or it is free to be asked
     pub freed_in : FreesOrTells medium takes w lines w' lines' mid disk' q r
-        → StoreGoes w.store w'.store (medium mid) (medium disk')
-        → PaysCalls {T = Unit {0}} (Ok tt) w.store w'.store (medium mid) (medium disk')
+        → LeavesStore {T = Unit {0}} (Ok tt) w.store w'.store (medium mid) (medium disk')
         → AtQuestion old w' fuel most first question lines' disk disk' s t o r
-    freed_in (inl h) goes pays =
+    freed_in (inl h) leaves =
         subst (λ z. AtQuestion old w' fuel most first question lines' disk disk' s t o z)
         (sym h.4)
         (subst (λ d. AtQuestion old w' fuel most first question lines' disk d s t o q) (sym h.3)
         (subst (λ l. AtQuestion old w' fuel most first question l disk mid s t o q) (sym h.2)
         (subst (λ (k : RunningWorker). AtQuestion old k fuel most first question lines disk mid s t
         o q) (sym h.1) i)))
-    freed_in (inr h) goes pays = asked_told h goes pays
+    freed_in (inr h) leaves = asked_told h leaves
 
     pub free_in : FreesOrTells medium takes w lines w' lines' mid disk' q r
         → HoldsNoLine (held_as_begun lines') w'
@@ -529,18 +520,17 @@ module _ {D S O : Type 0} (medium : D → Medium) (gives : Giving S) (takes : Ta
 
     pub unfreed_in : (why : WorkFault)
         → FailsQueue takes w lines why w' (medium mid) (medium disk') q r
-        → StoreStops w.store w'.store why (medium mid) (medium disk')
-        → PaysCalls {T = Unit {0}} (Err why) w.store w'.store (medium mid) (medium disk')
+        → LeavesStore {T = Unit {0}} (Err why) w.store w'.store (medium mid) (medium disk')
         → WorksInBatch medium gives takes old fuel most (Err why) w' lines' disk disk' s t o r
-    unfreed_in why h stopped pays =
+    unfreed_in why h leaves =
         let questioning = i.questioning in
         fails_so old w' fuel most why lines' disk disk' s t o r h.0
         (asking_untold medium gives takes old fuel most question (held_as_begun lines) w w' disk mid
-        disk' s t o q r i.so_far i.sectors why h.2 pays)
+        disk' s t o q r i.so_far i.sectors why h.2 leaves.pays)
         (untold_so gives takes old.process w w'.process fuel first s t o q r i.told i.kept lines
         i.kept_is questioning.turning i.released why h.1)
         (stops_join old.store w.store (medium disk) (medium mid) i.goes w'.store why
-        (medium disk') stopped)
+        (medium disk') leaves.runs)
 
   module _ (old w w' : RunningWorker) (fuel most first : ℕ) (question : Question)
       (lines : List NumberedLine) (disk mid disk' : D) (s t u : S) (o q : O)

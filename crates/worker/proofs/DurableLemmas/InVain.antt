@@ -37,7 +37,7 @@ use Rattle.worker.specs.rules.WorkFaults.{fault_of_store}
 use Rattle.worker.specs.rules.DurableFailures.{StopsAtDisk, StopsAtStore, StopsAtQuestion}
 use Rattle.worker.specs.rules.DurableFailures.{StopsForMemory, IsDiskCause}
 use Rattle.worker.specs.rules.DurableFailures.{SlicesOnDiskInVain}
-use Rattle.worker.specs.DurableTurns.{FlushesVainly, AsksVainly, Hears}
+use Rattle.worker.specs.DurableTurns.{IsFlushFault, IsAskFault, Hears}
 use Rattle.worker.specs.DurableTurns.{HearsBy, IsMisfit, LacksRecord, IsNotTaken}
 
 -- ---- faults
@@ -146,7 +146,7 @@ module _ {S O : Type 0} (gives : Giving S) (takes : Taking O) where
         )
 
     pub flushed_vainly : (why : WorkFault) (new : ProcessValue) (r : O)
-        → FlushesVainly takes v why new q r
+        → IsFlushFault takes v why new q r
         → SlicesOnDiskInVain gives takes old fuel why new s t o r
     flushed_vainly why new r (inl stored) =
         subst (λ z. SlicesOnDiskInVain gives takes old fuel why z s t o r) (sym stored.4)
@@ -342,7 +342,7 @@ module _ {S O : Type 0} (gives : Giving S) (takes : Taking O) where
           rest) h
 
     pub asked_vainly : (from new : RunningWorker) (why : WorkFault) (u : S) → from.process ≡ v
-        → AsksVainly gives from question why new t u
+        → IsAskFault gives from question why new t u
         → SlicesOnDiskInVain gives takes old fuel why new.process s u o q
     asked_vainly from new why u at (inl stored) =
         let by = stored.0 in
@@ -359,7 +359,7 @@ module _ {S O : Type 0} (gives : Giving S) (takes : Taking O) where
 pub hears_in_vain : {S : Type 0} (gives : Giving S) (old mid new : RunningWorker)
     (question : Question) (step : ℕ) (result : Result Bool WorkFault) (source source' : S)
     → mid.process ≡ old.process → Hears gives mid question step result new source source'
-    → IfErr result (λ why. AsksVainly gives old question why new source source')
+    → IfErr result (λ why. IsAskFault gives old question why new source source')
 hears_in_vain gives old mid new question step (Ok b) source source' same h = tt
 hears_in_vain gives old mid new question step (Err why) source source' same h =
     inr (mid, step, same, h)

@@ -20,9 +20,9 @@ use Rattle.worker.specs.declared.running_worker.RunningWorker.{RunningWorker}
 use Rattle.record_replay.specs.rules.Refusals.{slice_fault}
 use Rattle.record_replay.specs.rules.Slices.{Slices}
 use Rattle.record_replay.specs.Turns.{working, AsksOnce}
-use Rattle.worker.specs.DurableTurns.{Hears, Flushes, FlushesInVain, AsksTurn, WorksOn}
-use Rattle.worker.specs.DurableTurns.{FlushesVainly, AsksVainly}
-use Rattle.worker.specs.StoreTurns.{StoreGoes, StoreStops, StoreRuns, PaysCalls}
+use Rattle.worker.specs.DurableTurns.{Hears, FlushesTurn, AsksTurn, WorksOn}
+use Rattle.worker.specs.DurableTurns.{IsFlushFault, IsAskFault}
+use Rattle.worker.specs.StoreTurns.{StoreGoes, StoreStops, StoreRuns, PaysCalls, LeavesStore}
 use Rattle.worker.specs.rules.CallCounts.{most_saving}
 use Rattle.worker.specs.rules.DurableFailures.{SlicesOnDiskInVain}
 use Rattle.record_replay.proofs.Ending.{measure, Turning, turning_none, owes}
@@ -126,21 +126,19 @@ module _ {D S O : Type 0} (medium : D → Medium) (gives : Giving S) (takes : Ta
     module _ (advances : AdvancesProcess w.process fuel_left (Ok stops.Owes) v) (w' : RunningWorker)
         (disk' : D) (r : O) where
       pub flushed_on : ReleasesAll takes v w'.process q r
-          → Flushes takes (with_process w v) w' (medium mid) (medium disk') q r
-          → StoreGoes w.store w'.store (medium mid) (medium disk')
-          → w'.store.geometry ≡ w.store.geometry → (medium disk').sectors ≡ (medium mid).sectors
-          → PaysCalls {T = Unit {0}} (Ok tt) w.store w'.store (medium mid) (medium disk')
+          → FlushesTurn takes (with_process w v) (Ok tt) w' (medium mid) (medium disk') q r
+          → LeavesStore {T = Unit {0}} (Ok tt) w.store w'.store (medium mid) (medium disk')
           → InSlice old w' fuel first disk disk' s t o r
-      flushed_on all flushes goes places sectors pays = record {
+      flushed_on all flushes leaves = record {
         turning = released_all gives takes old.process v w'.process fuel first s t o q r
             (owes gives takes old.process w.process v fuel first fuel_left s t o q
             i.turning fuel_left_is same advances) all;
         so_far = works_flushed medium gives takes old w v fuel fuel_left disk mid s t o q i.so_far
-            fuel_left_there same same_guest i.sectors advances w' disk' r flushes pays;
+            fuel_left_there same same_guest i.sectors advances w' disk' r flushes leaves.pays;
         goes = goes_join old.store w.store (medium disk) (medium mid) i.goes w'.store
-            (medium disk') goes;
-        places = places ∙ i.places;
-        sectors = sectors ∙ i.sectors;
+            (medium disk') leaves.runs;
+        places = leaves.places ∙ i.places;
+        sectors = leaves.sectors ∙ i.sectors;
       }
 
       pub flushed_less : ReleasesAll takes v w'.process q r
@@ -151,14 +149,14 @@ module _ {D S O : Type 0} (medium : D → Medium) (gives : Giving S) (takes : Ta
           (released_steps takes v w'.process q r all)
 
       pub unflushed_on : (why : WorkFault)
-          → FlushesInVain takes (with_process w v) why w' (medium mid) (medium disk') q r
+          → FlushesTurn takes (with_process w v) (Err why) w' (medium mid) (medium disk') q r
           → PaysCalls {T = Unit {0}} (Err why) w.store w'.store (medium mid) (medium disk')
           → WorksOn gives takes old fuel (Err why) w' (medium disk) (medium disk') s t o r
       unflushed_on why flushes pays =
           works_unflushed medium gives takes old w v fuel fuel_left disk mid s t o q i.so_far
           fuel_left_there same same_guest i.sectors advances w' disk' r why flushes pays
 
-      pub unflushed_so_far : (why : WorkFault) → FlushesVainly takes v why w'.process q r
+      pub unflushed_so_far : (why : WorkFault) → IsFlushFault takes v why w'.process q r
           → SlicesOnDiskInVain gives takes old.process fuel why w'.process s t o r
       unflushed_so_far why vain =
           flushed_vainly gives takes old.process v fuel first s t o q
@@ -229,7 +227,7 @@ module _ {D S O : Type 0} (medium : D → Medium) (gives : Giving S) (takes : Ta
           fuel_left_there same same_guest i.sectors question advances w' disk' u few why asked
 
       pub unasked_so_far : (why : WorkFault)
-          → AsksVainly gives (with_process w v) question why w' t u
+          → IsAskFault gives (with_process w v) question why w' t u
           → SlicesOnDiskInVain gives takes old.process fuel why w'.process s u o q
       unasked_so_far why vain =
           asked_vainly gives takes old.process v fuel first s t o q question questioning

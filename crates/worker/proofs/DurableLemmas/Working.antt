@@ -42,12 +42,12 @@ use Rattle.worker.specs.rules.CallCounts.{most_calls, most_saving, CallsForEvent
 use Rattle.worker.specs.StoreTurns.{owed, PaysCalls}
 use Rattle.worker.proofs.CallCountLemmas.{turns_then, turns_end, turn_once, turn_free}
 use Rattle.worker.proofs.CallCountLemmas.{turn_last, owed_within}
-use Rattle.worker.specs.rules.DurableValues.{DurableValue, durable_of}
+use Rattle.worker.specs.rules.DurableValues.{durable_of}
 use Rattle.worker.specs.rules.OpenWorkers.{IsOpenOn}
-use Rattle.worker.specs.rules.DurableCalls.{HasCauseOf, IsReplyOf, CallCarries}
-use Rattle.worker.specs.rules.DurableCalls.{SliceCarries}
+use Rattle.worker.specs.rules.DurableCalls.{HasCauseOf, IsReplyOf, CallCarries, CallKeeps}
+use Rattle.worker.specs.rules.Scenes.{scene}
 use Rattle.worker.specs.DurableTurns.{Course, IsBetweenTurns, TurnGoes, TurnEnds}
-use Rattle.worker.specs.DurableTurns.{slice_end, told_lines_of, Flushes, FlushesInVain}
+use Rattle.worker.specs.DurableTurns.{slice_end, told_lines_of, FlushesTurn}
 use Rattle.worker.specs.DurableTurns.{AsksOutside, AsksTurn, WorksOn}
 use Rattle.record_replay.proofs.Joining.{tells_ask_nothing, releases_of_tells}
 use Rattle.worker.proofs.DurableLemmas.OnDisk.{keeps_now}
@@ -313,7 +313,8 @@ module _ {D S O : Type 0} (medium : D → Medium) (gives : Giving S) (takes : Ta
     -- what is owed
     module _ (advances : AdvancesProcess w.process fuel_left (Ok stops.Owes) v) (w' : RunningWorker)
         (disk' : D) (r : O) where
-      pub works_flushed : Flushes takes (with_process w v) w' (medium mid) (medium disk') q r
+      pub works_flushed : FlushesTurn takes (with_process w v) (Ok tt) w' (medium mid)
+          (medium disk') q r
           → PaysCalls {T = Unit {0}} (Ok tt) w.store w'.store (medium mid) (medium disk')
           → SoFar old fuel w' disk disk' s t o r
       works_flushed flushes pays =
@@ -331,7 +332,7 @@ module _ {D S O : Type 0} (medium : D → Medium) (gives : Giving S) (takes : Ta
           ≤ (medium mid).counted + owed n w.store.journal.kept) long pays))
 
       pub works_unflushed : (why : WorkFault)
-          → FlushesInVain takes (with_process w v) why w' (medium mid) (medium disk') q r
+          → FlushesTurn takes (with_process w v) (Err why) w' (medium mid) (medium disk') q r
           → PaysCalls {T = Unit {0}} (Err why) w.store w'.store (medium mid) (medium disk')
           → WorksOn gives takes old fuel (Err why) w' (medium disk) (medium disk') s t o r
       works_unflushed why flushes pays =
@@ -484,9 +485,9 @@ module _ {D S O : Type 0} (medium : D → Medium) (gives : Giving S) (takes : Ta
       → store ≡ new.store)
       → WorksOn gives takes old fuel result new (medium disk) (medium disk') source source' outlet
       outlet'
-      → SliceCarries gives takes (durable_of old replayed) fuel result
-      (durable_of (record new { store = store }) replayed) (medium disk) (medium disk') source
-      source' outlet outlet'
+      → CallKeeps medium gives takes (Slice fuel)
+      (scene (durable_of old replayed) disk source outlet) result
+      (scene (durable_of (record new { store = store }) replayed) disk' source' outlet')
   carries_by store result same worked = (
     worked.0,
     worked.1,
@@ -507,33 +508,23 @@ module _ {D S O : Type 0} (medium : D → Medium) (gives : Giving S) (takes : Ta
           call_carries medium c promise stage ended.0 worked.0 new store replayed disk disk'
               ended.3 worked.3 tt (same ended.0 ended.1),
         ),
+    tt,
   )
 
   pub slice_carries : (why : Now)
       → WorksOn gives takes old fuel (Ok why) new (medium disk) (medium disk') source source'
       outlet outlet'
-      → SliceCarries gives takes (durable_of old replayed) fuel (Ok why) (durable_of new replayed)
-      (medium disk) (medium disk') source source' outlet outlet'
+      → CallKeeps medium gives takes (Slice fuel)
+      (scene (durable_of old replayed) disk source outlet) (Ok why)
+      (scene (durable_of new replayed) disk' source' outlet')
   slice_carries why worked = carries_by new.store (Ok why) (λ reply is over. refl) worked
 
   pub slice_fails : (store : WorkerStore) (why : WorkFault)
       → WorksOn gives takes old fuel (Err why) new (medium disk) (medium disk') source source'
       outlet outlet'
-      → SliceCarries gives takes (durable_of old replayed) fuel (Err why)
-      (durable_of (record new { store = store }) replayed) (medium disk) (medium disk') source
-      source' outlet outlet'
+      → CallKeeps medium gives takes (Slice fuel)
+      (scene (durable_of old replayed) disk source outlet) (Err why)
+      (scene (durable_of (record new { store = store }) replayed) disk' source' outlet')
   slice_fails store why worked =
       carries_by store (Err why)
       (λ reply is over. absurd (not_open is.0 (ap phase_ended (sym is.2) ∙ over))) worked
-
--- one that has failed is not open
-pub failed_carries : {S O : Type 0} (gives : Giving S) (takes : Taking O) (old new : DurableValue)
-    (fuel : ℕ) (result : Result Now WorkFault) (disk disk' : Medium) (source : S) (outlet : O)
-    → old.has_failed ≡ true
-    → SliceCarries gives takes old fuel result new disk disk' source source outlet outlet
-failed_carries gives takes old new fuel result disk disk' source outlet failed = (
-  [],
-  nothing_alone gives takes source outlet,
-  λ m config guest promise stage p acts open_on next_act foretold.
-      let works = open_on.works in absurd (cc),
-)

@@ -1,7 +1,7 @@
 -- What one call of a worker that is open makes of a life.
 use Rattle.std.proofs.Common.{◌≡◌, ℕ, ◌+◌, ◌<◌, List, [], ◌∷◌, ◌++◌, refl, sym, ap, ◌∙◌}
 use Rattle.std.proofs.Common.{subst, inl, inr, arith, length, length-append}
-use Rattle.std.specs.Prelude.{◌⊎◌, Ok, None, true}
+use Rattle.std.specs.Prelude.{◌⊎◌, Ok, Err, None, true}
 use Rattle.std.proofs.lemmas.List.{append-nil}
 use Rattle.wasm_syntax.specs.declared.module.Module.{Module}
 use Rattle.wasi_abi.specs.rules.Configs.{Settings}
@@ -12,7 +12,9 @@ use Rattle.process.specs.rules.Values.{ProcessValue}
 use Rattle.sector_disk.specs.rules.DiskImage.{DiskImage}
 use Rattle.sector_disk.specs.rules.Medium.{Medium, Passes}
 use Rattle.record_replay.specs.rules.Calls.{Exchange}
-use Rattle.worker_store.specs.restart_theorem.Lives.{Act, Cause, OfDisk, Reply}
+use Rattle.worker_store.specs.restart_theorem.Lives.{Act, Slice, Batch, Checkpoint, Cause}
+use Rattle.worker_store.specs.restart_theorem.Lives.{OfDisk, Reply}
+use Rattle.worker_store.specs.restart_theorem.Lives.Act.{Upgrade as upgrading}
 use Rattle.worker_store.specs.restart_theorem.Lives.{Fails, Event, Ended, told_in, kept_by_end}
 use Rattle.worker_store.specs.restart_theorem.Courses.{Stage, Open, phase_ended, stage_after}
 use Rattle.worker_store.specs.restart_theorem.Courses.{without_first}
@@ -32,9 +34,8 @@ use Rattle.worker.specs.declared.recover_fault.RecoverFault.TheVariants.{Worker}
 use Rattle.worker.specs.rules.CallCounts.{CallsForEvents}
 use Rattle.worker.specs.rules.DurableValues.{DurableValue}
 use Rattle.worker.specs.rules.OpenWorkers.{IsOpenOn}
-use Rattle.worker.specs.rules.DurableCalls.{ComesOf, IsReplyOf}
-use Rattle.worker.specs.rules.DurableCalls.{TakesTooFew}
-use Rattle.worker.specs.rules.DurableCalls.{HasCauseAt, CallCarries}
+use Rattle.worker.specs.rules.DurableCalls.{Answered, CallCarries, ComesOf, HasCauseAt}
+use Rattle.worker.specs.rules.DurableCalls.{IsFailureOf, IsReplyOf, IsReplyTo, TakesTooFew}
 use Rattle.worker.specs.rules.OneLife.{opened_in}
 use Rattle.worker.specs.laws.OneLife.{IsLater, released_in}
 use Rattle.worker.proofs.CallCountLemmas.{calls_longer}
@@ -85,22 +86,36 @@ cause_since config (Worker (Disk fault)) old mid new later (inr failed) =
     let faults = later.faults in inr (omega (arith, faults, failed))
 cause_since config other old mid new later cause = tt
 
--- what a slice says of its error
-pub cause_of_slice : (why : WorkFault) (guest : Guest) (config : Settings) (v : ProcessValue)
+-- what a call says of its error
+pub cause_of_call : (why : WorkFault) (guest : Guest) (config : Settings) (v : ProcessValue)
     (old new : Medium) → HasCauseAt why guest config v old new
     → HasDiskCause config (Worker why) old new
-cause_of_slice (Disk fault) guest config v old new cause = cause
-cause_of_slice (Work fault) guest config v old new cause = tt
-cause_of_slice (Store fault) guest config v old new cause = tt
-cause_of_slice (Upgrade fault) guest config v old new cause = tt
+cause_of_call (Disk fault) guest config v old new cause = cause
+cause_of_call (Work fault) guest config v old new cause = tt
+cause_of_call (Store fault) guest config v old new cause = tt
+cause_of_call (Upgrade fault) guest config v old new cause = tt
 
 -- ---- a call without an error
 
-pub slices_go : (said : Now) (reply : Reply) → IsReplyOf (Ok said) reply
-    → phase_ended reply ≡ Open
+slices_go : (said : Now) (reply : Reply) → IsReplyOf (Ok said) reply → phase_ended reply ≡ Open
 slices_go now.Spent reply is = ap phase_ended is
 slices_go now.Waiting reply is = ap phase_ended is
 slices_go (now.Ended how) reply is = ap phase_ended is
+
+pub answers_go : (act : Act) (said : Answered act) (reply : Reply) → IsReplyTo act (Ok said) reply
+    → phase_ended reply ≡ Open
+answers_go (Slice fuel) said reply is = slices_go said reply is
+answers_go (Batch fuel most) said reply is = slices_go said reply is
+answers_go Checkpoint said reply is = ap phase_ended is
+answers_go upgrading said reply is = ap phase_ended is
+
+-- what each call answers with an error
+pub failure_of : (act : Act) (why : WorkFault) (reply : Reply) → IsReplyTo act (Err why) reply
+    → IsFailureOf why reply
+failure_of (Slice fuel) why reply is = is
+failure_of (Batch fuel most) why reply is = is
+failure_of Checkpoint why reply is = is
+failure_of upgrading why reply is = is
 
 module _ (m : Module) (config : Settings) (guest : Guest) (promise : Promise) (stage : Stage)
     (act : Act) (reply : Reply) (w : DurableValue) (exchanges : List Exchange) where

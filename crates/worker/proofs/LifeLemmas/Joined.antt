@@ -9,7 +9,8 @@ use Rattle.worker_store.specs.restart_theorem.Lives.{Act, Reply, Event, Told, As
 use Rattle.worker_store.specs.restart_theorem.Lives.{told_in}
 use Rattle.worker_store.specs.restart_theorem.Courses.{Stage, next_stage, stage_after}
 use Rattle.worker_store.specs.restart_theorem.Promises.{Promise, after, promised, AreKept}
-use Rattle.worker_store.specs.restart_theorem.Exchanges.{release_of, was_taken, AreEvents, none, told, asked}
+use Rattle.worker_store.specs.restart_theorem.Exchanges.{release_of, was_taken, AreEvents, none}
+use Rattle.worker_store.specs.restart_theorem.Exchanges.{told, asked}
 use Rattle.worker.specs.rules.OneLife.{opened_in}
 use Rattle.worker.specs.laws.OneLife.{released_in}
 

@@ -18,14 +18,19 @@ use Rattle.record_replay.specs.rules.Calls.{Giving, Taking, Begun, Exchange, Ask
 use Rattle.record_replay.specs.rules.Calls.{Releases, AnswersInOrder, Exchanges}
 use Rattle.record_replay.proofs.Following.{exchanges_join}
 use Rattle.record_replay.proofs.Joining.{tells_ask_nothing, releases_of_tells}
-use Rattle.worker_store.specs.restart_theorem.Lives.{Act, Inputs, Cause, OfDisk, OfSource, OfAnswer, OfOutlet}
-use Rattle.worker_store.specs.restart_theorem.Lives.{OfMemory, OfBounds, OfJournal, OfLines, Fails, Event, Ended}
+use Rattle.worker_store.specs.restart_theorem.Lives.{Act, Inputs, Cause, OfDisk, OfSource, OfAnswer}
+use Rattle.worker_store.specs.restart_theorem.Lives.{OfOutlet}
+use Rattle.worker_store.specs.restart_theorem.Lives.{OfMemory, OfBounds, OfJournal, OfLines, Fails}
+use Rattle.worker_store.specs.restart_theorem.Lives.{Event, Ended}
 use Rattle.worker_store.specs.restart_theorem.Lives.{told_in, kept_by_end, Beginning}
 use Rattle.worker_store.specs.restart_theorem.Lives.{Creates, End, Finished, Stopped, Failed, Life}
 use Rattle.worker_store.specs.restart_theorem.Lives.{Slice, Batch, Checkpoint, Upgrade}
-use Rattle.worker_store.specs.restart_theorem.Courses.{Stage, Phase, Shut, Unheard, NoneThere, Broken, MayFail}
-use Rattle.worker_store.specs.restart_theorem.Courses.{Open, Closed, at_beginning, next_stage, stage_after}
-use Rattle.worker_store.specs.restart_theorem.Courses.{HasFailed, HasDiskFault, HasStopped, HasNotStopped}
+use Rattle.worker_store.specs.restart_theorem.Courses.{Stage, Phase, Shut, Unheard, NoneThere}
+use Rattle.worker_store.specs.restart_theorem.Courses.{Broken, MayFail}
+use Rattle.worker_store.specs.restart_theorem.Courses.{Open, Closed, at_beginning, next_stage}
+use Rattle.worker_store.specs.restart_theorem.Courses.{stage_after}
+use Rattle.worker_store.specs.restart_theorem.Courses.{HasFailed, HasDiskFault, HasStopped}
+use Rattle.worker_store.specs.restart_theorem.Courses.{HasNotStopped}
 use Rattle.worker_store.specs.restart_theorem.Courses.{HasLastAsked, IsCutIn, MayEnd}
 use Rattle.worker_store.specs.restart_theorem.Promises.{Promise, as_begun, after, promised, IsKept}
 use Rattle.worker_store.specs.restart_theorem.Promises.{AreKept, OpensAnew}

@@ -9,10 +9,11 @@ use Rattle.state_image.specs.rules.ProcessImage.{Saved}
 use Rattle.sector_disk.specs.rules.Medium.{Medium}
 use Rattle.record_replay.specs.rules.Calls.{Giving, Taking, Exchange, Exchanges}
 use Rattle.record_replay.proofs.Following.{exchanges_join}
-use Rattle.worker_store.specs.restart_theorem.Lives.{Act, Slice, Batch, Checkpoint, Upgrade, Cause}
+use Rattle.worker_store.specs.restart_theorem.Lives.{Act, Cause}
 use Rattle.worker_store.specs.restart_theorem.Lives.{OfDisk, Reply, Fails, Event, Ended, told_in}
 use Rattle.worker_store.specs.restart_theorem.Lives.{kept_by_end}
-use Rattle.worker_store.specs.restart_theorem.Courses.{Stage, Open, phase_ended, stage_after, without_first}
+use Rattle.worker_store.specs.restart_theorem.Courses.{Stage, Open, stage_after}
+use Rattle.worker_store.specs.restart_theorem.Courses.{without_first}
 use Rattle.worker_store.specs.restart_theorem.Promises.{Promise, after, promised, IsKept, AreKept}
 use Rattle.worker_store.specs.restart_theorem.Holds.{KeepsPromise, KeepsBounds}
 use Rattle.worker_store.proofs.RestartLemmas.Promised.{calls_join}
@@ -25,19 +26,16 @@ use Rattle.worker.specs.rules.CallCounts.{CallsForEvents}
 use Rattle.worker.specs.rules.DurableValues.{DurableValue}
 use Rattle.worker.specs.rules.OpenWorkers.{IsOpenOn}
 use Rattle.worker.specs.rules.DurableCalls.{CallCarries}
-use Rattle.worker.specs.rules.OneLife.{CallsInOrder, no_more, sliced, slice_failed, batched}
-use Rattle.worker.specs.rules.OneLife.{batch_failed, saved}
-use Rattle.worker.specs.rules.OneLife.{saving_failed, was_upgraded, upgrade_failed, IsCauseOf}
+use Rattle.worker.specs.rules.OneLife.{CallsInOrder, no_more, called, call_failed, IsCauseOf}
 use Rattle.worker.specs.rules.OneLife.{opened_in}
 use Rattle.worker.specs.laws.OneLife.{IsLater, released_in}
 use Rattle.worker.proofs.CallCountLemmas.{calls_none, calls_then}
 use Rattle.worker.proofs.LifeLemmas.Joined.{told_join}
 use Rattle.worker.proofs.LifeLemmas.Joined.{released_join, opened_behind}
 use Rattle.worker.proofs.LifeLemmas.Called.{later_still, HasDiskCause, cause_since}
-use Rattle.worker.proofs.LifeLemmas.Called.{CallGoes}
-use Rattle.worker.proofs.LifeLemmas.Called.{cause_of_slice}
-use Rattle.worker.proofs.LifeLemmas.Saving.{cause_of_saving, cause_of_upgrade, none_is_widened}
-use Rattle.worker.proofs.LifeLemmas.Called.{CallFails, call_goes, call_fails, slices_go}
+use Rattle.worker.proofs.LifeLemmas.Called.{CallFails, CallGoes, answers_go, call_fails, call_goes}
+use Rattle.worker.proofs.LifeLemmas.Called.{cause_of_call, failure_of}
+use Rattle.worker.proofs.LifeLemmas.Saving.{call_widens_none}
 
 module _ (m : Module) (config : Settings) where
   -- no call has failed
@@ -215,122 +213,35 @@ module _ {D S O : Type 0} (medium : D → Medium) (gives : Giving S) (takes : Ta
         bounded,
   )
   calls_make acts w disk last source source' outlet outlet' undone
-      (sliced {fuel = fuel} {acts = others} {w' = w'} {disk' = mid} {source' = inside}
-      {outlet' = beyond} said slice more) =
+      (called {act = act} {acts = others} {w' = w'} {disk' = mid} {source' = inside}
+      {outlet' = beyond} said call more) =
       let rest = calls_make others w' mid last inside source' beyond outlet' undone more in (
-        slice.0 ++ rest.0,
-        exchanges_join gives takes source source' inside outlet outlet' beyond slice.0 rest.0
-            slice.1 rest.1,
+        call.0 ++ rest.0,
+        exchanges_join gives takes source source' inside outlet outlet' beyond call.0 rest.0
+            call.1 rest.1,
         λ m config guest promise stage p open_on acts_are foretold keeps bounded.
-            let first = parts_are_foretold m config promise promise stage stage slice.0 rest.0
+            let first = parts_are_foretold m config promise promise stage stage call.0 rest.0
             foretold in
-            let did = slice.2 m config guest promise stage p others open_on acts_are first.1 in
-            call_then m config guest promise stage (Slice fuel) did.0 others w'
-            slice.0 rest.0 undone (medium disk) (medium mid) (medium last) acts_are foretold
-            (call_goes m config guest promise stage (Slice fuel) did.0 w' slice.0 (medium disk)
-            (medium mid) (slices_go said did.0 did.1) did.3) (rest.2 m config guest),
-      )
-  calls_make acts w disk last source source' outlet outlet' undone
-      (slice_failed {fuel = fuel} {acts = others} {w' = w'} {why = why} slice) = (
-        slice.0,
-        slice.1,
-        λ m config guest promise stage p open_on acts_are foretold keeps bounded.
-            let did = slice.2 m config guest promise stage p others open_on acts_are foretold in
-            let failure = did.1 in
-            calls_end m config promise stage why slice.0 (medium disk) (medium last)
-            (call_fails m config guest promise stage (Slice fuel) failure.0 why w' slice.0
-            (medium disk) (medium last) failure.1 (λ events are other. refl)
-            (cause_of_slice why guest config w'.process (medium disk) (medium last) did.2)
-            open_on.opened
-            (subst (λ (r : Reply). CallCarries m config guest promise stage (Slice fuel) r w'
-            (medium disk) (medium last) slice.0) failure.2 did.3)),
-      )
-  calls_make acts w disk last source source' outlet outlet' undone
-      (batched {fuel = fuel} {most = most} {acts = others} {w' = w'} {disk' = mid}
-      {source' = inside} {outlet' = beyond} said batch more) =
-      let rest = calls_make others w' mid last inside source' beyond outlet' undone more in (
-        batch.0 ++ rest.0,
-        exchanges_join gives takes source source' inside outlet outlet' beyond batch.0 rest.0
-            batch.1 rest.1,
-        λ m config guest promise stage p open_on acts_are foretold keeps bounded.
-            let first = parts_are_foretold m config promise promise stage stage batch.0 rest.0
-            foretold in
-            let did = batch.2 m config guest promise stage p others open_on acts_are first.1 in
-            call_then m config guest promise stage (Batch fuel most) did.0 others w'
-            batch.0 rest.0 undone (medium disk) (medium mid) (medium last) acts_are foretold
-            (call_goes m config guest promise stage (Batch fuel most) did.0 w' batch.0 (medium disk)
-            (medium mid) (slices_go said did.0 did.1) did.3) (rest.2 m config guest),
-      )
-  calls_make acts w disk last source source' outlet outlet' undone
-      (batch_failed {fuel = fuel} {most = most} {acts = others} {w' = w'} {why = why} batch) = (
-        batch.0,
-        batch.1,
-        λ m config guest promise stage p open_on acts_are foretold keeps bounded.
-            let did = batch.2 m config guest promise stage p others open_on acts_are foretold in
-            let failure = did.1 in
-            calls_end m config promise stage why batch.0 (medium disk) (medium last)
-            (call_fails m config guest promise stage (Batch fuel most) failure.0 why w' batch.0
-            (medium disk) (medium last) failure.1 (λ events are other. refl)
-            (cause_of_slice why guest config w'.process (medium disk) (medium last) did.2)
-            open_on.opened
-            (subst (λ (r : Reply). CallCarries m config guest promise stage (Batch fuel most) r w'
-            (medium disk) (medium last) batch.0) failure.2 did.3)),
-      )
-  calls_make acts w disk last source source' outlet outlet' undone
-      (saved {acts = others} {w' = w'} {disk' = mid} checkpoint more) =
-      let rest = calls_make others w' mid last source source' outlet outlet' undone more in (
-        rest.0,
-        rest.1,
-        λ m config guest promise stage p open_on acts_are foretold keeps bounded.
-            let did = checkpoint m config guest promise stage p others open_on acts_are in
-            call_then m config guest promise stage Checkpoint did.0 others w' [] rest.0 undone
+            let did = call.2 m config guest promise stage p others open_on acts_are first.1 in
+            call_then m config guest promise stage act did.0 others w' call.0 rest.0 undone
             (medium disk) (medium mid) (medium last) acts_are foretold
-            (call_goes m config guest promise stage Checkpoint did.0 w' [] (medium disk)
-            (medium mid) (ap phase_ended did.1) did.2) (rest.2 m config guest),
+            (call_goes m config guest promise stage act did.0 w' call.0 (medium disk)
+            (medium mid) (answers_go act said did.0 did.1) did.3) (rest.2 m config guest),
       )
   calls_make acts w disk last source source' outlet outlet' undone
-      (saving_failed {acts = others} {w' = w'} {why = why} checkpoint cause) = (
-        [],
-        record { asked = refl; released = refl },
+      (call_failed {act = act} {acts = others} {w' = w'} {why = why} call fails) = (
+        call.0,
+        call.1,
         λ m config guest promise stage p open_on acts_are foretold keeps bounded.
-            let did = checkpoint m config guest promise stage p others open_on acts_are in
-            let failure = did.1 in
-            calls_end m config promise stage why [] (medium disk) (medium last)
-            (call_fails m config guest promise stage Checkpoint failure.0 why w' [] (medium disk)
-            (medium last) failure.1 (λ events are other. refl)
-            (cause_of_saving m config guest promise stage p w why (medium disk) (medium last)
-            open_on
-            (cause m config guest promise stage p open_on)) open_on.opened
-            (subst (λ (r : Reply). CallCarries m config guest promise stage Checkpoint r w'
-            (medium disk) (medium last) []) failure.2 did.2)),
-      )
-  calls_make acts w disk last source source' outlet outlet' undone
-      (was_upgraded {acts = others} {w' = w'} {disk' = mid} upgrade more) =
-      let rest = calls_make others w' mid last source source' outlet outlet' undone more in (
-        rest.0,
-        rest.1,
-        λ m config guest promise stage p open_on acts_are foretold keeps bounded.
-            let did = upgrade m config guest promise stage p others open_on acts_are in
-            call_then m config guest promise stage Upgrade did.0 others w' [] rest.0 undone
-            (medium disk) (medium mid) (medium last) acts_are foretold
-            (call_goes m config guest promise stage Upgrade did.0 w' [] (medium disk)
-            (medium mid) (ap phase_ended did.1) did.2) (rest.2 m config guest),
-      )
-  calls_make acts w disk last source source' outlet outlet' undone
-      (upgrade_failed {acts = others} {w' = w'} {why = why} upgrade cause) = (
-        [],
-        record { asked = refl; released = refl },
-        λ m config guest promise stage p open_on acts_are foretold keeps bounded.
-            let did = upgrade m config guest promise stage p others open_on acts_are in
-            let failure = did.1 in
-            let fails = cause m config guest promise stage p open_on in
-            calls_end m config promise stage why [] (medium disk) (medium last)
-            (call_fails m config guest promise stage Upgrade failure.0 why w' [] (medium disk)
+            let did = call.2 m config guest promise stage p others open_on acts_are foretold in
+            let failure = failure_of act why did.0 did.1 in
+            calls_end m config promise stage why call.0 (medium disk) (medium last)
+            (call_fails m config guest promise stage act failure.0 why w' call.0 (medium disk)
             (medium last) failure.1
-            (none_is_widened m config guest promise stage p w w' why failure.0 (medium disk)
-            open_on failure.1 fails.1)
-            (cause_of_upgrade m config guest promise stage p w why (medium disk) (medium last)
-            open_on fails.0) open_on.opened
-            (subst (λ (r : Reply). CallCarries m config guest promise stage Upgrade r w'
-            (medium disk) (medium last) []) failure.2 did.2)),
+            (call_widens_none act m config guest promise stage p w w' why failure.0 (medium disk)
+            (medium last) call.0 open_on failure.1 fails call.3)
+            (cause_of_call why guest config w'.process (medium disk) (medium last) did.2)
+            open_on.opened
+            (subst (λ (r : Reply). CallCarries m config guest promise stage act r w' (medium disk)
+            (medium last) call.0) failure.2 did.3)),
       )

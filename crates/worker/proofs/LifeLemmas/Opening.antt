@@ -5,7 +5,7 @@ use Rattle.std.proofs.Common.{subst, inl, inr, ⊎_elim, arith}
 use Rattle.std.proofs.lemmas.List.{append-nil}
 use Rattle.std.specs.Prelude.{◌⊎◌, Result, Ok, Err, IfErr, Some, None, false, true, map}
 use Rattle.wasm_syntax.specs.declared.module.Module.{Module}
-use Rattle.wasm_semantics.specs.Acceptance.{IsAccepted}
+use Rattle.wasm_rules.specs.Acceptance.{IsAccepted}
 use Rattle.wasi_abi.specs.declared.numbers.TheConstants.{NUMBERS_END}
 use Rattle.wasi_abi.specs.rules.Configs.{Settings}
 use Rattle.machine.specs.rules.Offers.{offer}
@@ -18,12 +18,14 @@ use Rattle.disk_layout.specs.declared.fault.LayoutFault.TheVariants as layout
 use Rattle.disk_layout.specs.rules.Places.{Geometry, geometry_of, total_sectors}
 use Rattle.disk_layout.specs.rules.Unsynced.{most_unsynced}
 use Rattle.record_replay.specs.rules.Calls.{Taking, Begun, Exchange, Tells, Releases}
-use Rattle.worker_store.specs.restart_theorem.Lives.{Inputs, Cause, OfDisk, OfMemory, OfOutlet, OfBounds, Event}
+use Rattle.worker_store.specs.restart_theorem.Lives.{Inputs, Cause, OfDisk, OfMemory, OfOutlet}
+use Rattle.worker_store.specs.restart_theorem.Lives.{OfBounds, Event}
 use Rattle.worker_store.specs.restart_theorem.Lives.{Beginning, Creates, Opened, told_in}
 use Rattle.worker_store.specs.restart_theorem.Lives.Beginning.{Recovers as recovers}
 use Rattle.worker_store.specs.restart_theorem.Courses.{Stage, Phase, Shut, at_first, at_beginning}
 use Rattle.worker_store.specs.restart_theorem.Courses.{stage_after, HasFailed, IsCutIn}
-use Rattle.worker_store.specs.restart_theorem.Promises.{Promise, as_begun, after, promised, AreKept, OpensAnew}
+use Rattle.worker_store.specs.restart_theorem.Promises.{Promise, as_begun, after, promised, AreKept}
+use Rattle.worker_store.specs.restart_theorem.Promises.{OpensAnew}
 use Rattle.worker_store.specs.restart_theorem.Holds.{IsNothingYet, KeepsPromise, KeepsBounds}
 use Rattle.worker_store.specs.rules.BetweenCalls.{IsForetold}
 use Rattle.worker_store.proofs.LawLemmas.Pieces.{parts_are_foretold}

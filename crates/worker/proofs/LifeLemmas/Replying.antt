@@ -14,10 +14,13 @@ use Rattle.record_replay.specs.declared.slices.now.Now.{Now}
 use Rattle.record_replay.specs.declared.slices.now.Now.TheVariants as now
 use Rattle.worker_store.specs.restart_theorem.Lives.{Act, Slice, Batch, Checkpoint, Upgrade, Reply}
 use Rattle.worker_store.specs.restart_theorem.Lives.{Spent, Event}
-use Rattle.worker_store.specs.restart_theorem.Lives.{Told, Asked, Opened, Ended, told_in, Inputs, Beginning}
-use Rattle.worker_store.specs.restart_theorem.Courses.{Stage, at_beginning, phase_ended, stage_after}
+use Rattle.worker_store.specs.restart_theorem.Lives.{Told, Asked, Opened, Ended, told_in, Inputs}
+use Rattle.worker_store.specs.restart_theorem.Lives.{Beginning}
+use Rattle.worker_store.specs.restart_theorem.Courses.{Stage, at_beginning}
+use Rattle.worker_store.specs.restart_theorem.Courses.{stage_after}
 use Rattle.worker_store.specs.restart_theorem.Courses.{without_first}
-use Rattle.worker_store.specs.restart_theorem.Promises.{Promise, as_begun, after, promised, IsKept, AreKept}
+use Rattle.worker_store.specs.restart_theorem.Promises.{Promise, as_begun, after, promised, IsKept}
+use Rattle.worker_store.specs.restart_theorem.Promises.{AreKept}
 use Rattle.worker_store.specs.restart_theorem.Exchanges as exchanged
 use Rattle.worker_store.specs.restart_theorem.Exchanges.{AreEvents}
 use Rattle.worker_store.proofs.RestartLemmas.Promised.{calls_join}
@@ -27,19 +30,18 @@ use Rattle.worker_store.proofs.LawLemmas.Pieces.{parts_are_foretold}
 use Rattle.worker.specs.declared.recover_fault.RecoverFault.{RecoverFault}
 use Rattle.worker.specs.rules.DurableValues.{DurableValue}
 use Rattle.worker.specs.rules.OpenWorkers.{IsOpenOn}
-use Rattle.worker.specs.rules.DurableCalls.{IsReplyOf, CallCarries, call_events}
-use Rattle.worker.specs.rules.OneLife.{CallsInOrder, no_more, sliced, slice_failed, batched}
-use Rattle.worker.specs.rules.OneLife.{batch_failed, saved}
-use Rattle.worker.specs.rules.OneLife.{saving_failed, was_upgraded, upgrade_failed, opened}
+use Rattle.worker.specs.rules.DurableCalls.{Answered, IsReplyOf, IsReplyTo, CallCarries}
+use Rattle.worker.specs.rules.DurableCalls.{call_events}
+use Rattle.worker.specs.rules.OneLife.{CallsInOrder, no_more, called, call_failed, opened}
 use Rattle.worker.specs.rules.OneLife.{unopened}
 use Rattle.worker.specs.laws.OneLife.{released_in}
 use Rattle.worker.specs.laws.Uncut.{uncut}
 use Rattle.worker.proofs.LifeLemmas.Joined.{stage_join, told_join, told_are, acts_stay}
 use Rattle.worker.proofs.LifeLemmas.Joined.{kept_split, released_join, promised_join}
-use Rattle.worker.proofs.LifeLemmas.Called.{slices_go}
+use Rattle.worker.proofs.LifeLemmas.Called.{answers_go}
 use Rattle.worker.proofs.LifeLemmas.Opening.{opening}
 use Rattle.worker.proofs.LifeLemmas.Living.{anything_comes_true, told_alone}
-use Rattle.worker.specs.rules.Outcomes.{outcome_after}
+use Rattle.worker.specs.rules.Outcomes.{outcome_after, outcome_of_act}
 use Rattle.worker.specs.laws.Replies.{reply_of, reply_after, LastSliceEnds, LivesEndAsSaid}
 
 -- ---- events
@@ -48,6 +50,15 @@ reply_is : (said : Now) (reply : Reply) → IsReplyOf (Ok said) reply → reply 
 reply_is now.Spent reply is = is
 reply_is now.Waiting reply is = is
 reply_is (now.Ended how) reply is = is
+
+reply_to : (act : Act) (said : Answered act) (before : Now) (reply : Reply) (held : ℕ)
+    (shown : Saved) → IsReplyTo act (Ok said) reply
+    → reply_after (reply_of before) (Ended act reply held shown ∷ [])
+    ≡ reply_of (outcome_of_act act before said)
+reply_to (Slice fuel) said before reply held shown is = reply_is said reply is
+reply_to (Batch fuel most) said before reply held shown is = reply_is said reply is
+reply_to Checkpoint said before reply held shown is = refl
+reply_to Upgrade said before reply held shown is = refl
 
 reply_join : (before : Reply) (first rest : List Event)
     → reply_after before (first ++ rest) ≡ reply_after (reply_after before first) rest
@@ -170,137 +181,41 @@ module _ {D S O : Type 0} (medium : D → Medium) (gives : Giving S) (takes : Ta
     },
   )
   calls_say acts w disk last source source' outlet outlet' undone
-      (sliced {fuel = fuel} {acts = others} {w' = w'} {disk' = mid} {source' = inside}
-      {outlet' = beyond} said slice more) is =
+      (called {act = act} {acts = others} {w' = w'} {disk' = mid} {source' = inside}
+      {outlet' = beyond} said call more) is =
       let rest = calls_say others w' mid last inside source' beyond outlet' undone more is in (
-        slice.0 ++ rest.0,
-        exchanges_join gives takes source source' inside outlet outlet' beyond slice.0 rest.0
-            slice.1 rest.1,
+        call.0 ++ rest.0,
+        exchanges_join gives takes source source' inside outlet outlet' beyond call.0 rest.0
+            call.1 rest.1,
         λ m config guest promise stage p open_on acts_are foretold.
-            let first = parts_are_foretold m config promise promise stage stage slice.0 rest.0
+            let first = parts_are_foretold m config promise promise stage stage call.0 rest.0
             foretold in
-            let did = slice.2 m config guest promise stage p others open_on acts_are first.1 in
-            let again = did.3.goes_on (slices_go said did.0 did.1) in
-            says_on m config promise stage slice.0 rest.0
-            (λ before. outcome_after said more) (λ before. outcome_after before more)
-            (all_events m config guest promise stage (Slice fuel) did.0 w' (medium disk)
-            (medium mid) slice.0 did.3) did.3.kept
-            (told_all m config guest promise stage (Slice fuel) did.0 w' (medium disk)
-            (medium mid) slice.0 did.3)
+            let did = call.2 m config guest promise stage p others open_on acts_are first.1 in
+            let again = did.3.goes_on (answers_go act said did.0 did.1) in
+            says_on m config promise stage call.0 rest.0
+            (λ before. outcome_after (outcome_of_act act before said) more)
+            (λ before. outcome_after before more)
+            (all_events m config guest promise stage act did.0 w' (medium disk) (medium mid) call.0
+            did.3) did.3.kept
+            (told_all m config guest promise stage act did.0 w' (medium disk) (medium mid) call.0
+            did.3)
             (λ before. (
-              said,
-              call_says (reply_of before) (Slice fuel) did.0 did.3.held w' slice.0 did.3.events
-                  did.3.are ∙ reply_is said did.0 did.1,
+              outcome_of_act act before said,
+              call_says (reply_of before) act did.0 did.3.held w' call.0 did.3.events did.3.are
+                  ∙ reply_to act said before did.0 did.3.held (saved_of w'.process) did.1,
               refl,
             ))
-            (rest.2 m config guest (promised promise (all_events m config guest promise stage
-            (Slice fuel) did.0 w' (medium disk) (medium mid) slice.0 did.3))
-            (stage_after stage (all_events m config guest promise stage (Slice fuel) did.0 w'
-            (medium disk) (medium mid) slice.0 did.3)) again.0 again.1
-            (acts_left m config guest promise stage (Slice fuel) did.0 w' (medium disk)
-            (medium mid) slice.0 did.3 others acts_are)
-            (still_foretold m config guest promise stage (Slice fuel) did.0 w' (medium disk)
-            (medium mid) slice.0 did.3 rest.0 foretold)),
+            (rest.2 m config guest (promised promise (all_events m config guest promise stage act
+            did.0 w' (medium disk) (medium mid) call.0 did.3))
+            (stage_after stage (all_events m config guest promise stage act did.0 w' (medium disk)
+            (medium mid) call.0 did.3)) again.0 again.1
+            (acts_left m config guest promise stage act did.0 w' (medium disk) (medium mid) call.0
+            did.3 others acts_are)
+            (still_foretold m config guest promise stage act did.0 w' (medium disk) (medium mid)
+            call.0 did.3 rest.0 foretold)),
       )
-  calls_say acts w disk last source source' outlet outlet' undone (slice_failed slice) is =
+  calls_say acts w disk last source source' outlet outlet' undone (call_failed call fails) is =
       absurd (cc)
-  calls_say acts w disk last source source' outlet outlet' undone
-      (batched {fuel = fuel} {most = most} {acts = others} {w' = w'} {disk' = mid}
-      {source' = inside} {outlet' = beyond} said batch more) is =
-      let rest = calls_say others w' mid last inside source' beyond outlet' undone more is in (
-        batch.0 ++ rest.0,
-        exchanges_join gives takes source source' inside outlet outlet' beyond batch.0 rest.0
-            batch.1 rest.1,
-        λ m config guest promise stage p open_on acts_are foretold.
-            let first = parts_are_foretold m config promise promise stage stage batch.0 rest.0
-            foretold in
-            let did = batch.2 m config guest promise stage p others open_on acts_are first.1 in
-            let again = did.3.goes_on (slices_go said did.0 did.1) in
-            says_on m config promise stage batch.0 rest.0
-            (λ before. outcome_after said more) (λ before. outcome_after before more)
-            (all_events m config guest promise stage (Batch fuel most) did.0 w' (medium disk)
-            (medium mid) batch.0 did.3) did.3.kept
-            (told_all m config guest promise stage (Batch fuel most) did.0 w' (medium disk)
-            (medium mid) batch.0 did.3)
-            (λ before. (
-              said,
-              call_says (reply_of before) (Batch fuel most) did.0 did.3.held w' batch.0 did.3.events
-                  did.3.are ∙ reply_is said did.0 did.1,
-              refl,
-            ))
-            (rest.2 m config guest (promised promise (all_events m config guest promise stage
-            (Batch fuel most) did.0 w' (medium disk) (medium mid) batch.0 did.3))
-            (stage_after stage (all_events m config guest promise stage (Batch fuel most) did.0 w'
-            (medium disk) (medium mid) batch.0 did.3)) again.0 again.1
-            (acts_left m config guest promise stage (Batch fuel most) did.0 w' (medium disk)
-            (medium mid) batch.0 did.3 others acts_are)
-            (still_foretold m config guest promise stage (Batch fuel most) did.0 w' (medium disk)
-            (medium mid) batch.0 did.3 rest.0 foretold)),
-      )
-  calls_say acts w disk last source source' outlet outlet' undone (batch_failed batch) is =
-      absurd (cc)
-  calls_say acts w disk last source source' outlet outlet' undone
-      (saved {acts = others} {w' = w'} {disk' = mid} checkpoint more) is =
-      let rest = calls_say others w' mid last source source' outlet outlet' undone more is in (
-        rest.0,
-        rest.1,
-        λ m config guest promise stage p open_on acts_are foretold.
-            let did = checkpoint m config guest promise stage p others open_on acts_are in
-            let again = did.2.goes_on (ap phase_ended did.1) in
-            says_on m config promise stage [] rest.0
-            (λ before. outcome_after before more) (λ before. outcome_after before more)
-            (all_events m config guest promise stage Checkpoint did.0 w' (medium disk)
-            (medium mid) [] did.2) did.2.kept
-            (told_all m config guest promise stage Checkpoint did.0 w' (medium disk)
-            (medium mid) [] did.2)
-            (λ before. (
-              before,
-              call_says (reply_of before) Checkpoint did.0 did.2.held w' [] did.2.events
-                  did.2.are,
-              refl,
-            ))
-            (rest.2 m config guest (promised promise (all_events m config guest promise stage
-            Checkpoint did.0 w' (medium disk) (medium mid) [] did.2))
-            (stage_after stage (all_events m config guest promise stage Checkpoint did.0 w'
-            (medium disk) (medium mid) [] did.2)) again.0 again.1
-            (acts_left m config guest promise stage Checkpoint did.0 w' (medium disk)
-            (medium mid) [] did.2 others acts_are)
-            (still_foretold m config guest promise stage Checkpoint did.0 w' (medium disk)
-            (medium mid) [] did.2 rest.0 foretold)),
-      )
-  calls_say acts w disk last source source' outlet outlet' undone
-      (saving_failed checkpoint cause) is = absurd (cc)
-  calls_say acts w disk last source source' outlet outlet' undone
-      (was_upgraded {acts = others} {w' = w'} {disk' = mid} upgrade more) is =
-      let rest = calls_say others w' mid last source source' outlet outlet' undone more is in (
-        rest.0,
-        rest.1,
-        λ m config guest promise stage p open_on acts_are foretold.
-            let did = upgrade m config guest promise stage p others open_on acts_are in
-            let again = did.2.goes_on (ap phase_ended did.1) in
-            says_on m config promise stage [] rest.0
-            (λ before. outcome_after before more) (λ before. outcome_after before more)
-            (all_events m config guest promise stage Upgrade did.0 w' (medium disk)
-            (medium mid) [] did.2) did.2.kept
-            (told_all m config guest promise stage Upgrade did.0 w' (medium disk)
-            (medium mid) [] did.2)
-            (λ before. (
-              before,
-              call_says (reply_of before) Upgrade did.0 did.2.held w' [] did.2.events
-                  did.2.are,
-              refl,
-            ))
-            (rest.2 m config guest (promised promise (all_events m config guest promise stage
-            Upgrade did.0 w' (medium disk) (medium mid) [] did.2))
-            (stage_after stage (all_events m config guest promise stage Upgrade did.0 w'
-            (medium disk) (medium mid) [] did.2)) again.0 again.1
-            (acts_left m config guest promise stage Upgrade did.0 w' (medium disk)
-            (medium mid) [] did.2 others acts_are)
-            (still_foretold m config guest promise stage Upgrade did.0 w' (medium disk)
-            (medium mid) [] did.2 rest.0 foretold)),
-      )
-  calls_say acts w disk last source source' outlet outlet' undone
-      (upgrade_failed upgrade cause) is = absurd (cc)
 
 -- ---- the slice that ends last
 

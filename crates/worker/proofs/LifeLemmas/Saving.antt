@@ -1,50 +1,26 @@
--- Why a checkpoint or an upgrade fails.
-use Rattle.std.proofs.Common.{◌≡◌, List, [], ap, sym, ◌∙◌}
+-- What a call that has failed keeps.
+use Rattle.std.proofs.Common.{◌≡◌, List, [], ap, refl, subst, sym, ◌∙◌}
 use Rattle.wasm_syntax.specs.declared.module.Module.{Module}
 use Rattle.wasi_abi.specs.rules.Configs.{Settings}
 use Rattle.process_rules.specs.Processes.{ProcessState, Guest}
 use Rattle.sector_disk.specs.rules.Medium.{Medium}
+use Rattle.record_replay.specs.rules.Calls.{Exchange}
 use Rattle.process.specs.rules.Values.{ProcessValue}
 use Rattle.state_image.specs.rules.Saving.{saved_of}
-use Rattle.worker_store.specs.restart_theorem.Lives.{Slice, Cause, OfDisk, Event, kept_by_end}
+use Rattle.worker_store.specs.restart_theorem.Lives.{Act, Slice, Batch, Checkpoint, Cause}
+use Rattle.worker_store.specs.restart_theorem.Lives.{OfDisk, Event, kept_by_end}
 use Rattle.worker_store.specs.restart_theorem.Lives.Act.{Upgrade as upgrading}
 use Rattle.worker_store.specs.restart_theorem.Exchanges.{AreEvents, none}
 use Rattle.worker_store.specs.restart_theorem.Courses.{Stage}
 use Rattle.worker_store.specs.restart_theorem.Promises.{Promise, promised}
 use Rattle.worker.specs.declared.fault.WorkFault.{WorkFault}
 use Rattle.worker.specs.declared.fault.WorkFault.TheVariants.{Work, Disk, Store, Upgrade}
-use Rattle.worker.specs.declared.recover_fault.RecoverFault.TheVariants.{Worker}
 use Rattle.worker.specs.rules.DurableValues.{DurableValue}
 use Rattle.worker.specs.rules.OpenWorkers.{IsOpenOn}
-use Rattle.worker.specs.rules.Checkpoints.{IsCheckpointFault}
-use Rattle.worker.specs.rules.DurableCalls.{ComesOf}
-use Rattle.worker.specs.rules.Upgrades.{IsUpgradeFault, LeavesProcess}
+use Rattle.worker.specs.rules.DurableCalls.{ComesOf, MayExchange}
+use Rattle.worker.specs.rules.OneLife.{FailsBy}
+use Rattle.worker.specs.rules.Upgrades.{LeavesProcess}
 use Rattle.worker.proofs.UpgradeLemmas.{kept_version, same_kept}
-use Rattle.worker.proofs.DurableLemmas.Ends.{disk_cause}
-use Rattle.worker.proofs.LifeLemmas.Called.{HasDiskCause}
-
--- what a checkpoint says of its error
-pub cause_of_saving : (m : Module) (config : Settings) (guest : Guest) (promise : Promise)
-    (stage : Stage) (p : ProcessState) (w : DurableValue) (why : WorkFault) (old new : Medium)
-    → IsOpenOn m config guest promise stage p w old → IsCheckpointFault w old new why
-    → HasDiskCause config (Worker why) old new
-cause_of_saving m config guest promise stage p w (Disk fault) old new open_on fails =
-    disk_cause (record { code = m; config = config; guest = guest; act = Slice 0; first = 0 })
-    promise p p.steps promise.events w.store w.process w.process old new fault open_on.on_disk fails
-cause_of_saving m config guest promise stage p w (Work fault) old new open_on fails = tt
-cause_of_saving m config guest promise stage p w (Store fault) old new open_on fails = tt
-cause_of_saving m config guest promise stage p w (Upgrade fault) old new open_on fails = tt
-
--- what an upgrade says of its error
-pub cause_of_upgrade : (m : Module) (config : Settings) (guest : Guest) (promise : Promise)
-    (stage : Stage) (p : ProcessState) (w : DurableValue) (why : WorkFault) (old new : Medium)
-    → IsOpenOn m config guest promise stage p w old → IsUpgradeFault w old new why
-    → HasDiskCause config (Worker why) old new
-cause_of_upgrade m config guest promise stage p w (Disk fault) old new open_on fails =
-    cause_of_saving m config guest promise stage p w (Disk fault) old new open_on fails
-cause_of_upgrade m config guest promise stage p w (Work fault) old new open_on fails = tt
-cause_of_upgrade m config guest promise stage p w (Store fault) old new open_on fails = tt
-cause_of_upgrade m config guest promise stage p w (Upgrade fault) old new open_on fails = tt
 
 -- An error that isn't the disk's has widened nothing.
 pub none_is_widened : (m : Module) (config : Settings) (guest : Guest) (promise : Promise)
@@ -70,3 +46,24 @@ none_is_widened m config guest promise stage p w w' why cause old open_on comes 
     by (Work fault) comes leaves = same leaves
     by (Store fault) comes leaves = same leaves
     by (Upgrade fault) comes leaves = same leaves
+
+-- so it is with each act
+pub call_widens_none : (act : Act) (m : Module) (config : Settings) (guest : Guest)
+    (promise : Promise) (stage : Stage) (p : ProcessState) (w w' : DurableValue) (why : WorkFault)
+    (cause : Cause) (old new : Medium) (exchanges : List Exchange)
+    → IsOpenOn m config guest promise stage p w old → ComesOf why cause
+    → FailsBy act w why w' old new → MayExchange act exchanges
+    → (events : List Event) → AreEvents exchanges events → (cause ≡ OfDisk → ⊥)
+    → kept_by_end act (saved_of w'.process) (promised promise events).kept
+    ≡ (promised promise events).kept
+call_widens_none (Slice fuel) m config guest promise stage p w w' why cause old new exchanges
+    open_on comes fails may events are other = refl
+call_widens_none (Batch fuel most) m config guest promise stage p w w' why cause old new exchanges
+    open_on comes fails may events are other = refl
+call_widens_none Checkpoint m config guest promise stage p w w' why cause old new exchanges open_on
+    comes fails may events are other = refl
+call_widens_none upgrading m config guest promise stage p w w' why cause old new exchanges open_on
+    comes fails may events are other =
+    none_is_widened m config guest promise stage p w w' why cause old open_on comes
+    (fails m config guest promise stage p open_on).1 events
+    (subst (λ l. AreEvents l events) may are) other

@@ -24,7 +24,8 @@ use Rattle.record_replay.specs.rules.Replays.{ReplaysUpTo, RefusesFrom, StopsRep
 use Rattle.worker_store.specs.restart_theorem.Lives.{Inputs}
 use Rattle.worker_store.specs.restart_theorem.Courses.{Stage, Phase, Shut, at_first}
 use Rattle.worker_store.specs.restart_theorem.Promises.{Promise}
-use Rattle.worker_store.specs.restart_theorem.Holds.{DiskImageHolds, KeepsPromise, CarriesPromise, IsBounded}
+use Rattle.worker_store.specs.restart_theorem.Holds.{DiskImageHolds, KeepsPromise, CarriesPromise}
+use Rattle.worker_store.specs.restart_theorem.Holds.{IsBounded}
 use Rattle.worker_store.specs.restart_theorem.Holds.{KeepsBounds, StaysWithin}
 use Rattle.worker_store.specs.restart_theorem.Exchanges.{none as no_event}
 use Rattle.worker_store.specs.rules.BetweenCalls.{IsForetold}

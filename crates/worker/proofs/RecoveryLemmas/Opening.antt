@@ -13,7 +13,8 @@ use Rattle.record_replay.specs.rules.Calls.{Taking, all_taken}
 use Rattle.worker_store.specs.restart_theorem.Lives.{Inputs, Event, Opened}
 use Rattle.worker_store.specs.restart_theorem.Courses.{Stage, at_first, next_stage, stage_after}
 use Rattle.worker_store.specs.restart_theorem.Promises.{Promise, after, IsOpening}
-use Rattle.worker_store.specs.restart_theorem.Holds.{DiskImageHolds, KeepsPromise, CarriesPromise, KeepsBounds}
+use Rattle.worker_store.specs.restart_theorem.Holds.{DiskImageHolds, KeepsPromise, CarriesPromise}
+use Rattle.worker_store.specs.restart_theorem.Holds.{KeepsBounds}
 use Rattle.worker_store.specs.restart_theorem.Holds.{StaysWithin}
 use Rattle.worker_store.specs.rules.Savepoints.{Savepoint}
 use Rattle.worker_store.specs.rules.BetweenCalls.{IsBetween}

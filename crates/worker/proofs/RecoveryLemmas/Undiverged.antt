@@ -4,7 +4,7 @@ use Rattle.std.proofs.Common.{◌++◌}
 use Rattle.std.proofs.Common.{length, drop, Option, Some, None, refl, sym, ap, ◌∙◌, subst, arith}
 use Rattle.std.proofs.Common.{append_assoc, length-append}
 use Rattle.std.proofs.lemmas.List.{drop-append-le}
-use Rattle.wasm_semantics.specs.Configuration.{Thread}
+use Rattle.wasm_rules.specs.Configuration.{Thread}
 use Rattle.wasi_abi.specs.declared.answer.Answer.{Answer}
 use Rattle.wasi_calls_rules.specs.Lines.{lines_ended}
 use Rattle.process_rules.specs.Processes.{ProcessState, Guest, HasLineNumbers, closed_at}

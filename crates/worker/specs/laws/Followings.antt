@@ -1,7 +1,7 @@
 -- A worker that was read, and one that goes on from what it has left.
 use Rattle.std.specs.Prelude.{ℕ, ◌+◌, ◌≤◌, List, length, Ok}
 use Rattle.wasm_syntax.specs.declared.module.Module.{Module}
-use Rattle.wasm_semantics.specs.Acceptance.{IsAccepted}
+use Rattle.wasm_rules.specs.Acceptance.{IsAccepted}
 use Rattle.wasi_abi.specs.rules.Configs.{Settings}
 use Rattle.file_tree.specs.rules.Files.{only_named}
 use Rattle.machine.specs.rules.Offers.{offer}

@@ -2,15 +2,17 @@
 use Rattle.std.specs.Prelude.{◌≡◌, ◌⊎◌, ℕ, Bool, ◌+◌, ◌<◌, ◌≤◌, List, [], ◌∷◌, length, Option}
 use Rattle.std.specs.Prelude.{Result, Ok, Err}
 use Rattle.wasm_syntax.specs.declared.module.Module.{Module}
-use Rattle.wasm_semantics.specs.Acceptance.{IsAccepted}
+use Rattle.wasm_rules.specs.Acceptance.{IsAccepted}
 use Rattle.wasi_abi.specs.rules.Configs.{Settings}
 use Rattle.machine.specs.rules.Offers.{offer}
 use Rattle.sector_disk.specs.rules.Medium.{Medium}
 use Rattle.disk_layout.specs.rules.Places.{geometry_of, total_sectors}
 use Rattle.disk_layout.specs.rules.Unsynced.{most_unsynced}
 use Rattle.record_replay.specs.rules.Calls.{Giving, Taking, Exchange, Asks, Tells, Exchanges}
-use Rattle.worker_store.specs.restart_theorem.Lives.{Act, SourceSaid, Inputs, Release, OfDisk, told_in}
-use Rattle.worker_store.specs.restart_theorem.Lives.{Beginning, End, Finished, Stopped, Failed, Life}
+use Rattle.worker_store.specs.restart_theorem.Lives.{Act, SourceSaid, Inputs, Release, OfDisk}
+use Rattle.worker_store.specs.restart_theorem.Lives.{told_in}
+use Rattle.worker_store.specs.restart_theorem.Lives.{Beginning, End, Finished, Stopped, Failed}
+use Rattle.worker_store.specs.restart_theorem.Lives.{Life}
 use Rattle.worker_store.specs.restart_theorem.Courses.{HasDiskFault, HasStopped, HasNotStopped}
 use Rattle.worker_store.specs.restart_theorem.Promises.{Promise}
 use Rattle.worker_store.specs.restart_theorem.Holds.{KeepsPromise, KeepsBounds}

@@ -2,7 +2,7 @@
 -- own).
 use Rattle.std.specs.Prelude.{◌≡◌, ◌⊎◌, ℕ, ◌≤◌, List, [], ◌∷◌, ◌++◌, length, Option, Result, Ok}
 use Rattle.wasm_syntax.specs.declared.module.Module.{Module}
-use Rattle.wasm_semantics.specs.Acceptance.{IsAccepted}
+use Rattle.wasm_rules.specs.Acceptance.{IsAccepted}
 use Rattle.wasi_abi.specs.rules.Configs.{Settings}
 use Rattle.machine.specs.rules.Offers.{offer}
 use Rattle.process.specs.rules.Values.{ending_of}
@@ -11,12 +11,15 @@ use Rattle.sector_disk.specs.rules.Medium.{Medium}
 use Rattle.disk_layout.specs.rules.Places.{geometry_of, total_sectors}
 use Rattle.disk_layout.specs.rules.Unsynced.{most_unsynced}
 use Rattle.record_replay.specs.rules.Calls.{Giving, Taking, Exchange, Exchanges}
-use Rattle.worker_store.specs.restart_theorem.Lives.{Act, Slice, Batch, Checkpoint, Upgrade, Reply, Spent}
+use Rattle.worker_store.specs.restart_theorem.Lives.{Act, Slice, Batch, Checkpoint, Upgrade, Reply}
+use Rattle.worker_store.specs.restart_theorem.Lives.{Spent}
 use Rattle.worker_store.specs.restart_theorem.Lives.{Waits, Over}
-use Rattle.worker_store.specs.restart_theorem.Lives.{Event, Told, Asked, Opened, Ended, told_in, Beginning}
+use Rattle.worker_store.specs.restart_theorem.Lives.{Event, Told, Asked, Opened, Ended, told_in}
+use Rattle.worker_store.specs.restart_theorem.Lives.{Beginning}
 use Rattle.worker_store.specs.restart_theorem.Lives.{Inputs}
 use Rattle.worker_store.specs.restart_theorem.Courses.{at_beginning, stage_after}
-use Rattle.worker_store.specs.restart_theorem.Promises.{Promise, as_begun, promised, AreKept, IsEnding}
+use Rattle.worker_store.specs.restart_theorem.Promises.{Promise, as_begun, promised, AreKept}
+use Rattle.worker_store.specs.restart_theorem.Promises.{IsEnding}
 use Rattle.worker_store.specs.restart_theorem.Holds.{KeepsPromise, KeepsBounds}
 use Rattle.worker_store.specs.laws.Acts.{TakesSteps}
 use Rattle.record_replay.specs.declared.slices.now.Now.{Now}

@@ -2,14 +2,15 @@
 use Rattle.std.specs.Prelude.{◌≡◌, ◌⊎◌, ℕ, ◌≤◌, Bool, true, false, List, [], ◌∷◌, length}
 use Rattle.std.specs.Prelude.{Option, Some, None, Result}
 use Rattle.wasm_syntax.specs.declared.module.Module.{Module}
-use Rattle.wasm_semantics.specs.Acceptance.{IsAccepted}
+use Rattle.wasm_rules.specs.Acceptance.{IsAccepted}
 use Rattle.wasi_abi.specs.rules.Configs.{Settings}
 use Rattle.machine.specs.rules.Offers.{offer}
 use Rattle.sector_disk.specs.rules.Medium.{Medium}
 use Rattle.disk_layout.specs.rules.Places.{geometry_of, total_sectors}
 use Rattle.disk_layout.specs.rules.Unsynced.{most_unsynced}
 use Rattle.record_replay.specs.rules.Calls.{Giving, Taking, Exchange, Exchanges}
-use Rattle.worker_store.specs.restart_theorem.Lives.{Act, Inputs, OfOutlet, told_in, Beginning, Failed, Life}
+use Rattle.worker_store.specs.restart_theorem.Lives.{Act, Inputs, OfOutlet, told_in, Beginning}
+use Rattle.worker_store.specs.restart_theorem.Lives.{Failed, Life}
 use Rattle.worker_store.specs.restart_theorem.Promises.{Promise, promised_by, IsLived}
 use Rattle.worker_store.specs.restart_theorem.Holds.{KeepsPromise, KeepsBounds}
 use Rattle.worker.specs.declared.recover_fault.RecoverFault.{RecoverFault}

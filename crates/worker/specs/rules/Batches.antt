@@ -1,53 +1,28 @@
 -- A batch of a worker on its disk: a slice in which lines may wait, until one barrier serves them
 -- all (this project's own).
-use Rattle.std.specs.Prelude.{◌≡◌, ◌≢◌, ℕ, ◌≤◌, false, true, List, [], ◌∷◌, ◌++◌, length, map}
-use Rattle.std.specs.Prelude.{Result, Ok, Err, Some, IfErr, IfOk, OnErr, ◌⊎◌}
-use Rattle.wasm_syntax.specs.declared.module.Module.{Module}
+use Rattle.std.specs.Prelude.{◌≡◌, ℕ, ◌≤◌, false, List, [], ◌∷◌, ◌++◌, length, map}
+use Rattle.std.specs.Prelude.{Result, Ok, Err, Some, IfErr, ◌⊎◌}
 use Rattle.wasi_abi.specs.declared.answer.Answer.{Answer}
-use Rattle.wasi_abi.specs.rules.Configs.{Settings}
 use Rattle.process_rules.specs.Processes.{ProcessState, Guest}
-use Rattle.process.specs.rules.Values.{ProcessValue, ShowsProcess, IsProcess}
+use Rattle.process.specs.rules.Values.{ProcessValue, ShowsProcess}
 use Rattle.sector_disk.specs.rules.Medium.{Medium}
-use Rattle.disk_layout.specs.rules.Places.{total_sectors}
 use Rattle.record_replay.specs.declared.fault.OutletFault.{OutletFault}
 use Rattle.record_replay.specs.declared.line_list.NumberedLine.{NumberedLine}
 use Rattle.record_replay.specs.rules.Calls.{Giving, Taking, Ask, Begun, Exchange, Asks, Releases}
-use Rattle.record_replay.specs.rules.Calls.{Exchanges}
 use Rattle.record_replay.specs.rules.Lists.{KeepsLine}
-use Rattle.worker_store.specs.restart_theorem.Lives.{Act, Batch, Reply}
-use Rattle.worker_store.specs.restart_theorem.Courses.{Stage}
-use Rattle.worker_store.specs.restart_theorem.Promises.{Promise}
-use Rattle.worker_store.specs.rules.BetweenCalls.{IsForetold}
+use Rattle.worker_store.specs.restart_theorem.Lives.{Batch}
 use Rattle.worker_store.specs.declared.fault.StoreFault.TheVariants as store
 use Rattle.record_replay.specs.declared.slices.now.Now.{Now}
-use Rattle.record_replay.specs.declared.slices.now.Now.TheVariants.{Spent}
 use Rattle.record_replay.specs.declared.slices.fault.SliceFault.TheVariants as slice
-use Rattle.record_replay.specs.rules.Slices.{Slices, SliceLeadsTo, AreAnswered}
+use Rattle.record_replay.specs.rules.Slices.{SliceLeadsTo, AreAnswered}
 use Rattle.record_replay.specs.rules.Faults.{Fails, LeadsUpTo}
 use Rattle.record_replay.specs.Turns.{working, failing}
 use Rattle.worker.specs.declared.fault.WorkFault.{WorkFault}
 use Rattle.worker.specs.declared.fault.WorkFault.TheVariants.{Work, Disk, Store}
-use Rattle.worker.specs.rules.DurableCalls.{IsReplyOf, HasCauseOf, CallCarries}
-use Rattle.worker.specs.rules.DurableFailures.{HasSliceCause, IsDiskCause, StopsAtStore}
-use Rattle.worker.specs.rules.DurableValues.{DurableValue, without_disk}
-use Rattle.worker.specs.rules.OpenWorkers.{IsOpenOn}
-use Rattle.worker.specs.rules.SliceCalls.{SliceCalls}
-use Rattle.worker.specs.rules.Unsynced.{CountsInSlice}
-
--- ---- what it keeps
-
--- A batch has these exchanges with its source and its outlet, as they were made. Whatever was
--- promised of the worker that is open on this disk, it keeps it, as a slice does.
-abbrev pub BatchCarries : {S O : Type 0} → Giving S → Taking O → DurableValue → ℕ → ℕ
-    → Result Now WorkFault → DurableValue → Medium → Medium → S → S → O → O → Type 0
-BatchCarries gives takes old fuel most result new disk disk' source source' outlet outlet' =
-    (exchanges : List Exchange) × Exchanges gives takes source outlet exchanges source' outlet'
-    × ((m : Module) (config : Settings) (guest : Guest) (promise : Promise) (stage : Stage)
-    (p : ProcessState) (acts : List Act) → IsOpenOn m config guest promise stage p old disk
-    → stage.acts ≡ Batch fuel most ∷ acts → IsForetold stage exchanges
-    → (reply : Reply) × IsReplyOf result reply
-    × HasCauseOf result guest config new.process disk disk'
-    × CallCarries m config guest promise stage (Batch fuel most) reply new disk disk' exchanges)
+use Rattle.worker.specs.rules.DurableCalls.{CallKeeps}
+use Rattle.worker.specs.rules.DurableFailures.{IsDiskCause, StopsAtStore}
+use Rattle.worker.specs.rules.Effects.{RunsSteps}
+use Rattle.worker.specs.rules.Scenes.{Scene}
 
 -- ---- why it fails
 
@@ -119,31 +94,13 @@ BatchFails gives takes old fuel why new source source' outlet outlet' =
 -- ---- a batch
 
 -- A batch of at most so many steps, in which fewer than so many lines wait where it asks.
-pub record RunsBatch {S O : Type 0} (gives : Giving S) (takes : Taking O) (fuel most : ℕ)
-    (before after : DurableValue) (result : Result Now WorkFault) (old new : Medium)
-    (source source' : S) (outlet outlet' : O) : Type 0 where
-  -- until a call has failed the worker shows a process, whose numbers can be counted
-  pub shows : before.has_failed ≡ false → IsProcess before.process
-  -- it runs as a worker does that has no disk, and holds no line back
-  pub done : IfOk result (λ now. Slices gives takes (without_disk before) fuel now
-      (without_disk after) source source' outlet outlet')
+pub record RunsBatch {D S O : Type 0} (medium : D → Medium) (gives : Giving S) (takes : Taking O)
+    (fuel most : ℕ) (before : Scene D S O) (result : Result Now WorkFault) (after : Scene D S O)
+    : Type 0 where
+  pub steps : RunsSteps medium gives takes fuel before result after
   -- whatever was promised is kept, by Ok or by any error
-  pub carries : BatchCarries gives takes before fuel most result after old new source source'
-      outlet outlet'
-  -- where the worker waits or has ended, no line is beyond its process
-  pub abreast : IfOk result (λ now. now ≢ Spent → after.is_abreast ≡ true)
-  -- after an error the worker has failed
-  pub fails : OnErr result (after.has_failed ≡ true)
-  -- its calls of the disk are barriers and saves
-  pub calls : SliceCalls result before.store after.store old new
-  pub replayed : after.replayed ≡ before.replayed
+  pub carries : CallKeeps medium gives takes (Batch fuel most) before result after
   -- where it fails, it has run so far as a worker without a disk whose lines go to a list
-  pub failed : before.has_failed ≡ false → IfErr result (λ why. BatchFails gives takes
-      before.process fuel why after.process source source' outlet outlet')
-  -- whatever is on the disk, a fault of the disk has its cause, and `Failed` too
-  pub on_any_disk : IfErr result (λ why. HasSliceCause before old new why)
-  -- the disk has room for the next call
-  pub room : total_sectors after.store.geometry ≤ new.sectors
-  -- at no moment were there more unsynced writes than before and the journal's, or an area's and
-  -- its head
-  pub counts : CountsInSlice before.store.geometry old new
+  pub failed : before.worker.has_failed ≡ false → IfErr result (λ why. BatchFails gives takes
+      before.worker.process fuel why after.worker.process before.source after.source before.outlet
+      after.outlet)

@@ -12,10 +12,13 @@ use Rattle.record_replay.specs.rules.Calls.{Giving, Taking, Exchange, Exchanges}
 use Rattle.sector_disk.specs.rules.Medium.{Medium}
 use Rattle.state_image.specs.rules.Saving.{saved_of}
 use Rattle.disk_layout.specs.rules.Places.{geometry_of}
-use Rattle.worker_store.specs.restart_theorem.Lives.{Act, Slice, Checkpoint, Cause, OfDisk, OfSource, OfAnswer}
+use Rattle.worker_store.specs.restart_theorem.Lives.{Act, Slice, Batch, Checkpoint, Cause}
+use Rattle.worker_store.specs.restart_theorem.Lives.{OfDisk, OfSource, OfAnswer}
 use Rattle.worker_store.specs.restart_theorem.Lives.Act.{Upgrade as upgrading}
-use Rattle.worker_store.specs.restart_theorem.Lives.{OfOutlet, OfMemory, OfBounds, OfJournal, OfLines}
-use Rattle.worker_store.specs.restart_theorem.Lives.{Reply, Spent, Waits, Over, Done, Fails, Event, Ended}
+use Rattle.worker_store.specs.restart_theorem.Lives.{OfOutlet, OfMemory, OfBounds, OfJournal}
+use Rattle.worker_store.specs.restart_theorem.Lives.{OfLines}
+use Rattle.worker_store.specs.restart_theorem.Lives.{Reply, Spent, Waits, Over, Done, Fails, Event}
+use Rattle.worker_store.specs.restart_theorem.Lives.{Ended}
 use Rattle.worker_store.specs.restart_theorem.Courses.{Stage, Open, phase_ended, stage_after}
 use Rattle.worker_store.specs.restart_theorem.Promises.{Promise, promised, AreKept}
 use Rattle.worker_store.specs.restart_theorem.Holds.{CarriesPromise, StaysWithin}
@@ -32,6 +35,7 @@ use Rattle.worker.specs.declared.upgrade_fault.UpgradeFault.TheVariants as upgra
 use Rattle.worker.specs.rules.CallCounts.{CallsForEvents}
 use Rattle.worker.specs.rules.DurableValues.{DurableValue}
 use Rattle.worker.specs.rules.OpenWorkers.{IsOpenOn}
+use Rattle.worker.specs.rules.Scenes.{Scene}
 
 -- ---- what a call answers
 
@@ -66,6 +70,20 @@ IsReplyOf (Err why) reply = IsFailureOf why reply
 abbrev pub IsReplyOfSaving : Result (Unit {0}) WorkFault → Reply → Type 0
 IsReplyOfSaving (Ok done) reply = reply ≡ Done
 IsReplyOfSaving (Err why) reply = IsFailureOf why reply
+
+-- what a call of this act answers without an error: a slice and a batch, how far they have come
+abbrev pub Answered : Act → Type 0
+Answered (Slice fuel) = Now
+Answered (Batch fuel most) = Now
+Answered Checkpoint = Unit {0}
+Answered upgrading = Unit {0}
+
+-- what that is in a life
+abbrev pub IsReplyTo : (act : Act) → Result (Answered act) WorkFault → Reply → Type 0
+IsReplyTo (Slice fuel) result reply = IsReplyOf result reply
+IsReplyTo (Batch fuel most) result reply = IsReplyOf result reply
+IsReplyTo Checkpoint result reply = IsReplyOfSaving result reply
+IsReplyTo upgrading result reply = IsReplyOfSaving result reply
 
 -- ---- why a disk fails it
 
@@ -124,34 +142,31 @@ pub record CallCarries (m : Module) (config : Settings) (guest : Guest) (promise
       × IsOpenOn m config guest (promised promise (call_events events act reply held new))
       (stage_after stage (call_events events act reply held new)) q new disk'
 
--- A slice has these exchanges with its source and its outlet. Whatever was promised of the worker
--- that is open on this disk, and wherever a life is whose source and outlet will say what they
--- now said, it keeps it.
-abbrev pub SliceCarries : {S O : Type 0} → Giving S → Taking O → DurableValue → ℕ
-    → Result Now WorkFault → DurableValue → Medium → Medium → S → S → O → O → Type 0
-SliceCarries gives takes old fuel result new disk disk' source source' outlet outlet' =
-    (exchanges : List Exchange) × Exchanges gives takes source outlet exchanges source' outlet'
-    × ((m : Module) (config : Settings) (guest : Guest) (promise : Promise) (stage : Stage)
+-- A call of this act, with these exchanges. Whatever was promised of the worker that is open on
+-- this disk, and wherever a life is whose source and outlet will say what they now said, it keeps
+-- it.
+abbrev pub ActCarries : (act : Act) → List Exchange → DurableValue → Result (Answered act) WorkFault
+    → DurableValue → Medium → Medium → Type 0
+ActCarries act exchanges old result new disk disk' =
+    (m : Module) (config : Settings) (guest : Guest) (promise : Promise) (stage : Stage)
     (p : ProcessState) (acts : List Act) → IsOpenOn m config guest promise stage p old disk
-    → stage.acts ≡ Slice fuel ∷ acts → IsForetold stage exchanges
-    → (reply : Reply) × IsReplyOf result reply
+    → stage.acts ≡ act ∷ acts → IsForetold stage exchanges
+    → (reply : Reply) × IsReplyTo act result reply
     × HasCauseOf result guest config new.process disk disk'
-    × CallCarries m config guest promise stage (Slice fuel) reply new disk disk' exchanges)
+    × CallCarries m config guest promise stage act reply new disk disk' exchanges
 
--- So does a checkpoint, which asks no source and tells no line.
-abbrev pub CheckpointCarries : DurableValue → Result (Unit {0}) WorkFault → DurableValue → Medium
-    → Medium → Type 0
-CheckpointCarries old result new disk disk' =
-    (m : Module) (config : Settings) (guest : Guest) (promise : Promise) (stage : Stage)
-    (p : ProcessState) (acts : List Act) → IsOpenOn m config guest promise stage p old disk
-    → stage.acts ≡ Checkpoint ∷ acts → (reply : Reply) × IsReplyOfSaving result reply
-    × CallCarries m config guest promise stage Checkpoint reply new disk disk' []
+-- a checkpoint and an upgrade ask no source, and tell no line
+abbrev pub MayExchange : Act → List Exchange → Type 0
+MayExchange (Slice fuel) exchanges = Unit {0}
+MayExchange (Batch fuel most) exchanges = Unit {0}
+MayExchange Checkpoint exchanges = exchanges ≡ []
+MayExchange upgrading exchanges = exchanges ≡ []
 
--- So does an upgrade.
-abbrev pub UpgradeCarries : DurableValue → Result (Unit {0}) WorkFault → DurableValue → Medium
-    → Medium → Type 0
-UpgradeCarries old result new disk disk' =
-    (m : Module) (config : Settings) (guest : Guest) (promise : Promise) (stage : Stage)
-    (p : ProcessState) (acts : List Act) → IsOpenOn m config guest promise stage p old disk
-    → stage.acts ≡ upgrading ∷ acts → (reply : Reply) × IsReplyOfSaving result reply
-    × CallCarries m config guest promise stage upgrading reply new disk disk' []
+-- It has these exchanges with its source and its outlet, as they were made.
+abbrev pub CallKeeps : {D S O : Type 0} → (D → Medium) → Giving S → Taking O → (act : Act)
+    → Scene D S O → Result (Answered act) WorkFault → Scene D S O → Type 0
+CallKeeps medium gives takes act before result after = (exchanges : List Exchange)
+    × Exchanges gives takes before.source before.outlet exchanges after.source after.outlet
+    × ActCarries act exchanges before.worker result after.worker (medium before.disk)
+    (medium after.disk)
+    × MayExchange act exchanges

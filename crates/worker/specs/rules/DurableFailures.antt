@@ -1,6 +1,6 @@
 -- Why a slice of a worker on its disk fails, and what it has done until then (this project's own).
 -- It is said in the words of a worker that has no disk.
-use Rattle.std.specs.Prelude.{◌≡◌, ◌⊎◌, ℕ, ◌<◌, ◌≤◌, List, Option, Some, None, true}
+use Rattle.std.specs.Prelude.{◌≡◌, ◌⊎◌, ℕ, ◌<◌, ◌≤◌, Bool, true, List, Option, Some, None}
 use Rattle.wasi_abi.specs.declared.answer.Question.{Question}
 use Rattle.wasi_calls_rules.specs.WasiStates.{Line}
 use Rattle.process_rules.specs.Processes.{ProcessState, Guest}
@@ -76,16 +76,21 @@ abbrev pub LacksRoom : Geometry → Medium → Type 0
 LacksRoom places disk = (spare disk < places.journal_sectors)
     ⊎ (spare disk < places.area_sectors) ⊎ (disk.room ≡ 0)
 
--- When an error of a slice comes, whatever is on the disk. A fault of the disk comes only where the
--- disk has failed since, or lacks room. A worker says that it has failed only where it had failed
--- before. No other fault of its store comes but those of its journal and its next image.
+-- When an error comes of a store with these places, which has failed or hasn't, whatever is on the
+-- disk. A fault of the disk comes only where the disk has failed since, or lacks room. That a call
+-- has failed is said only where one had failed before. No other fault of the store comes but those
+-- of its journal and its next image.
+abbrev pub HasStoreCause : Geometry → Bool → Medium → Medium → WorkFault → Type 0
+HasStoreCause places has_failed old new (Disk fault) =
+    LacksRoom places old ⊎ (old.faults < new.faults)
+HasStoreCause places has_failed old new (Work slice.Failed) = has_failed ≡ true
+HasStoreCause places has_failed old new (Work other) = Unit {0}
+HasStoreCause places has_failed old new (Store store.Full) = Unit {0}
+HasStoreCause places has_failed old new (Store store.TooLong) = Unit {0}
+HasStoreCause places has_failed old new (Store store.TooBig) = Unit {0}
+HasStoreCause places has_failed old new (Store other) = ⊥
+HasStoreCause places has_failed old new (Upgrade fault) = ⊥
+
+-- so an error of a slice comes
 abbrev pub HasSliceCause : DurableValue → Medium → Medium → WorkFault → Type 0
-HasSliceCause w old new (Disk fault) =
-    LacksRoom w.store.geometry old ⊎ (old.faults < new.faults)
-HasSliceCause w old new (Work slice.Failed) = w.has_failed ≡ true
-HasSliceCause w old new (Work other) = Unit {0}
-HasSliceCause w old new (Store store.Full) = Unit {0}
-HasSliceCause w old new (Store store.TooLong) = Unit {0}
-HasSliceCause w old new (Store store.TooBig) = Unit {0}
-HasSliceCause w old new (Store other) = ⊥
-HasSliceCause w old new (Upgrade fault) = ⊥
+HasSliceCause w old new why = HasStoreCause w.store.geometry w.has_failed old new why

@@ -1,6 +1,6 @@
 -- What becomes of a worker and of its disk by each of its calls (this project's own).
 use Rattle.std.specs.Prelude.{◌≡◌, ◌≢◌, ◌⊎◌, ℕ, ◌≤◌, false, true, Result, IfErr, IfOk, OnErr}
-use Rattle.std.specs.Prelude.{OnOk}
+use Rattle.std.specs.Prelude.{OnOk, []}
 use Rattle.process.specs.rules.Values.{IsProcess}
 use Rattle.sector_disk.specs.rules.Medium.{Medium, CallsUpTo}
 use Rattle.disk_layout.specs.rules.Places.{total_sectors}
@@ -8,17 +8,20 @@ use Rattle.record_replay.specs.rules.Calls.{Giving, Taking}
 use Rattle.record_replay.specs.declared.slices.now.Now.{Now}
 use Rattle.record_replay.specs.declared.slices.now.Now.TheVariants.{Spent}
 use Rattle.record_replay.specs.rules.Slices.{Slices}
+use Rattle.worker_store.specs.restart_theorem.Lives.{Slice, Checkpoint}
+use Rattle.worker_store.specs.restart_theorem.Lives.Act.{Upgrade as upgrading}
 use Rattle.worker.specs.declared.fault.WorkFault.{WorkFault}
 use Rattle.worker.specs.declared.recover_fault.RecoverFault.{RecoverFault}
 use Rattle.worker.specs.rules.CallCounts.{most_recovering, most_saving}
 use Rattle.worker.specs.rules.Checkpoints.{CheckpointCalls, CheckpointFails, HasCheckpointCause}
 use Rattle.worker.specs.rules.Checkpoints.{IsSavedIn}
-use Rattle.worker.specs.rules.DurableCalls.{CheckpointCarries, SliceCarries, UpgradeCarries}
+use Rattle.worker.specs.rules.DurableCalls.{ActCarries, CallKeeps}
 use Rattle.worker.specs.rules.DurableFailures.{HasSliceCause, SlicesOnDiskInVain}
 use Rattle.worker.specs.rules.DurableValues.{DurableValue, without_disk}
 use Rattle.worker.specs.rules.Outlets.{HeedsOutlet, SaysOutletFault}
 use Rattle.worker.specs.rules.Recoveries.{HasRecoveryCause, Recovers, RecoveryCarries}
 use Rattle.worker.specs.rules.ShownDisks.{RecoversAsShown}
+use Rattle.worker.specs.rules.Scenes.{Scene}
 use Rattle.worker.specs.rules.SliceCalls.{SliceCalls}
 use Rattle.worker.specs.rules.Unsynced.{CountsInRecovery, CountsInSlice}
 use Rattle.worker.specs.rules.Upgrades.{EndsInTwo, HasUpgradeCause, IsUpgradedIn, UpgradeCalls}
@@ -45,36 +48,44 @@ pub record RecoversWorker {D O : Type 0} (medium : D → Medium) (takes : Taking
   -- at no moment were there more unsynced writes than before, or than an area's and its head
   pub counts : CountsInRecovery result (medium old) (medium new)
 
--- A slice of at most so many steps.
-pub record RunsSlice {S O : Type 0} (gives : Giving S) (takes : Taking O) (fuel : ℕ)
-    (before after : DurableValue) (result : Result Now WorkFault) (old new : Medium)
-    (source source' : S) (outlet outlet' : O) : Type 0 where
+-- What a slice and a batch have in common, of at most so many steps.
+pub record RunsSteps {D S O : Type 0} (medium : D → Medium) (gives : Giving S) (takes : Taking O)
+    (fuel : ℕ) (before : Scene D S O) (result : Result Now WorkFault) (after : Scene D S O)
+    : Type 0 where
   -- until a call has failed the worker shows a process, whose numbers can be counted
-  pub shows : before.has_failed ≡ false → IsProcess before.process
-  -- it runs as a worker does that has no disk
-  pub done : IfOk result (λ now. Slices gives takes (without_disk before) fuel now
-      (without_disk after) source source' outlet outlet')
-  -- whatever was promised is kept, by Ok or by any error
-  pub carries : SliceCarries gives takes before fuel result after old new source source' outlet
-      outlet'
+  pub shows : before.worker.has_failed ≡ false → IsProcess before.worker.process
+  -- it runs as a worker does that has no disk, and holds no line back
+  pub done : IfOk result (λ now. Slices gives takes (without_disk before.worker) fuel now
+      (without_disk after.worker) before.source after.source before.outlet after.outlet)
   -- where the worker waits or has ended, no line is beyond its process
-  pub abreast : IfOk result (λ now. now ≢ Spent → after.is_abreast ≡ true)
+  pub abreast : IfOk result (λ now. now ≢ Spent → after.worker.is_abreast ≡ true)
   -- after an error the worker has failed
-  pub fails : OnErr result (after.has_failed ≡ true)
+  pub fails : OnErr result (after.worker.has_failed ≡ true)
   -- Its calls of the disk are barriers and saves. The generation is one more by each save that has
   -- succeeded, and by nothing else.
-  pub calls : SliceCalls result before.store after.store old new
-  pub replayed : after.replayed ≡ before.replayed
-  -- where it fails, it has run so far as a worker that has no disk
-  pub failed : before.has_failed ≡ false → IfErr result (λ why. SlicesOnDiskInVain gives takes
-      before.process fuel why after.process source source' outlet outlet')
+  pub calls : SliceCalls result before.worker.store after.worker.store (medium before.disk)
+      (medium after.disk)
+  pub replayed : after.worker.replayed ≡ before.worker.replayed
   -- whatever is on the disk, a fault of the disk has its cause, and `Failed` too
-  pub on_any_disk : IfErr result (λ why. HasSliceCause before old new why)
+  pub on_any_disk : IfErr result (λ why. HasSliceCause before.worker (medium before.disk)
+      (medium after.disk) why)
   -- the disk has room for the next call
-  pub room : total_sectors after.store.geometry ≤ new.sectors
+  pub room : total_sectors after.worker.store.geometry ≤ (medium after.disk).sectors
   -- at no moment were there more unsynced writes than before and the journal's, or an area's and
   -- its head
-  pub counts : CountsInSlice before.store.geometry old new
+  pub counts : CountsInSlice before.worker.store.geometry (medium before.disk) (medium after.disk)
+
+-- A slice of at most so many steps.
+pub record RunsSlice {D S O : Type 0} (medium : D → Medium) (gives : Giving S) (takes : Taking O)
+    (fuel : ℕ) (before : Scene D S O) (result : Result Now WorkFault) (after : Scene D S O)
+    : Type 0 where
+  pub steps : RunsSteps medium gives takes fuel before result after
+  -- whatever was promised is kept, by Ok or by any error
+  pub carries : CallKeeps medium gives takes (Slice fuel) before result after
+  -- where it fails, it has run so far as a worker that has no disk
+  pub failed : before.worker.has_failed ≡ false → IfErr result (λ why. SlicesOnDiskInVain gives
+      takes before.worker.process fuel why after.worker.process before.source after.source
+      before.outlet after.outlet)
 
 -- What each call keeps that saves a worker: a checkpoint, or an upgrade.
 pub record KeepsInSaving (before after : DurableValue) (result : Result (Unit {0}) WorkFault)
@@ -96,7 +107,7 @@ pub record SavesWorker (before after : DurableValue) (result : Result (Unit {0})
     (old new : Medium) : Type 0 where
   -- Whatever was promised is kept, by Ok or by any error; once it has answered Ok, also that no
   -- later life comes after this process.
-  pub carries : CheckpointCarries before result after old new
+  pub carries : ActCarries Checkpoint [] before result after old new
   -- the process is as it was, and only an error makes the worker fail from then on
   pub saved : OnOk result (IsSavedIn before after)
   pub process : after.process ≡ before.process
@@ -112,7 +123,7 @@ pub record UpgradesWorker (before after : DurableValue) (result : Result (Unit {
     (old new : Medium) : Type 0 where
   -- Whatever was promised is kept, by Ok or by any error; once it has answered Ok, also that each
   -- later life is of version 2, and none comes after this process.
-  pub carries : UpgradeCarries before result after old new
+  pub carries : ActCarries upgrading [] before result after old new
   -- once it has answered Ok, the disk stands for a worker of version 2
   pub ends : OnOk result (EndsInTwo before old new)
   -- the process is in version 2, and else as it was; after an error it may be

@@ -1,7 +1,8 @@
 -- The words of lives that a caller of a worker on its disk names (this project's own). They are
 -- defined in `worker_store`.
 use Rattle.worker_store.specs.restart_theorem.Lives.Beginning.{Recovers}
-pub use Rattle.worker_store.specs.restart_theorem.Lives.{Act, Slice, Batch, Checkpoint, Upgrade, Beginning}
+pub use Rattle.worker_store.specs.restart_theorem.Lives.{Act, Slice, Batch, Checkpoint, Upgrade}
+pub use Rattle.worker_store.specs.restart_theorem.Lives.{Beginning}
 pub use Rattle.worker_store.specs.restart_theorem.Lives.{Release}
 pub use Rattle.worker_store.specs.restart_theorem.Promises.{fuel_of}
 

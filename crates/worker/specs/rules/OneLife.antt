@@ -9,23 +9,29 @@ use Rattle.record_replay.specs.declared.fault.ReplayFault.TheVariants as replay
 use Rattle.record_replay.specs.rules.Calls.{Giving, Taking}
 use Rattle.worker_store.specs.restart_theorem.Lives.{Act, Slice, Batch, Checkpoint, Upgrade, Cause}
 use Rattle.worker_store.specs.restart_theorem.Lives.{OfMemory, OfOutlet}
-use Rattle.worker_store.specs.restart_theorem.Lives.{Event, Told, Asked, Opened, Ended, Beginning, Creates}
+use Rattle.worker_store.specs.restart_theorem.Lives.{Event, Told, Asked, Opened, Ended, Beginning}
+use Rattle.worker_store.specs.restart_theorem.Lives.{Creates}
 use Rattle.worker_store.specs.restart_theorem.Lives.Beginning.{Recovers as recovers}
-use Rattle.record_replay.specs.declared.slices.now.Now.{Now}
 use Rattle.worker.specs.declared.fault.WorkFault.{WorkFault}
 use Rattle.worker.specs.declared.recover_fault.RecoverFault.{RecoverFault}
 use Rattle.worker.specs.declared.recover_fault.RecoverFault.TheVariants as recover
 use Rattle.worker.specs.rules.DurableValues.{DurableValue}
-use Rattle.worker.specs.rules.DurableCalls.{ComesOf, SliceCarries, CheckpointCarries}
-use Rattle.worker.specs.rules.DurableCalls.{UpgradeCarries}
-use Rattle.worker.specs.rules.Batches.{BatchCarries}
+use Rattle.worker.specs.rules.DurableCalls.{Answered, CallKeeps, ComesOf}
 use Rattle.worker.specs.rules.Checkpoints.{CheckpointFails}
 use Rattle.worker.specs.rules.Upgrades.{UpgradeFails}
 use Rattle.worker.specs.rules.DurableCreations.{CreationKeeps, IsNotCreatedOn}
 use Rattle.worker.specs.rules.RecoverFaults.{LayerWantsMemory}
 use Rattle.worker.specs.rules.Recoveries.{SaysNoWorker, Recovers, RecoveryCarries}
+use Rattle.worker.specs.rules.Scenes.{scene}
 
 -- ---- the calls of a life
+
+-- A checkpoint and an upgrade also say why they fail.
+abbrev pub FailsBy : Act → DurableValue → WorkFault → DurableValue → Medium → Medium → Type 0
+FailsBy (Slice fuel) old why new disk disk' = Unit {0}
+FailsBy (Batch fuel most) old why new disk disk' = Unit {0}
+FailsBy Checkpoint old why new disk disk' = CheckpointFails old disk disk' why
+FailsBy Upgrade old why new disk disk' = UpgradeFails old new.process disk disk' why
 
 -- Slices, batches, checkpoints and upgrades of a worker that is open, one after another, each as
 -- its clause says. After an error there is no other one. What is then still to be done, or that
@@ -35,66 +41,22 @@ pub data CallsInOrder {D S O : Type 0} (medium : D → Medium) (gives : Giving S
   where
     no_more : {acts : List Act} {w : DurableValue} {disk : D} {source : S} {outlet : O}
         → CallsInOrder medium gives takes acts w disk source outlet (Ok acts) disk source outlet
-    sliced : {fuel : ℕ} {acts : List Act} {w w' : DurableValue} {disk disk' last : D}
+    called : {act : Act} {acts : List Act} {w w' : DurableValue} {disk disk' last : D}
         {source source' source_last : S} {outlet outlet' outlet_last : O}
-        {undone : Result (List Act) RecoverFault} (said : Now)
-        → SliceCarries gives takes w fuel (Ok said) w' (medium disk) (medium disk') source source'
-        outlet outlet'
+        {undone : Result (List Act) RecoverFault} (said : Answered act)
+        → CallKeeps medium gives takes act (scene w disk source outlet) (Ok said)
+        (scene w' disk' source' outlet')
         → CallsInOrder medium gives takes acts w' disk' source' outlet' undone last source_last
         outlet_last
-        → CallsInOrder medium gives takes (Slice fuel ∷ acts) w disk source outlet undone last
-        source_last
+        → CallsInOrder medium gives takes (act ∷ acts) w disk source outlet undone last source_last
         outlet_last
-    slice_failed : {fuel : ℕ} {acts : List Act} {w w' : DurableValue} {why : WorkFault}
+    call_failed : {act : Act} {acts : List Act} {w w' : DurableValue} {why : WorkFault}
         {disk last : D} {source source' : S} {outlet outlet' : O}
-        → SliceCarries gives takes w fuel (Err why) w' (medium disk) (medium last) source source'
-        outlet outlet'
-        → CallsInOrder medium gives takes (Slice fuel ∷ acts) w disk source outlet
+        → CallKeeps medium gives takes act (scene w disk source outlet) (Err why)
+        (scene w' last source' outlet')
+        → FailsBy act w why w' (medium disk) (medium last)
+        → CallsInOrder medium gives takes (act ∷ acts) w disk source outlet
         (Err (recover.Worker why)) last source' outlet'
-    batched : {fuel most : ℕ} {acts : List Act} {w w' : DurableValue} {disk disk' last : D}
-        {source source' source_last : S} {outlet outlet' outlet_last : O}
-        {undone : Result (List Act) RecoverFault} (said : Now)
-        → BatchCarries gives takes w fuel most (Ok said) w' (medium disk) (medium disk') source
-        source' outlet outlet'
-        → CallsInOrder medium gives takes acts w' disk' source' outlet' undone last source_last
-        outlet_last
-        → CallsInOrder medium gives takes (Batch fuel most ∷ acts) w disk source outlet undone last
-        source_last
-        outlet_last
-    batch_failed : {fuel most : ℕ} {acts : List Act} {w w' : DurableValue} {why : WorkFault}
-        {disk last : D} {source source' : S} {outlet outlet' : O}
-        → BatchCarries gives takes w fuel most (Err why) w' (medium disk) (medium last) source
-        source' outlet outlet'
-        → CallsInOrder medium gives takes (Batch fuel most ∷ acts) w disk source outlet
-        (Err (recover.Worker why)) last source' outlet'
-    saved : {acts : List Act} {w w' : DurableValue} {disk disk' last : D} {source source_last : S}
-        {outlet outlet_last : O} {undone : Result (List Act) RecoverFault}
-        → CheckpointCarries w (Ok tt) w' (medium disk) (medium disk')
-        → CallsInOrder medium gives takes acts w' disk' source outlet undone last source_last
-        outlet_last
-        → CallsInOrder medium gives takes (Checkpoint ∷ acts) w disk source outlet undone last
-        source_last
-        outlet_last
-    saving_failed : {acts : List Act} {w w' : DurableValue} {why : WorkFault} {disk last : D}
-        {source : S} {outlet : O}
-        → CheckpointCarries w (Err why) w' (medium disk) (medium last)
-        → CheckpointFails w (medium disk) (medium last) why
-        → CallsInOrder medium gives takes (Checkpoint ∷ acts) w disk source outlet
-        (Err (recover.Worker why)) last source outlet
-    was_upgraded : {acts : List Act} {w w' : DurableValue} {disk disk' last : D}
-        {source source_last : S} {outlet outlet_last : O} {undone : Result (List Act) RecoverFault}
-        → UpgradeCarries w (Ok tt) w' (medium disk) (medium disk')
-        → CallsInOrder medium gives takes acts w' disk' source outlet undone last source_last
-        outlet_last
-        → CallsInOrder medium gives takes (Upgrade ∷ acts) w disk source outlet undone last
-        source_last
-        outlet_last
-    upgrade_failed : {acts : List Act} {w w' : DurableValue} {why : WorkFault} {disk last : D}
-        {source : S} {outlet : O}
-        → UpgradeCarries w (Err why) w' (medium disk) (medium last)
-        → UpgradeFails w w'.process (medium disk) (medium last) why
-        → CallsInOrder medium gives takes (Upgrade ∷ acts) w disk source outlet
-        (Err (recover.Worker why)) last source outlet
 
 -- what a creation answers, in the words of a recovery
 abbrev pub opened_by : Result DurableValue WorkFault → Result DurableValue RecoverFault

@@ -2,7 +2,7 @@
 use Rattle.std.specs.Prelude.{ℕ, zero, suc, Bool, true, false, List, [], ◌∷◌, map, Option, Some}
 use Rattle.std.specs.Prelude.{None, Ok}
 use Rattle.wasi_abi.specs.declared.answer.Answer.{Answer}
-use Rattle.sector_disk.specs.declared.place.Place.{Place}
+use Rattle.sector_disk.specs.declared.fault_point.FaultPoint.{FaultPoint}
 use Rattle.worker_store.specs.restart_theorem.Lives.{Act, Checkpoint, Upgrade, SourceSaid, Inputs}
 use Rattle.worker_store.specs.restart_theorem.Lives.Act.{Slice as slice, Batch as batch}
 use Rattle.worker.specs.declared.story.life.PlannedAct.{PlannedAct}
@@ -21,9 +21,9 @@ abbrev pub said_of : Answer → SourceSaid
 said_of answer = Ok (Some answer)
 
 -- the call of the disk at which the power is cut, or that fails
-abbrev pub call_at : Option Place → Option ℕ
+abbrev pub call_at : Option FaultPoint → Option ℕ
 call_at None = None
-call_at (Some place) = Some place.call
+call_at (Some point) = Some point.call
 
 -- the number of a release that is refused, or 0
 abbrev pub number_refused : Option ℕ → ℕ

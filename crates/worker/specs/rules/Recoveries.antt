@@ -29,7 +29,8 @@ use Rattle.worker_store.specs.restart_theorem.Stands.{StandsFor, IsBlank}
 use Rattle.worker_store.specs.restart_theorem.Lives.{Inputs, Event, Opened}
 use Rattle.worker_store.specs.restart_theorem.Courses.{Phase, Shut, Unheard, at_first, stage_after}
 use Rattle.worker_store.specs.restart_theorem.Promises.{Promise, promised, AreKept}
-use Rattle.worker_store.specs.restart_theorem.Holds.{IsUnopened, DiskImageHolds, KeepsPromise, CarriesPromise}
+use Rattle.worker_store.specs.restart_theorem.Holds.{IsUnopened, DiskImageHolds, KeepsPromise}
+use Rattle.worker_store.specs.restart_theorem.Holds.{CarriesPromise}
 use Rattle.worker_store.specs.restart_theorem.Holds.{KeepsBounds, StaysWithin}
 use Rattle.worker_store.specs.restart_theorem.Exchanges.{AreEvents}
 use Rattle.worker_store.specs.rules.BetweenCalls.{IsForetold}

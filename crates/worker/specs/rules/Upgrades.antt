@@ -1,9 +1,8 @@
 -- What an upgrade does to a worker and its disk: how a worker of version 1 becomes one of version 2
 -- (this project's own).
-use Rattle.std.specs.Prelude.{◌≡◌, ◌⊎◌, ℕ, ◌+◌, ◌-◌, ◌*◌, ◌≤◌, ◌<◌, false, true, List, [], ◌∷◌}
-use Rattle.std.specs.Prelude.{◌++◌, length, take, Result, Err}
+use Rattle.std.specs.Prelude.{◌≡◌, ◌⊎◌, ℕ, ◌+◌, false, [], ◌∷◌}
+use Rattle.std.specs.Prelude.{◌++◌, take, Result, Err}
 use Rattle.wasm_syntax.specs.declared.module.Module.{Module}
-use Rattle.wasi_abi.specs.declared.numbers.TheConstants.{NUMBERS_END}
 use Rattle.wasi_abi.specs.declared.version.Version.{Version}
 use Rattle.wasi_abi.specs.declared.version.Version.TheVariants.{One, Two}
 use Rattle.wasi_abi.specs.rules.Configs.{Settings}
@@ -11,28 +10,20 @@ use Rattle.wasi_calls.specs.rules.Held.{held_widened}
 use Rattle.process_rules.specs.Processes.{ProcessState, Guest}
 use Rattle.process_rules.specs.Runs.{Wider, widened, Runs}
 use Rattle.process.specs.rules.Values.{ProcessValue, ShowsProcess}
-use Rattle.state_image.specs.rules.ProcessImage.{process_image}
-use Rattle.state_image.specs.rules.Saving.{saved_of}
-use Rattle.sector_disk.specs.declared.disk_call.DiskCall.{DiskCall}
-use Rattle.sector_disk.specs.declared.sector.TheConstants.{SECTOR_SIZE}
 use Rattle.sector_disk.specs.rules.DiskImage.{DiskImage}
-use Rattle.sector_disk.specs.rules.Medium.{Medium, LeavesOnly, PerformsCalls, spare}
+use Rattle.sector_disk.specs.rules.Medium.{Medium, LeavesOnly}
 use Rattle.disk_layout.specs.rules.Journal.{TakesRecords}
-use Rattle.disk_layout.specs.rules.Places.{area_place, rounded_up}
-use Rattle.journal.specs.rules.Packed.{sectors_for}
 use Rattle.journal.specs.rules.Steps.{barrier_calls}
-use Rattle.snapshot.specs.declared.writing.Writing.TheVariants.{Changes}
-use Rattle.snapshot.specs.rules.Calls.{AreStores, with_head}
 use Rattle.worker_store.specs.restart_theorem.Stands.{StandsFor}
 use Rattle.worker_store.specs.restart_theorem.Courses.{Stage}
 use Rattle.worker_store.specs.restart_theorem.Promises.{Promise, HoldsAll}
-use Rattle.worker_store.specs.declared.fault.StoreFault.TheVariants as store
-use Rattle.record_replay.specs.declared.slices.fault.SliceFault.TheVariants as slice
 use Rattle.worker.specs.declared.fault.WorkFault.{WorkFault}
-use Rattle.worker.specs.declared.fault.WorkFault.TheVariants.{Work, Disk, Store, Upgrade}
+use Rattle.worker.specs.declared.fault.WorkFault.TheVariants.{Disk, Upgrade}
 use Rattle.worker.specs.declared.upgrade_fault.UpgradeFault.{UpgradeFault}
 use Rattle.worker.specs.declared.upgrade_fault.UpgradeFault.TheVariants.{JournalTooSmall}
 use Rattle.worker.specs.declared.upgrade_fault.UpgradeFault.TheVariants.{NotCaughtUp}
+use Rattle.worker.specs.rules.Checkpoints.{CheckpointCalls, HasCheckpointCause}
+use Rattle.worker.specs.rules.Checkpoints.{IsCheckpointFault}
 use Rattle.worker.specs.rules.DurableValues.{DurableValue}
 use Rattle.worker.specs.rules.OpenWorkers.{IsOpenOn}
 
@@ -59,13 +50,13 @@ pub record IsUpgradedIn (old new : DurableValue) : Type 0 where
   pub unfailed : new.has_failed ≡ old.has_failed
   pub generation : new.store.journal.generation ≡ old.store.journal.generation + 1
 
--- The calls are those of a checkpoint of the process in version 2. After an error they are begun.
+-- the same worker with its process in version 2
+abbrev pub with_version_two : DurableValue → DurableValue
+with_version_two w = record w { process = upgraded w.process }
+
+-- The calls are those of a checkpoint of it. After an error they are begun.
 abbrev pub UpgradeCalls : {T E : Type 0} → DurableValue → Result T E → Medium → Medium → Type 0
-UpgradeCalls w result old new = (stores : List DiskCall)
-    × AreStores Changes (area_place w.store.geometry (w.store.journal.generation + 1))
-    (rounded_up (length (process_image (saved_of (upgraded w.process))))) stores
-    × PerformsCalls (with_head (w.store.journal.generation + 1) stores
-    ++ barrier_calls w.store.geometry w.store.journal) result old new
+UpgradeCalls w result old new = CheckpointCalls (with_version_two w) result old new
 
 -- ---- errors
 
@@ -92,16 +83,11 @@ RefusesUpgrade old result new disk disk' =
     (why : UpgradeFault) → old.has_failed ≡ false → IsInTheWay why old
     → (result ≡ Err (Upgrade why)) × (new.process ≡ old.process) × (disk' ≡ disk)
 
--- When each error comes of a worker that is open: of these two, first the first one. Or the number
--- of the generation is at its end, or the disk failed, or it surely takes too few writes between
--- two syncs. No memory is taken.
+-- When each error comes of a worker that is open: of these two, first the first one; else as of a
+-- checkpoint. No memory is taken.
 abbrev pub IsUpgradeFault : DurableValue → Medium → Medium → WorkFault → Type 0
 IsUpgradeFault w old new (Upgrade why) = IsInTheWay why w
-IsUpgradeFault w old new (Store store.TooBig) = NUMBERS_END ≤ w.store.journal.generation + 1
-IsUpgradeFault w old new (Disk fault) =
-    (old.room < sectors_for (length w.store.journal.kept))
-    ⊎ (old.room < w.store.geometry.area_sectors) ⊎ (old.room ≡ 0) ⊎ (old.faults < new.faults)
-IsUpgradeFault w old new other = ⊥
+IsUpgradeFault w old new other = IsCheckpointFault w old new other
 
 -- After an error the process is as it was. Only where the disk failed may it be widened.
 abbrev pub LeavesProcess : WorkFault → ProcessValue → ProcessValue → Type 0
@@ -115,22 +101,10 @@ UpgradeFails w after old new fault =
     (p : ProcessState) → IsOpenOn m config guest promise stage p w old
     → IsUpgradeFault w old new fault × LeavesProcess fault w.process after
 
--- When each error comes, whatever is on the disk. Then the journal may also have too few sectors
--- for the pending records, and the area for the image. The disk may have taken writes since its
--- last good sync. The worker says that it has failed only where it had failed before.
+-- When each error comes, whatever is on the disk: else as of a checkpoint in version 2.
 abbrev pub HasUpgradeCause : DurableValue → Medium → Medium → WorkFault → Type 0
-HasUpgradeCause w old new (Work slice.Failed) = w.has_failed ≡ true
 HasUpgradeCause w old new (Upgrade why) = IsInTheWay why w
-HasUpgradeCause w old new (Store store.TooBig) = (NUMBERS_END ≤ w.store.journal.generation + 1)
-    ⊎ (SECTOR_SIZE * w.store.geometry.area_sectors
-    < length (process_image (saved_of (upgraded w.process))))
-HasUpgradeCause w old new (Store store.Full) =
-    w.store.geometry.journal_sectors - w.store.journal.used
-    < sectors_for (length w.store.journal.kept)
-HasUpgradeCause w old new (Disk fault) =
-    (spare old < sectors_for (length w.store.journal.kept))
-    ⊎ (spare old < w.store.geometry.area_sectors) ⊎ (old.room ≡ 0) ⊎ (old.faults < new.faults)
-HasUpgradeCause w old new other = ⊥
+HasUpgradeCause w old new other = HasCheckpointCause (with_version_two w) old new other
 
 -- ---- the disk
 

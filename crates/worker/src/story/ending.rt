@@ -17,7 +17,7 @@ ghost use Rattle.worker.specs.Endings.{IsFoundBehind};
 
 use crate::RecoverFault;
 use crate::story::report::LifeEnd;
-use sector_disk::{FaultDisk, MemDisk, Place};
+use sector_disk::{FaultDisk, FaultPoint, MemDisk};
 
 /// How many reads, writes and syncs were begun.
 pub(crate) fn call_count(disk: &FaultDisk<MemDisk>) -> u64
@@ -28,7 +28,7 @@ pub(crate) fn call_count(disk: &FaultDisk<MemDisk>) -> u64
 }
 
 /// Whether the call of the stop is one of so many.
-pub(crate) fn has_stopped(stop: Option<Place>, calls: u64) -> bool
+pub(crate) fn has_stopped(stop: Option<FaultPoint>, calls: u64) -> bool
     ensures { IsTrue result ↔ HasStopped (call_at stop) calls }
 {
     match stop {

@@ -1,6 +1,6 @@
 //! What is put into a life of a worker.
 
-use sector_disk::Place;
+use sector_disk::FaultPoint;
 use wasi_abi::Answer;
 use wasm_syntax::ItemList;
 
@@ -26,10 +26,10 @@ pub struct PlannedLife {
     pub acts: ItemList<PlannedAct>,
     /// The read, write or sync of this life, from 1 on, at which the power is cut. Also the front
     /// that it leaves, if it is a write.
-    pub stop: Option<Place>,
+    pub stop: Option<FaultPoint>,
     /// The read, write or sync of this life, from 1 on, that fails, and the front that it leaves,
     /// if it is a write. Later ones work. At the call of the stop the power is cut.
-    pub fail: Option<Place>,
+    pub fail: Option<FaultPoint>,
     /// The release of this life, from 1 on, that the outlet refuses, those of its recovery
     /// included.
     pub refuse: Option<u64>,

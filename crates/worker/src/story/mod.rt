@@ -5,19 +5,19 @@
 //!
 //! - `story` runs any list of lives, and tells them. Where the bytes spell an accepted module,
 //!   there are lives with just these inputs that go on as one that was never stopped (`GoesOn`).
-//!   Among them are the call of the disk that fails, and the release that is refused.
-//!   The report tells each (`TellsLives`). It says how it was opened, and the image and the numbers
-//!   of the process then. It has all its lines in order, and says how it ended, and with how many
-//!   calls of the disk.
+//!   Among the inputs are the call of the disk that fails, and the release that is refused. The
+//!   report tells each life (`TellsLives`): how it was opened, with the image and the numbers of
+//!   the process then. Its lines are told in order, and then how it ended, with how many calls of
+//!   the disk.
 //! - A life begins at most `most_calls` calls of its disk before each of its events, and after the
-//!   last one (`BeginFewCalls`). So it isn't told as stopped at a call that it can't have come to.
-//! - So a life isn't opened, or leaves an act undone, only where its stop came first, or an error
-//!   with its cause. That is the call of the disk that fails, the line that is refused, out of
-//!   memory, an answer that doesn't fit, or a number at its end (`MayEnd` of `worker_store`).
+//!   last one (`BeginFewCalls`). No life is told as stopped at a call that it can't have come to.
+//! - A life isn't opened, or leaves an act undone, only where its stop came first, or an error with
+//!   its cause (`MayEnd` of `worker_store`). Causes are the call of the disk that fails, the line
+//!   that is refused, out of memory, an answer that doesn't fit, and a number at its end.
 //! - Want of memory inside of a life ends that life. `StoryFault` is told only where memory was
 //!   refused to `story` itself.
-//! - How a life ended is what ended its calls (`reported_end`). It is told as finished only where
-//!   its stop didn't come, and all its acts were done.
+//! - How a life ended is what ended its calls (`reported_end`). A life is told as finished only
+//!   where its stop didn't come, and all its acts were done.
 //! - A life without a stop, or whose stop isn't reached, is cut after its last act. One that ends
 //!   by another error isn't cut, and the next one finds the same disk (`IsFoundBehind`). The fronts
 //!   that a cut keeps are those that are told, in order, of all writes but the front of a stop
@@ -25,28 +25,28 @@
 //! - All lives are run on one disk, which is empty at first, by the calls of a worker (`AreRunOn`).
 //!   `story_with_start` also keeps what those before a place have left. On a copy of that
 //!   `story_from` runs other lives behind them.
-//!   It takes as many writes between two syncs as ever wait for one (`most_unsynced`), and not one
-//!   more. A life whose worker left more of them unsynced would end in a fault of the disk.
+//! - The disk takes as many writes between two syncs as ever wait for one (`most_unsynced`), and
+//!   not one more. A life whose worker left more of them unsynced would end in a fault of the disk.
 //! - A recovered life is of the generation after that of the worker that it found on the disk
 //!   (`IsNextGeneration`).
 //!
 //! Nothing is said of a module that isn't accepted. How many calls of the disk a life takes is said
-//! up to that bound alone. So a stop within it may be told that never came.
+//! up to that bound alone. A stop within the bound may be told that never came.
 //!
 //! # Definitions to read
 //!
-//! In `specs/rules/`: `inputs_of` (`Planned.antt`), what is put into each life; `TellsLife`,
+//! In `specs/rules/`: `inputs_of` (`Planned.antt`), what is put into each life; `TellsLife`
 //! (`Told.antt`), what a report tells of one; `TellsLives` (`StoryDisks.antt`), what it tells of
-//! all, and on which disk they were run; `most_calls` (`CallCounts.antt`). They speak in the words
-//! of `worker_store`. What is read off a life is `opened_in` (`specs/laws/OneLife.antt`) and
+//! all, and on which disk they were run; `most_calls` (`CallCounts.antt`). The words are those of
+//! `worker_store`. What is read off a life is `opened_in` (`specs/laws/OneLife.antt`) and
 //! `told_in` of `worker_store`, and `IsCauseOf` says which error is which cause.
 //!
 //! # Who may touch what
 //!
-//! It makes its disk, its sources and its outlets itself, and hands out none. It makes the calls of
-//! a `Worker`, over the disks of `sector_disk`. It takes memory for the disk, for what a start
-//! keeps of it, for copies of the answers, and for the lines and images that it tells. A cut takes
-//! none.
+//! A story makes its disk, its sources and its outlets itself, and hands out none. The calls are
+//! those of a `Worker`, over the disks of `sector_disk`. Memory is taken for the disk, for what a
+//! start keeps of it, for copies of the answers, and for the lines and images that are told. A cut
+//! takes none.
 //!
 //! A story is handed the module's bytes, which a creation writes to the disk, and not a module. One
 //! that isn't accepted opens no life, and each life says why.

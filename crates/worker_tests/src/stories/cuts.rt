@@ -6,7 +6,7 @@ use crate::rows::assert_row;
 use crate::stories::lives::{
     AGAIN, AllTold, CREATED, FIRST, IDLE, OTHER, Plan, TELLS, Tale, Told, is_told,
 };
-use sector_disk::{DiskFault, Place};
+use sector_disk::{DiskFault, FaultPoint};
 use std::alloc::Global;
 use worker::story::{LifeEnd, PlannedAct};
 use worker::{RecoverFault, SliceFault, WorkFault};
@@ -70,7 +70,7 @@ static TALES: [Tale; 13] = [
         guest: ECHO,
         plans: &[
             Plan {
-                stop: Some(Place {
+                stop: Some(FaultPoint {
                     call: LAST_OF_CREATION + 1,
                     front: 504,
                 }),
@@ -86,7 +86,7 @@ static TALES: [Tale; 13] = [
         guest: ECHO,
         plans: &[
             Plan {
-                stop: Some(Place {
+                stop: Some(FaultPoint {
                     call: LAST_OF_CREATION + 1,
                     front: 505,
                 }),
@@ -106,7 +106,7 @@ static TALES: [Tale; 13] = [
             Plan {
                 requests: &[LONG, LONG, LONG],
                 acts: &[PlannedAct::Slice { fuel: 100 }],
-                stop: Some(Place {
+                stop: Some(FaultPoint {
                     call: LAST_OF_CREATION + 4,
                     front: 0,
                 }),
@@ -125,7 +125,7 @@ static TALES: [Tale; 13] = [
             Plan {
                 requests: &[LONGER, LONGER, LONGER],
                 acts: &[PlannedAct::Slice { fuel: 100 }],
-                stop: Some(Place {
+                stop: Some(FaultPoint {
                     call: LAST_OF_CREATION + 4,
                     front: 0,
                 }),
@@ -143,7 +143,7 @@ static TALES: [Tale; 13] = [
         guest: ECHO,
         plans: &[
             Plan {
-                stop: Some(Place { call: 1, front: 0 }),
+                stop: Some(FaultPoint { call: 1, front: 0 }),
                 ..FIRST
             },
             FIRST,
@@ -167,7 +167,7 @@ static TALES: [Tale; 13] = [
             Plan {
                 requests: &[],
                 acts: &[PlannedAct::Slice { fuel: 14 }],
-                stop: Some(Place {
+                stop: Some(FaultPoint {
                     call: 400,
                     front: 0,
                 }),
@@ -228,7 +228,7 @@ static TALES: [Tale; 13] = [
         plans: &[
             Plan {
                 acts: &[PlannedAct::Checkpoint],
-                fail: Some(Place {
+                fail: Some(FaultPoint {
                     call: LAST_OF_CREATION + CHECKPOINT,
                     front: 0,
                 }),

@@ -2,7 +2,7 @@
 
 use crate::guests::requests;
 use crate::halt::Halt;
-use sector_disk::Place;
+use sector_disk::FaultPoint;
 use std::alloc::Global;
 use wasi_abi::{Answer, Config};
 use wasi_calls_rules::OutputStream;
@@ -16,8 +16,8 @@ pub(crate) struct Plan {
     pub(crate) requests: &'static [&'static [u8]],
     pub(crate) time: Option<u64>,
     pub(crate) acts: &'static [PlannedAct],
-    pub(crate) stop: Option<Place>,
-    pub(crate) fail: Option<Place>,
+    pub(crate) stop: Option<FaultPoint>,
+    pub(crate) fail: Option<FaultPoint>,
     pub(crate) refuse: Option<u64>,
     pub(crate) tears: &'static [u16],
 }

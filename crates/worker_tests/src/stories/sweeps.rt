@@ -4,7 +4,7 @@ use crate::guests::ECHO;
 use crate::halt::Halt;
 use crate::rows::assert_row;
 use crate::stories::lives::{Plan, report_of};
-use sector_disk::Place;
+use sector_disk::FaultPoint;
 use std::alloc::Global;
 use std::process::Abort;
 use worker::story::{LifeEnd, LifeReport, Opening, PlannedAct, Report};
@@ -103,7 +103,7 @@ fn ends_so(alloc: Global, plan: Plan) -> Result<bool, Halt> {
 }
 
 /// The busy life, which meets with a mishap there.
-fn plan_of(mishap: Mishap, place: Place) -> Plan {
+fn plan_of(mishap: Mishap, place: FaultPoint) -> Plan {
     match mishap {
         Mishap::Stop => Plan {
             stop: Some(place),
@@ -125,7 +125,7 @@ fn lose_nothing(
 ) -> Result<(), Halt> {
     for call in 1..=CALLS {
         for front in fronts {
-            let place = Place {
+            let place = FaultPoint {
                 call,
                 front: *front,
             };

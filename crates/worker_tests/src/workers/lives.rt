@@ -7,7 +7,7 @@ use crate::workers::working::{
     IDLE, Work, WorkerProgress, are_lines, create, live_on, open, was_stopped, work_on,
 };
 use record_replay::LineList;
-use sector_disk::{FaultDisk, MemDisk, Place};
+use sector_disk::{FaultDisk, FaultPoint, MemDisk};
 use std::alloc::Global;
 use worker::Worker;
 
@@ -28,7 +28,7 @@ struct Story {
     name: &'static str,
     guest: &'static [u8],
     work: Work,
-    stop: Option<Place>,
+    stop: Option<FaultPoint>,
     tears: &'static [u16],
     opens: WorkerProgress,
     told: Lines,
@@ -87,7 +87,7 @@ const TORN: Story = Story {
     name: "the record isn't whole",
     guest: ECHO,
     work: FIRST,
-    stop: Some(Place {
+    stop: Some(FaultPoint {
         call: 1,
         front: 504,
     }),
@@ -111,7 +111,7 @@ const WHOLE: Story = Story {
     name: "all of the record's bytes that aren't zero",
     guest: ECHO,
     work: FIRST,
-    stop: Some(Place {
+    stop: Some(FaultPoint {
         call: 1,
         front: 505,
     }),
@@ -250,7 +250,7 @@ const SECOND_TORN: Story = Story {
         fuel: 100,
         is_saved: false,
     },
-    stop: Some(Place { call: 4, front: 0 }),
+    stop: Some(FaultPoint { call: 4, front: 0 }),
     tears: &[512, 499, 512],
     opens: WorkerProgress {
         generation: 2,
@@ -272,7 +272,7 @@ const FULL_TORN: Story = Story {
         fuel: 100,
         is_saved: false,
     },
-    stop: Some(Place { call: 4, front: 0 }),
+    stop: Some(FaultPoint { call: 4, front: 0 }),
     tears: &[512, 499, 512],
     opens: WorkerProgress {
         generation: 2,

@@ -7,7 +7,7 @@ use crate::workers::working::{
     Work, WorkerProgress, are_all_told, create, open, progress_of, was_stopped, work_on,
 };
 use record_replay::{AnswerList, LineList};
-use sector_disk::{Disk, DiskFault, FaultDisk, MemDisk, Place};
+use sector_disk::{Disk, DiskFault, FaultDisk, FaultPoint, MemDisk};
 use std::alloc::Global;
 use worker::{SliceFault, WorkFault, Worker};
 
@@ -51,7 +51,7 @@ fn say_three<D: Disk>(alloc: Global, worker: &mut Worker, disk: &mut D) -> [Opti
 
 /// The disk after a checkpoint whose last call fails, if that and what follows say so.
 fn failed_disk(alloc: Global, worker: &mut Worker, disk: MemDisk) -> Option<MemDisk> {
-    let fail = Place {
+    let fail = FaultPoint {
         call: HEAD_SYNC,
         front: 0,
     };
@@ -84,7 +84,7 @@ fn calls_of_recovery(alloc: Global, disk: MemDisk) -> Result<Option<u64>, Halt> 
 fn stopped_recovery(
     alloc: Global,
     disk: MemDisk,
-    stop: Place,
+    stop: FaultPoint,
 ) -> (MemDisk, Result<WorkerProgress, Halt>) {
     let mut stopping = FaultDisk::new(disk, Some(stop), None);
     let opens = open(alloc, &mut stopping);
@@ -101,7 +101,7 @@ fn is_second(alloc: Global, disk: &MemDisk) -> Result<bool, Halt> {
 
 /// Whether a recovery of this disk that is stopped at this call leaves generation 2.
 fn is_kept_over_a_stop(alloc: Global, disk: MemDisk, call: u64) -> Result<bool, Halt> {
-    let (disk_after, opens) = stopped_recovery(alloc, disk, Place { call, front: 100 });
+    let (disk_after, opens) = stopped_recovery(alloc, disk, FaultPoint { call, front: 100 });
     let is_second = is_second(alloc, &disk_after);
     drop(disk_after);
     Ok(opens == Err(CUT) && is_second?)
@@ -296,7 +296,7 @@ fn end_of(life: Result<WorkerProgress, Halt>) -> Result<(), Halt> {
 fn life_on(
     alloc: Global,
     disk: MemDisk,
-    stop: Option<Place>,
+    stop: Option<FaultPoint>,
     task: &Task,
     told: &mut LineList,
 ) -> (MemDisk, Result<bool, Halt>, u64) {
@@ -309,7 +309,7 @@ fn life_on(
 /// The same of a first life, and what a cut leaves of its disk.
 fn stopped_life(
     alloc: Global,
-    stop: Option<Place>,
+    stop: Option<FaultPoint>,
     task: &Task,
     told: &mut LineList,
 ) -> Result<(MemDisk, bool, u64), Halt> {
@@ -336,7 +336,7 @@ fn calls_of_life(alloc: Global, task: &Task) -> Result<u64, Halt> {
 
 /// Whether a life was stopped at this call, and another one has gone on then.
 fn lives_twice(alloc: Global, call: u64, task: &Task, told: &mut LineList) -> Result<bool, Halt> {
-    let stop = Place { call, front: 505 };
+    let stop = FaultPoint { call, front: 505 };
     let (mut disk, is_stopped, _count) = stopped_life(alloc, Some(stop), task, told)?;
     let opens = live(alloc, &mut disk, task, told);
     drop(disk);

@@ -8,7 +8,7 @@ use crate::workers::working::{
     IDLE, Work, WorkerProgress, are_lines, create_with, progress_of, work_on,
 };
 use record_replay::{AnswerList, LineList};
-use sector_disk::{Disk, FaultDisk, MemDisk, Place};
+use sector_disk::{Disk, FaultDisk, FaultPoint, MemDisk};
 use std::alloc::Global;
 use std::process::Abort;
 use wasi_abi::{Answer, Version};
@@ -337,7 +337,7 @@ fn meets(
     worker: &mut Worker,
     disk: MemDisk,
     mishap: Mishap,
-    place: Place,
+    place: FaultPoint,
 ) -> (MemDisk, bool) {
     let mut told = LineList::new(alloc);
     let mut faulty = match mishap {
@@ -368,7 +368,7 @@ fn found(
     worker: &mut Worker,
     mut disk: MemDisk,
     mishap: Mishap,
-    place: Place,
+    place: FaultPoint,
 ) -> Result<Option<MemDisk>, Halt> {
     let mut told = LineList::new(alloc);
     let worked = work_on(alloc, worker, &mut disk, &ANSWERED, &mut told);
@@ -405,14 +405,14 @@ fn opens_on(alloc: Global, mut disk: MemDisk) -> Result<(Version, WorkerProgress
 }
 
 /// Whether it is whole in the one version or the other. Once the barrier is done it has the answer.
-fn is_whole(opened: (Version, WorkerProgress), place: Place) -> bool {
+fn is_whole(opened: (Version, WorkerProgress), place: FaultPoint) -> bool {
     match opened {
         (Version::One, stand) => stand == NARROW || (stand == NOTHING && place.call <= BARRIER),
         (Version::Two, stand) => stand == WIDE && BARRIER < place.call,
     }
 }
 
-fn is_whole_after(alloc: Global, mishap: Mishap, place: Place) -> Result<bool, Halt> {
+fn is_whole_after(alloc: Global, mishap: Mishap, place: FaultPoint) -> Result<bool, Halt> {
     let mut disk = blank(alloc, SECTORS)?;
     let mut worker = create_with(alloc, &mut disk, ECHO, 1, JOURNAL)?;
     let disk_after = found(alloc, &mut worker, disk, mishap, place);
@@ -431,7 +431,7 @@ fn is_tried(call: u64, prefix: u16) -> bool {
 /// Whether the next life is as it must be, after this call and each prefix that is tried.
 fn is_whole_each_time(alloc: Global, mishap: Mishap, call: u64) -> Result<bool, Halt> {
     for prefix in &PREFIXES {
-        let place = Place {
+        let place = FaultPoint {
             call,
             front: *prefix,
         };

@@ -1,16 +1,9 @@
-use Rattle.std.proofs.Common.{◌≡◌, sym, ◌∙◌, ap, refl, subst, true}
-use Rattle.worker.specs.declared.fault.WorkFault.TheVariants.{Work}
-use Rattle.record_replay.specs.declared.slices.fault.SliceFault.TheVariants as slice
+use Rattle.std.proofs.Common.{sym, ◌∙◌, ap, subst}
 use Rattle.worker.specs.rules.DurableValues.{DurableValue}
 use Rattle.worker.proofs.CheckpointLemmas.{done_keeps, fault_keeps, fault_cause, room_for}
 use Rattle.worker.proofs.CheckpointLemmas.{room_after, saved_in, cause_on_any_disk, works_inside}
-use Rattle.worker.proofs.CheckpointLemmas.{calls_err, calls_ok, failed_carries}
-use Rattle.worker.proofs.CheckpointLemmas.{failed_fails}
-use Rattle.worker.proofs.CheckpointLemmas.{failed_calls}
-use Rattle.worker.proofs.RecoveryCallLemmas.{none_called}
-use Rattle.worker.specs.rules.CallCounts.{most_saving}
+use Rattle.worker.proofs.CheckpointLemmas.{calls_err, calls_ok}
 use Rattle.worker.specs.rules.Unsynced.{CountsInSlice}
-use Rattle.worker.proofs.TurnCounts.{counts_none}
 use Rattle.worker.proofs.durable.Worker.checkpoint_within.Goals as goal
 
 pub save-saved-requires : goal.save-saved-requires

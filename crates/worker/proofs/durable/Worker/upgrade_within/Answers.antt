@@ -1,19 +1,16 @@
-use Rattle.std.proofs.Common.{◌≡◌, ◌≤◌, sym, ◌∙◌, ap, subst, true, refl, inl, Err}
-use Rattle.record_replay.specs.declared.slices.fault.SliceFault.TheVariants as slice
+use Rattle.std.proofs.Common.{◌≤◌, sym, ◌∙◌, ap, subst, refl, inl, Err}
 use Rattle.disk_layout.specs.rules.Places.{total_sectors}
 use Rattle.worker_store.specs.declared.store.WorkerStore.{WorkerStore}
-use Rattle.worker.specs.declared.fault.WorkFault.TheVariants.{Work, Upgrade}
+use Rattle.worker.specs.declared.fault.WorkFault.TheVariants.{Upgrade}
 use Rattle.worker.specs.declared.running_worker.RunningWorker.{RunningWorker}
 use Rattle.worker.specs.rules.CallCounts.{most_saving}
 use Rattle.worker.specs.rules.DurableValues.{DurableValue}
 use Rattle.worker.specs.rules.Unsynced.{CountsInSlice}
 use Rattle.worker.proofs.CheckpointLemmas.{room_for, room_after, works_inside}
-use Rattle.worker.proofs.DurableLemmas.InVain.{not_both}
 use Rattle.worker.proofs.MigrationLemmas.{nothing_migrates}
 use Rattle.worker.proofs.RecoveryCallLemmas.{none_called}
 use Rattle.worker.proofs.TurnCounts.{counts_none}
-use Rattle.worker.proofs.UpgradeLemmas.{failed_upgrade_carries, failed_upgrade_fails}
-use Rattle.worker.proofs.UpgradeLemmas.{failed_migrates, no_upgrade_calls}
+use Rattle.worker.proofs.UpgradeLemmas.{no_upgrade_calls}
 use Rattle.worker.proofs.UpgradeTestLemmas.{is_said, nothing_is, refusal_cause}
 use Rattle.worker.proofs.UpgradeViews.{refused_carries, refused_fails, migrates_so, ends_so}
 use Rattle.worker.proofs.UpgradeViews.{done_carries, fault_carries, fault_fails, upgraded_so}

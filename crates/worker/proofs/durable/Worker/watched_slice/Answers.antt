@@ -11,9 +11,8 @@ returns-in-Err-clause-runs g c = λ room.
     let refused = c.in-Err.ensures.refused failed in
     let said = refused.0 in
     let is_failed : c.in-Err.fault ≡ Work slice.Failed = cc in
-    rw (is_failed, refused.1) (slice_refused c.args.self.now failed
-    (g.D.Disk.medium c.args.disk.now) room g.S.Source.gives g.O.Outlet.takes c.args.fuel
-    c.args.source.now c.args.outlet.now)
+    rw (is_failed, refused.1) (slice_refused g.D.Disk.medium g.S.Source.gives g.O.Outlet.takes
+    c.args.self.now failed c.args.disk.now c.args.source.now c.args.outlet.now room c.args.fuel)
 
 pub slice_within-requires-clause-works : goal.slice_within-requires-clause-works
 slice_within-requires-clause-works g c = rw c.in_default.ensures.fit.0 c.in_default.ensures.fit.1

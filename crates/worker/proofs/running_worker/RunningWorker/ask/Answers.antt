@@ -10,12 +10,12 @@ use Rattle.worker.proofs.DurableLemmas.AskingInBatch.{room_no_source, source_hea
 use Rattle.worker.proofs.StoreTurnLemmas.{goes_join, hears_goes, hears_runs, runs_join}
 use Rattle.worker.proofs.running_worker.RunningWorker.ask.Goals as goal
 
-pub returns-in_err-make_room-clause-asks : goal.returns-in_err-make_room-clause-asks
-returns-in_err-make_room-clause-asks g c =
+pub returns-in_err-make_room-clause-turn : goal.returns-in_err-make_room-clause-turn
+returns-in_err-make_room-clause-turn g c =
     let p = err_from_is_err_and c.from_residual.result c.from_residual.ensures.1 in
     rw (p.1, p.2) (asks_nothing g.D.Disk.medium g.S.Source.gives c.args.self.now
     c.make_room.new.self c.args.question c.in_err-make_room.field-0.0 c.args.disk.now
-    c.make_room.new.disk c.args.source.now c.in_err-make_room.ensures.fails)
+    c.make_room.new.disk c.args.source.now c.in_err-make_room.ensures.unmade)
 
 pub returns-clause-once : goal.returns-clause-once
 returns-clause-once g c =
@@ -30,8 +30,8 @@ returns-clause-abreast g c =
     c.args.question (c.steps-step.result + 1) c.hear.result c.args.source.now c.hear.new.source
     c.hear.ensures.hears
 
-pub returns-clause-asks : goal.returns-clause-asks
-returns-clause-asks g c =
+pub returns-clause-turn : goal.returns-clause-turn
+returns-clause-turn g c =
     asks_turn g.D.Disk.medium g.S.Source.gives c.args.self.now
     (says_abreast c.make_room.new.self) c.hear.new.self c.args.question (c.steps-step.result + 1)
     c.args.disk.now c.make_room.new.disk c.args.source.now c.hear.new.source
@@ -39,18 +39,18 @@ returns-clause-asks g c =
     c.make_room.new.disk c.in_ok-make_room.ensures.made) c.in_ok-make_room.ensures.same refl
     (ap (λ n. n + 1) c.steps-step.ensures.value) c.hear.result c.hear.ensures.hears
 
-pub returns-in_err-make_room-clause-failed : goal.returns-in_err-make_room-clause-failed
-returns-in_err-make_room-clause-failed g c =
+pub returns-in_err-make_room-clause-fault : goal.returns-in_err-make_room-clause-fault
+returns-in_err-make_room-clause-fault g c =
     let p = err_from_is_err_and c.from_residual.result c.from_residual.ensures.1 in
     rw (p.1, p.2) (inl (
-      c.in_err-make_room.ensures.failed,
+      c.in_err-make_room.ensures.fault,
       c.in_err-make_room.ensures.same,
       refl,
       c.in_err-make_room.ensures.lacking,
     ))
 
-pub returns-clause-failed : goal.returns-clause-failed
-returns-clause-failed g c =
+pub returns-clause-fault : goal.returns-clause-fault
+returns-clause-fault g c =
     hears_in_vain g.S.Source.gives c.args.self.now (says_abreast c.make_room.new.self)
     c.hear.new.self c.args.question (c.steps-step.result + 1) c.hear.result c.args.source.now
     c.hear.new.source c.in_ok-make_room.ensures.same c.hear.ensures.hears
@@ -73,8 +73,8 @@ returns-in_err-make_room-clause-holding g c =
     let p = err_from_is_err_and c.from_residual.result c.from_residual.ensures.1 in
     rw (p.1, p.2) (asks_none_holding g.D.Disk.medium g.S.Source.gives c.args.self.now
     c.make_room.new.self c.args.question c.in_err-make_room.field-0.0 c.args.disk.now
-    c.make_room.new.disk c.args.source.now c.in_err-make_room.ensures.failed
-    c.in_err-make_room.ensures.fails)
+    c.make_room.new.disk c.args.source.now c.in_err-make_room.ensures.fault
+    c.in_err-make_room.ensures.unmade)
 
 pub returns-clause-holding : goal.returns-clause-holding
 returns-clause-holding g c =
@@ -89,7 +89,7 @@ pub returns-in_err-make_room-clause-goes : goal.returns-in_err-make_room-clause-
 returns-in_err-make_room-clause-goes g c =
     let p = err_from_is_err_and c.from_residual.result c.from_residual.ensures.1 in
     rw (p.1, p.2) (λ e. absurd (room_no_source c.in_err-make_room.field-0.0
-    c.in_err-make_room.ensures.failed e))
+    c.in_err-make_room.ensures.fault e))
 
 pub returns-clause-goes : goal.returns-clause-goes
 returns-clause-goes g c = λ e.

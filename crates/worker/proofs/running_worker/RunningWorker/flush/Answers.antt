@@ -6,19 +6,19 @@ use Rattle.worker.specs.declared.running_worker.RunningWorker.{RunningWorker}
 use Rattle.worker.proofs.DurableLemmas.Flushing.{flush_not_stored, flushes_all}
 use Rattle.worker.proofs.DurableLemmas.Flushing.{flushes_some}
 use Rattle.worker.proofs.DurableLemmas.InVain.{no_memory, no_number}
-use Rattle.worker.proofs.StoreTurnLemmas.{barrier_went, barrier_failed, goes_stop}
-use Rattle.worker.proofs.PayingLemmas.{paid, paid_in_vain}
+use Rattle.worker.proofs.PayingLemmas.{barrier_leaves, barrier_leaves_then}
+use Rattle.worker.proofs.PayingLemmas.{failed_barrier_leaves}
 use Rattle.worker.proofs.running_worker.RunningWorker.flush.Goals as goal
 
-pub returns-in_err-barrier-clause-fails : goal.returns-in_err-barrier-clause-fails
-returns-in_err-barrier-clause-fails g c =
+pub returns-in_err-barrier-clause-turn : goal.returns-in_err-barrier-clause-turn
+returns-in_err-barrier-clause-turn g c =
     let p = err_from_is_err_and c.from_residual.result c.from_residual.ensures.1 in
     rw (p.1, p.2) (flush_not_stored g.D.Disk.medium g.O.Outlet.takes c.args.self.now
     c.barrier.new.self c.args.disk.now c.barrier.new.disk c.in_err-barrier.ensures.stores.any_moment
     c.in_err-barrier.field-0.0 c.args.outlet.now c.in_err-barrier.ensures.stores.cause)
 
-pub returns-in_err-release_waiting-clause-fails : goal.returns-in_err-release_waiting-clause-fails
-returns-in_err-release_waiting-clause-fails g c =
+pub returns-in_err-release_waiting-clause-turn : goal.returns-in_err-release_waiting-clause-turn
+returns-in_err-release_waiting-clause-turn g c =
     let p = err_from_is_err_and c.from_residual-in_err-release_waiting.result
     c.from_residual-in_err-release_waiting.ensures.1 in
     let new : RunningWorker = record c.args.self.now {
@@ -31,8 +31,8 @@ returns-in_err-release_waiting-clause-fails g c =
     refl
     c.in_err-release_waiting.ensures.some)
 
-pub returns-clause-flushes : goal.returns-clause-flushes
-returns-clause-flushes g c =
+pub returns-clause-turn : goal.returns-clause-turn
+returns-clause-turn g c =
     let new : RunningWorker = record c.args.self.now {
       process = c.release_waiting.new.process;
       store = c.barrier.new.self;
@@ -43,8 +43,8 @@ returns-clause-flushes g c =
     refl
     c.in_ok-release_waiting.ensures.all
 
-pub returns-in_err-barrier-clause-failed : goal.returns-in_err-barrier-clause-failed
-returns-in_err-barrier-clause-failed g c =
+pub returns-in_err-barrier-clause-fault : goal.returns-in_err-barrier-clause-fault
+returns-in_err-barrier-clause-fault g c =
     let p = err_from_is_err_and c.from_residual.result c.from_residual.ensures.1 in
     rw (p.1, p.2) (inl (
       c.in_err-barrier.field-0.0,
@@ -59,52 +59,34 @@ returns-in_err-barrier-clause-failed g c =
       refl,
     ))
 
-pub returns-in_err-release_waiting-clause-failed :
-    goal.returns-in_err-release_waiting-clause-failed
-returns-in_err-release_waiting-clause-failed g c =
+pub returns-in_err-release_waiting-clause-fault :
+    goal.returns-in_err-release_waiting-clause-fault
+returns-in_err-release_waiting-clause-fault g c =
     let p = err_from_is_err_and c.from_residual-in_err-release_waiting.result
     c.from_residual-in_err-release_waiting.ensures.1 in
     rw (p.1, p.2) (inr (refl, c.in_err-release_waiting.ensures.some))
 
-pub returns-in_err-barrier-clause-runs : goal.returns-in_err-barrier-clause-runs
-returns-in_err-barrier-clause-runs g c =
+pub returns-in_err-barrier-clause-store : goal.returns-in_err-barrier-clause-store
+returns-in_err-barrier-clause-store g c =
     let p = err_from_is_err_and c.from_residual.result c.from_residual.ensures.1 in
     let failed = c.in_err-barrier.ensures in
-    rw (p.1, p.2) (barrier_failed g.D.Disk.medium c.args.self.now.store c.barrier.new.self
-    c.args.disk.now c.barrier.new.disk c.in_err-barrier.field-0.0 failed.stores failed.full
-    c.requires)
+    rw (p.1, p.2) (failed_barrier_leaves g.D.Disk.medium c.args.self.now.store
+    c.barrier.new.self c.args.disk.now c.barrier.new.disk failed.quiet
+    c.in_err-barrier.field-0.0 failed.stores failed.full c.requires)
 
-pub returns-in_err-release_waiting-clause-runs : goal.returns-in_err-release_waiting-clause-runs
-returns-in_err-release_waiting-clause-runs g c =
+pub returns-in_err-release_waiting-clause-store :
+    goal.returns-in_err-release_waiting-clause-store
+returns-in_err-release_waiting-clause-store g c =
     let p = err_from_is_err_and c.from_residual-in_err-release_waiting.result
     c.from_residual-in_err-release_waiting.ensures.1 in
     let done = c.in_ok-barrier.ensures in
-    rw (p.1, p.2) (goes_stop c.args.self.now.store c.barrier.new.self
-    (g.D.Disk.medium c.args.disk.now) (g.D.Disk.medium c.barrier.new.disk)
-    (barrier_went g.D.Disk.medium c.args.self.now.store c.barrier.new.self c.args.disk.now
-    c.barrier.new.disk tt done.stores done.full done.quiet) (Work slice.Outlet) tt)
+    rw (p.1, p.2) (barrier_leaves_then g.D.Disk.medium c.args.self.now.store
+    c.barrier.new.self c.args.disk.now c.barrier.new.disk done.quiet tt
+    done.stores done.full (Work slice.Outlet) tt)
 
-pub returns-clause-runs : goal.returns-clause-runs
-returns-clause-runs g c =
+pub returns-clause-store : goal.returns-clause-store
+returns-clause-store g c =
     let done = c.in_ok-barrier.ensures in
-    barrier_went g.D.Disk.medium c.args.self.now.store c.barrier.new.self c.args.disk.now
-    c.barrier.new.disk tt done.stores done.full done.quiet
-
-pub returns-in_err-barrier-clause-asks : goal.returns-in_err-barrier-clause-asks
-returns-in_err-barrier-clause-asks g c =
-    let p = err_from_is_err_and c.from_residual.result c.from_residual.ensures.1 in
-    rw p.1 (paid_in_vain g.D.Disk.medium c.args.self.now.store c.args.disk.now
-    c.barrier.new.disk c.in_err-barrier.ensures.quiet c.in_err-barrier.ensures.stores.asks)
-
-pub returns-in_err-release_waiting-clause-asks : goal.returns-in_err-release_waiting-clause-asks
-returns-in_err-release_waiting-clause-asks g c =
-    let p = err_from_is_err_and c.from_residual-in_err-release_waiting.result
-    c.from_residual-in_err-release_waiting.ensures.1 in
-    rw p.1 (paid_in_vain g.D.Disk.medium c.args.self.now.store c.args.disk.now
-    c.barrier.new.disk c.in_ok-barrier.ensures.quiet c.in_ok-barrier.ensures.stores.asks)
-
-pub returns-clause-asks : goal.returns-clause-asks
-returns-clause-asks g c =
-    paid g.D.Disk.medium c.args.self.now.store c.barrier.new.self c.args.disk.now
-    c.barrier.new.disk c.in_ok-barrier.ensures.quiet c.in_ok-barrier.ensures.stores.asks
-    c.in_ok-barrier.ensures.stores.stored
+    barrier_leaves g.D.Disk.medium c.args.self.now.store
+    c.barrier.new.self c.args.disk.now c.barrier.new.disk done.quiet tt done.stores
+    done.full

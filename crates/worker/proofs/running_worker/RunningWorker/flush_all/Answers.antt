@@ -7,8 +7,8 @@ use Rattle.worker.specs.BatchTurns.{held_as_begun}
 use Rattle.worker.proofs.DurableLemmas.Flushing.{flushes_not, flushes_queue, refuses_queue}
 use Rattle.worker.proofs.DurableLemmas.Holding.{held_refused, waiting_refused}
 use Rattle.worker.proofs.DurableLemmas.BatchFaults.{barrier_is}
-use Rattle.worker.proofs.StoreTurnLemmas.{barrier_went, barrier_failed, goes_stop}
-use Rattle.worker.proofs.PayingLemmas.{paid, paid_in_vain}
+use Rattle.worker.proofs.PayingLemmas.{barrier_leaves, barrier_leaves_then}
+use Rattle.worker.proofs.PayingLemmas.{failed_barrier_leaves}
 use Rattle.worker.proofs.running_worker.RunningWorker.flush_all.Goals as goal
 
 pub returns-in_err-barrier-clause-fails : goal.returns-in_err-barrier-clause-fails
@@ -91,62 +91,37 @@ returns-clause-flushes g c =
     stores.durable
     new refl refl all.released
 
-pub returns-in_err-barrier-clause-runs : goal.returns-in_err-barrier-clause-runs
-returns-in_err-barrier-clause-runs g c =
+pub returns-in_err-barrier-clause-store : goal.returns-in_err-barrier-clause-store
+returns-in_err-barrier-clause-store g c =
     let p = err_from_is_err_and c.from_residual.result c.from_residual.ensures.1 in
     let failed = c.in_err-barrier.ensures in
-    rw (p.1, p.2) (barrier_failed g.D.Disk.medium c.args.self.now.store c.barrier.new.self
-    c.args.disk.now c.barrier.new.disk c.in_err-barrier.field-0.0 failed.stores failed.full
-    c.requires)
+    rw (p.1, p.2) (failed_barrier_leaves g.D.Disk.medium c.args.self.now.store
+    c.barrier.new.self c.args.disk.now c.barrier.new.disk failed.quiet
+    c.in_err-barrier.field-0.0 failed.stores failed.full c.requires)
 
-pub returns-in_err-release_held-clause-runs : goal.returns-in_err-release_held-clause-runs
-returns-in_err-release_held-clause-runs g c =
+pub returns-in_err-release_held-clause-store :
+    goal.returns-in_err-release_held-clause-store
+returns-in_err-release_held-clause-store g c =
     let p = err_from_is_err_and c.from_residual-in_err-release_held.result
     c.from_residual-in_err-release_held.ensures.1 in
     let done = c.in_ok-barrier.ensures in
-    rw (p.1, p.2) (goes_stop c.args.self.now.store c.barrier.new.self
-    (g.D.Disk.medium c.args.disk.now) (g.D.Disk.medium c.barrier.new.disk)
-    (barrier_went g.D.Disk.medium c.args.self.now.store c.barrier.new.self c.args.disk.now
-    c.barrier.new.disk tt done.stores done.full done.quiet) (Work slice.Outlet) tt)
+    rw (p.1, p.2) (barrier_leaves_then g.D.Disk.medium c.args.self.now.store
+    c.barrier.new.self c.args.disk.now c.barrier.new.disk done.quiet tt
+    done.stores done.full (Work slice.Outlet) tt)
 
-pub returns-in_err-release_waiting-clause-runs : goal.returns-in_err-release_waiting-clause-runs
-returns-in_err-release_waiting-clause-runs g c =
+pub returns-in_err-release_waiting-clause-store :
+    goal.returns-in_err-release_waiting-clause-store
+returns-in_err-release_waiting-clause-store g c =
     let p = err_from_is_err_and c.from_residual-in_err-release_waiting.result
     c.from_residual-in_err-release_waiting.ensures.1 in
     let done = c.in_ok-barrier.ensures in
-    rw (p.1, p.2) (goes_stop c.args.self.now.store c.barrier.new.self
-    (g.D.Disk.medium c.args.disk.now) (g.D.Disk.medium c.barrier.new.disk)
-    (barrier_went g.D.Disk.medium c.args.self.now.store c.barrier.new.self c.args.disk.now
-    c.barrier.new.disk tt done.stores done.full done.quiet) (Work slice.Outlet) tt)
+    rw (p.1, p.2) (barrier_leaves_then g.D.Disk.medium c.args.self.now.store
+    c.barrier.new.self c.args.disk.now c.barrier.new.disk done.quiet tt
+    done.stores done.full (Work slice.Outlet) tt)
 
-pub returns-clause-runs : goal.returns-clause-runs
-returns-clause-runs g c =
+pub returns-clause-store : goal.returns-clause-store
+returns-clause-store g c =
     let done = c.in_ok-barrier.ensures in
-    barrier_went g.D.Disk.medium c.args.self.now.store c.barrier.new.self c.args.disk.now
-    c.barrier.new.disk tt done.stores done.full done.quiet
-
-pub returns-in_err-barrier-clause-asks : goal.returns-in_err-barrier-clause-asks
-returns-in_err-barrier-clause-asks g c =
-    let p = err_from_is_err_and c.from_residual.result c.from_residual.ensures.1 in
-    rw p.1 (paid_in_vain g.D.Disk.medium c.args.self.now.store c.args.disk.now
-    c.barrier.new.disk c.in_err-barrier.ensures.quiet c.in_err-barrier.ensures.stores.asks)
-
-pub returns-in_err-release_held-clause-asks : goal.returns-in_err-release_held-clause-asks
-returns-in_err-release_held-clause-asks g c =
-    let p = err_from_is_err_and c.from_residual-in_err-release_held.result
-    c.from_residual-in_err-release_held.ensures.1 in
-    rw p.1 (paid_in_vain g.D.Disk.medium c.args.self.now.store c.args.disk.now
-    c.barrier.new.disk c.in_ok-barrier.ensures.quiet c.in_ok-barrier.ensures.stores.asks)
-
-pub returns-in_err-release_waiting-clause-asks : goal.returns-in_err-release_waiting-clause-asks
-returns-in_err-release_waiting-clause-asks g c =
-    let p = err_from_is_err_and c.from_residual-in_err-release_waiting.result
-    c.from_residual-in_err-release_waiting.ensures.1 in
-    rw p.1 (paid_in_vain g.D.Disk.medium c.args.self.now.store c.args.disk.now
-    c.barrier.new.disk c.in_ok-barrier.ensures.quiet c.in_ok-barrier.ensures.stores.asks)
-
-pub returns-clause-asks : goal.returns-clause-asks
-returns-clause-asks g c =
-    paid g.D.Disk.medium c.args.self.now.store c.barrier.new.self c.args.disk.now
-    c.barrier.new.disk c.in_ok-barrier.ensures.quiet c.in_ok-barrier.ensures.stores.asks
-    c.in_ok-barrier.ensures.stores.stored
+    barrier_leaves g.D.Disk.medium c.args.self.now.store
+    c.barrier.new.self c.args.disk.now c.barrier.new.disk done.quiet tt done.stores
+    done.full

@@ -1,16 +1,16 @@
 use Rattle.std.proofs.Common.{refl}
 use Rattle.std.proofs.lemmas.Result.{err_from_is_err_and}
-use Rattle.worker.proofs.StoreTurnLemmas.{goes_none}
+use Rattle.worker.proofs.PayingLemmas.{leaves_none}
 use Rattle.worker.proofs.DurableLemmas.Freeing.{fails_held}
 use Rattle.worker.proofs.running_worker.RunningWorker.flush_unless_ready.Goals as goal
 
-pub returns-then-is_empty-clause-runs : goal.returns-then-is_empty-clause-runs
-returns-then-is_empty-clause-runs g c =
-    goes_none c.args.self.now.store (g.D.Disk.medium c.args.disk.now)
+pub returns-then-is_empty-clause-store : goal.returns-then-is_empty-clause-store
+returns-then-is_empty-clause-store g c =
+    leaves_none c.args.self.now.store (g.D.Disk.medium c.args.disk.now)
 
-pub returns-then-is_ready-clause-runs : goal.returns-then-is_ready-clause-runs
-returns-then-is_ready-clause-runs g c =
-    goes_none c.args.self.now.store (g.D.Disk.medium c.args.disk.now)
+pub returns-then-is_ready-clause-store : goal.returns-then-is_ready-clause-store
+returns-then-is_ready-clause-store g c =
+    leaves_none c.args.self.now.store (g.D.Disk.medium c.args.disk.now)
 
 pub returns-in_err-flush_all-clause-fails : goal.returns-in_err-flush_all-clause-fails
 returns-in_err-flush_all-clause-fails g c =

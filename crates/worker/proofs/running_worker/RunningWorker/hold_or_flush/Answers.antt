@@ -1,16 +1,16 @@
-use Rattle.std.proofs.Common.{subst, sym}
+use Rattle.std.proofs.Common.{subst, sym, Ok}
 use Rattle.std.proofs.lemmas.Result.{err_from_is_err_and}
 use Rattle.worker_store.specs.declared.store.WorkerStore.{WorkerStore}
-use Rattle.worker.specs.StoreTurns.{StoreGoes}
-use Rattle.worker.proofs.StoreTurnLemmas.{goes_none}
+use Rattle.worker.specs.StoreTurns.{LeavesStore}
+use Rattle.worker.proofs.PayingLemmas.{leaves_none}
 use Rattle.worker.proofs.DurableLemmas.Freeing.{fails_held}
 use Rattle.worker.proofs.running_worker.RunningWorker.hold_or_flush.Goals as goal
 
-pub returns-then-hold-clause-runs : goal.returns-then-hold-clause-runs
-returns-then-hold-clause-runs g c =
+pub returns-then-hold-clause-store : goal.returns-then-hold-clause-store
+returns-then-hold-clause-store g c =
     let disk = g.D.Disk.medium c.args.disk.now in
-    subst (λ (k : WorkerStore). StoreGoes c.args.self.now.store k disk disk)
-    (sym c.hold.ensures.store) (goes_none c.args.self.now.store disk)
+    subst (λ (k : WorkerStore). LeavesStore {T = Unit {0}} (Ok tt) c.args.self.now.store k disk
+    disk) (sym c.hold.ensures.store) (leaves_none c.args.self.now.store disk)
 
 pub returns-in_err-flush_all-clause-fails : goal.returns-in_err-flush_all-clause-fails
 returns-in_err-flush_all-clause-fails g c =

@@ -5,8 +5,8 @@ use Rattle.worker.proofs.DurableLemmas.Rooms.{has_room, makes_room, makes_no_roo
 use Rattle.worker.proofs.StoreTurnLemmas.{goes_none}
 use Rattle.worker.proofs.running_worker.RunningWorker.make_room.Goals as goal
 
-pub returns-in_err-save-clause-fails : goal.returns-in_err-save-clause-fails
-returns-in_err-save-clause-fails g c =
+pub returns-in_err-save-clause-unmade : goal.returns-in_err-save-clause-unmade
+returns-in_err-save-clause-unmade g c =
     let p = err_from_is_err_and c.from_residual.result c.from_residual.ensures.1 in
     rw (p.1, p.2) (makes_no_room g.D.Disk.medium c.args.self.now c.save.new.store c.args.disk.now
     c.save.new.disk c.process_images_fit_areas.ensures c.requires.shown
@@ -32,8 +32,8 @@ returns-then-room-longest_record-clause-made g c =
     let long = c.longest_record.ensures
     ∙ ap (λ v. longest_record v) c.version-version.ensures in omega arith)
 
-pub returns-in_err-save-clause-failed : goal.returns-in_err-save-clause-failed
-returns-in_err-save-clause-failed g c =
+pub returns-in_err-save-clause-fault : goal.returns-in_err-save-clause-fault
+returns-in_err-save-clause-fault g c =
     let p = err_from_is_err_and c.from_residual.result c.from_residual.ensures.1 in
     rw (p.1, p.2) (c.in_err-save.field-0.0, refl)
 

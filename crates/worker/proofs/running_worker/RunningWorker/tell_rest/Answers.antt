@@ -20,8 +20,8 @@ returns-in_err-flush_all-clause-rest g c =
           c.in_err-flush_all.field-0.0 c.flush_all.new.self (g.D.Disk.medium c.args.disk.now)
           (g.D.Disk.medium c.flush_all.new.disk) c.args.outlet.now c.flush_all.new.outlet refl
           (cc) failed.fails,
-      failed.runs,
-      failed.asks,
+      failed.store.runs,
+      failed.store.pays,
     )))
 
 pub returns-clause-rest : goal.returns-clause-rest
@@ -38,6 +38,6 @@ returns-clause-rest g c =
       tells_held g.O.Outlet.takes c.args.self.now c.args.queue.now.lines _ c.flush_all.new.self
           (g.D.Disk.medium c.args.disk.now) (g.D.Disk.medium c.flush_all.new.disk)
           c.args.outlet.now c.flush_all.new.outlet (cc) told.tells told.flushes,
-      told.runs,
-      told.asks,
+      told.store.runs,
+      told.store.pays,
     ))

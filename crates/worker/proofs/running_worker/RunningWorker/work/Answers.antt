@@ -83,7 +83,7 @@ loop-self-preserved-in_ok-flush-in-Owes g c =
     (ap (λ z. c.args.fuel - (z - c.steps-first.result)) c.steps.ensures.value)
     c.in_ok-advance.ensures.released c.in_ok-advance.ensures.guest
     (rw c.in-Owes.is at c.in_ok-advance.ensures.advances) c.flush.new.self c.flush.new.disk
-    c.flush.new.outlet done.all done.flushes done.runs done.places done.sectors done.asks
+    c.flush.new.outlet done.all done.turn done.store
 
 pub loop-self-smaller-in_ok-flush-in-Owes : goal.loop-self-smaller-in_ok-flush-in-Owes
 loop-self-smaller-in_ok-flush-in-Owes g c =
@@ -103,8 +103,8 @@ returns-in_err-flush-in-Owes-clause-works g c =
     (ap (λ z. c.args.fuel - (z - c.steps-first.result)) c.steps.ensures.value)
     c.in_ok-advance.ensures.released c.in_ok-advance.ensures.guest
     (rw c.in-Owes.is at c.in_ok-advance.ensures.advances) c.flush.new.self c.flush.new.disk
-    c.flush.new.outlet c.in_err-flush-in-Owes.field-0.0 c.in_err-flush-in-Owes.ensures.fails
-    c.in_err-flush-in-Owes.ensures.asks)
+    c.flush.new.outlet c.in_err-flush-in-Owes.field-0.0 c.in_err-flush-in-Owes.ensures.turn
+    c.in_err-flush-in-Owes.ensures.store.pays)
 
 pub returns-in_err-ask-in-Asks-clause-works : goal.returns-in_err-ask-in-Asks-clause-works
 returns-in_err-ask-in-Asks-clause-works g c =
@@ -115,7 +115,7 @@ returns-in_err-ask-in-Asks-clause-works g c =
     (ap (λ z. c.args.fuel - (z - c.steps-first.result)) c.steps.ensures.value)
     c.in_ok-advance.ensures.released c.in_ok-advance.ensures.guest c.in-Asks.question
     (rw c.in-Asks.is at c.in_ok-advance.ensures.advances) c.ask.new.self c.ask.new.disk
-    c.ask.new.source c.in_err-ask-in-Asks.field-0.0 c.in_err-ask-in-Asks.ensures.asks
+    c.ask.new.source c.in_err-ask-in-Asks.field-0.0 c.in_err-ask-in-Asks.ensures.turn
     c.in_err-ask-in-Asks.ensures.few)
 
 pub returns-then-not-branch-clause-done : goal.returns-then-not-branch-clause-done
@@ -144,7 +144,7 @@ returns-then-not-branch-clause-works g c =
     (ap (λ z. c.args.fuel - (z - c.steps-first.result)) c.steps.ensures.value)
     c.in_ok-advance.ensures.released c.in_ok-advance.ensures.guest c.in-Asks.question
     (rw c.in-Asks.is at c.in_ok-advance.ensures.advances) c.ask.new.self c.ask.new.disk
-    c.ask.new.source (rw c.if-not-branch.true at c.in_ok-ask-in-Asks.ensures.asks)
+    c.ask.new.source (rw c.if-not-branch.true at c.in_ok-ask-in-Asks.ensures.turn)
     c.in_ok-ask-in-Asks.ensures.few
 
 pub loop-self-smaller : goal.loop-self-smaller
@@ -163,7 +163,7 @@ loop-self-preserved g c =
     c.in_ok-advance.ensures.released c.in_ok-advance.ensures.guest c.in-Asks.question
     (rw c.in-Asks.is at c.in_ok-advance.ensures.advances) c.ask.new.self c.ask.new.disk
     c.ask.new.source (rw c.if-not-branch.false at done.once) done.released
-    (rw c.if-not-branch.false at done.asks) done.runs done.places done.sectors done.few
+    (rw c.if-not-branch.false at done.turn) done.runs done.places done.sectors done.few
 
 pub returns-in_err-advance-clause-failed : goal.returns-in_err-advance-clause-failed
 returns-in_err-advance-clause-failed g c =
@@ -183,7 +183,7 @@ returns-in_err-flush-in-Owes-clause-failed g c =
     (ap (λ z. c.args.fuel - (z - c.steps-first.result)) c.steps.ensures.value)
     c.in_ok-advance.ensures.released c.in_ok-advance.ensures.guest
     (rw c.in-Owes.is at c.in_ok-advance.ensures.advances) c.flush.new.self c.flush.new.disk
-    c.flush.new.outlet c.in_err-flush-in-Owes.field-0.0 c.in_err-flush-in-Owes.ensures.failed)
+    c.flush.new.outlet c.in_err-flush-in-Owes.field-0.0 c.in_err-flush-in-Owes.ensures.fault)
 
 pub returns-in_err-ask-in-Asks-clause-failed : goal.returns-in_err-ask-in-Asks-clause-failed
 returns-in_err-ask-in-Asks-clause-failed g c =
@@ -194,7 +194,7 @@ returns-in_err-ask-in-Asks-clause-failed g c =
     (ap (λ z. c.args.fuel - (z - c.steps-first.result)) c.steps.ensures.value)
     c.in_ok-advance.ensures.released c.in_ok-advance.ensures.guest c.in-Asks.question
     (rw c.in-Asks.is at c.in_ok-advance.ensures.advances) c.ask.new.self c.ask.new.disk
-    c.ask.new.source c.in_err-ask-in-Asks.field-0.0 c.in_err-ask-in-Asks.ensures.failed)
+    c.ask.new.source c.in_err-ask-in-Asks.field-0.0 c.in_err-ask-in-Asks.ensures.fault)
 
 pub returns-in_err-advance-clause-runs : goal.returns-in_err-advance-clause-runs
 returns-in_err-advance-clause-runs g c =
@@ -214,7 +214,7 @@ returns-in_err-flush-in-Owes-clause-runs g c =
     (ap (λ z. c.args.fuel - (z - c.steps-first.result)) c.steps.ensures.value)
     c.in_ok-advance.ensures.released c.in_ok-advance.ensures.guest {T = Unit {0}}
     c.flush.new.self c.flush.new.disk (Err c.in_err-flush-in-Owes.field-0.0)
-    c.in_err-flush-in-Owes.ensures.runs)
+    c.in_err-flush-in-Owes.ensures.store.runs)
 
 pub returns-in_err-ask-in-Asks-clause-runs : goal.returns-in_err-ask-in-Asks-clause-runs
 returns-in_err-ask-in-Asks-clause-runs g c =

@@ -12,8 +12,8 @@ use Rattle.worker.proofs.running_worker.RunningWorker.work_in_batch.Goals as goa
 pub loop-self-init : goal.loop-self-init
 loop-self-init g c = (
   in_batch_none g.D.Disk.medium g.S.Source.gives g.O.Outlet.takes c.args.self.now
-      c.args.watched.fuel c.args.queue.now.most c.steps-first.result c.args.queue.now.lines c.args.disk.now
-      c.args.source.now c.args.outlet.now c.requires.none_held c.requires.none_waits
+      c.args.watched.fuel c.args.queue.now.most c.steps-first.result c.args.queue.now.lines
+      c.args.disk.now c.args.source.now c.args.outlet.now c.requires.none_held c.requires.none_waits
       c.steps-first.ensures.shows c.steps-first.ensures.value,
   refl,
 )
@@ -72,11 +72,10 @@ loop-self-preserved-in_ok-hold_or_flush-in-Owes g c =
           (ap (λ z. c.args.watched.fuel - (z - c.steps-first.result)) c.steps.ensures.value)
           c.in_ok-advance.ensures.released c.in_ok-advance.ensures.guest
           (rw c.in-Owes.is at c.in_ok-advance.ensures.advances) c.hold_or_flush.new.self
-          c.hold_or_flush.new.disk c.hold_or_flush.new.outlet done.sectors done.places
-          c.hold_or_flush.new.queue.lines
+          c.hold_or_flush.new.disk c.hold_or_flush.new.outlet c.hold_or_flush.new.queue.lines
           (as_many g.D.Disk.medium g.O.Outlet.takes _ _ _ _ c.hold_or_flush.new.self
           c.hold_or_flush.new.queue.lines _ c.hold_or_flush.new.disk _
-          c.hold_or_flush.new.outlet most done.done) done.runs done.asks,
+          c.hold_or_flush.new.outlet most done.done) done.store,
       done.most ∙ most,
     )
 
@@ -89,8 +88,7 @@ loop-self-smaller-in_ok-hold_or_flush-in-Owes g c =
     (ap (λ z. c.args.watched.fuel - (z - c.steps-first.result)) c.steps.ensures.value)
     c.in_ok-advance.ensures.released c.in_ok-advance.ensures.guest
     (rw c.in-Owes.is at c.in_ok-advance.ensures.advances) c.hold_or_flush.new.self
-    c.hold_or_flush.new.disk c.hold_or_flush.new.outlet done.sectors done.places
-    c.hold_or_flush.new.queue.lines
+    c.hold_or_flush.new.disk c.hold_or_flush.new.outlet c.hold_or_flush.new.queue.lines
     (as_many g.D.Disk.medium g.O.Outlet.takes _ _ _ _ c.hold_or_flush.new.self
     c.hold_or_flush.new.queue.lines _ c.hold_or_flush.new.disk _ c.hold_or_flush.new.outlet most
     done.done)
@@ -106,9 +104,8 @@ returns-in_err-hold_or_flush-in-Owes-clause-works g c =
     (ap (λ z. c.args.watched.fuel - (z - c.steps-first.result)) c.steps.ensures.value)
     c.in_ok-advance.ensures.released c.in_ok-advance.ensures.guest
     (rw c.in-Owes.is at c.in_ok-advance.ensures.advances) c.hold_or_flush.new.self
-    c.hold_or_flush.new.disk c.hold_or_flush.new.outlet failed.sectors failed.places
-    c.hold_or_flush.new.queue.lines c.in_err-hold_or_flush-in-Owes.field-0.0 failed.fails
-    failed.runs failed.asks)
+    c.hold_or_flush.new.disk c.hold_or_flush.new.outlet c.hold_or_flush.new.queue.lines
+    c.in_err-hold_or_flush-in-Owes.field-0.0 failed.fails failed.store)
 
 pub returns-in_err-flush_unless_ready-in-Asks-clause-works :
     goal.returns-in_err-flush_unless_ready-in-Asks-clause-works
@@ -122,8 +119,8 @@ returns-in_err-flush_unless_ready-in-Asks-clause-works g c =
     (rw c.in-Asks.is at c.in_ok-advance.ensures.advances) in
     rw (p.1, p.2) (unfreed_in _ _ _ _ _ c.flush_unless_ready.new.self _ _ _ _ _
     c.flush_unless_ready.new.queue.lines _ _ c.flush_unless_ready.new.disk _ _ _ _
-    c.flush_unless_ready.new.outlet asking failed.sectors failed.places
-    c.in_err-flush_unless_ready-in-Asks.field-0.0 failed.fails failed.runs failed.asks)
+    c.flush_unless_ready.new.outlet asking c.in_err-flush_unless_ready-in-Asks.field-0.0
+    failed.fails failed.store)
 
 pub returns-in_err-ask_in_batch-in-Asks-clause-works :
     goal.returns-in_err-ask_in_batch-in-Asks-clause-works
@@ -138,14 +135,14 @@ returns-in_err-ask_in_batch-in-Asks-clause-works g c =
     let free = c.in_ok-flush_unless_ready-in-Asks.ensures in
     let freed = freed_in _ _ _ _ _ c.flush_unless_ready.new.self _ _ _ _ _
     c.flush_unless_ready.new.queue.lines _ _ c.flush_unless_ready.new.disk _ _ _ _
-    c.flush_unless_ready.new.outlet asking free.sectors free.places free.done free.runs free.asks in
+    c.flush_unless_ready.new.outlet asking free.done free.store in
     let is_free = free_in _ _ _ _ _ c.flush_unless_ready.new.self _ _ _ _ _
     c.flush_unless_ready.new.queue.lines _ _ c.flush_unless_ready.new.disk _ _ _ _
-    c.flush_unless_ready.new.outlet asking free.sectors free.places free.done in
+    c.flush_unless_ready.new.outlet asking free.done in
     rw (p.1, p.2) (unasked_in _ _ _ _ _ c.ask_in_batch.new.self _ _ _ _ _ _ _
     c.ask_in_batch.new.disk _ _
     c.ask_in_batch.new.source _ _ freed is_free failed.few
-    c.in_err-ask_in_batch-in-Asks.field-0.0 failed.ended failed.asks failed.failed
+    c.in_err-ask_in_batch-in-Asks.field-0.0 failed.ended failed.holding failed.fault
     (λ is. failed.goes (ap (λ z. Err z) is)) failed.runs)
 
 pub returns-then-not-branch-clause-works : goal.returns-then-not-branch-clause-works
@@ -158,13 +155,13 @@ returns-then-not-branch-clause-works g c =
     let free = c.in_ok-flush_unless_ready-in-Asks.ensures in
     let freed = freed_in _ _ _ _ _ c.flush_unless_ready.new.self _ _ _ _ _
     c.flush_unless_ready.new.queue.lines _ _ c.flush_unless_ready.new.disk _ _ _ _
-    c.flush_unless_ready.new.outlet asking free.sectors free.places free.done free.runs free.asks in
+    c.flush_unless_ready.new.outlet asking free.done free.store in
     let is_free = free_in _ _ _ _ _ c.flush_unless_ready.new.self _ _ _ _ _
     c.flush_unless_ready.new.queue.lines _ _ c.flush_unless_ready.new.disk _ _ _ _
-    c.flush_unless_ready.new.outlet asking free.sectors free.places free.done in
+    c.flush_unless_ready.new.outlet asking free.done in
     waits_in _ _ _ _ _ c.ask_in_batch.new.self _ _ _ _ _ _ _ c.ask_in_batch.new.disk _ _
     c.ask_in_batch.new.source _ _ freed is_free done.few
-    (rw c.if-not-branch.true at done.once) (rw c.if-not-branch.true at done.asks) done.runs
+    (rw c.if-not-branch.true at done.once) (rw c.if-not-branch.true at done.holding) done.runs
 
 pub returns-then-not-branch-clause-shows : goal.returns-then-not-branch-clause-shows
 returns-then-not-branch-clause-shows g c =
@@ -176,10 +173,10 @@ returns-then-not-branch-clause-shows g c =
     let free = c.in_ok-flush_unless_ready-in-Asks.ensures in
     let freed = freed_in _ _ _ _ _ c.flush_unless_ready.new.self _ _ _ _ _
     c.flush_unless_ready.new.queue.lines _ _ c.flush_unless_ready.new.disk _ _ _ _
-    c.flush_unless_ready.new.outlet asking free.sectors free.places free.done free.runs free.asks in
+    c.flush_unless_ready.new.outlet asking free.done free.store in
     let is_free = free_in _ _ _ _ _ c.flush_unless_ready.new.self _ _ _ _ _
     c.flush_unless_ready.new.queue.lines _ _ c.flush_unless_ready.new.disk _ _ _ _
-    c.flush_unless_ready.new.outlet asking free.sectors free.places free.done in
+    c.flush_unless_ready.new.outlet asking free.done in
     let questioning = asking.questioning in
     let same = freed_same g.D.Disk.medium g.O.Outlet.takes _ c.flush_unless_ready.new.self _
     c.flush_unless_ready.new.queue.lines _ c.flush_unless_ready.new.disk _
@@ -202,10 +199,10 @@ loop-self-smaller g c =
     let free = c.in_ok-flush_unless_ready-in-Asks.ensures in
     let freed = freed_in _ _ _ _ _ c.flush_unless_ready.new.self _ _ _ _ _
     c.flush_unless_ready.new.queue.lines _ _ c.flush_unless_ready.new.disk _ _ _ _
-    c.flush_unless_ready.new.outlet asking free.sectors free.places free.done free.runs free.asks in
+    c.flush_unless_ready.new.outlet asking free.done free.store in
     let is_free = free_in _ _ _ _ _ c.flush_unless_ready.new.self _ _ _ _ _
     c.flush_unless_ready.new.queue.lines _ _ c.flush_unless_ready.new.disk _ _ _ _
-    c.flush_unless_ready.new.outlet asking free.sectors free.places free.done in
+    c.flush_unless_ready.new.outlet asking free.done in
     let before = asked_counts _ _ _ _ _ c.advance.new.self _ _ _ _ _ _ _ _ _ _ _
     c.loop-self.invariant.0
     (ap (λ z. c.args.watched.fuel - (z - c.steps-first.result)) c.steps.ensures.value)
@@ -229,13 +226,13 @@ loop-self-preserved g c =
     let free = c.in_ok-flush_unless_ready-in-Asks.ensures in
     let freed = freed_in _ _ _ _ _ c.flush_unless_ready.new.self _ _ _ _ _
     c.flush_unless_ready.new.queue.lines _ _ c.flush_unless_ready.new.disk _ _ _ _
-    c.flush_unless_ready.new.outlet asking free.sectors free.places free.done free.runs free.asks in
+    c.flush_unless_ready.new.outlet asking free.done free.store in
     let is_free = free_in _ _ _ _ _ c.flush_unless_ready.new.self _ _ _ _ _
     c.flush_unless_ready.new.queue.lines _ _ c.flush_unless_ready.new.disk _ _ _ _
-    c.flush_unless_ready.new.outlet asking free.sectors free.places free.done in (
+    c.flush_unless_ready.new.outlet asking free.done in (
       answered_in _ _ _ _ _ c.ask_in_batch.new.self _ _ _ _ _ _ _ c.ask_in_batch.new.disk _ _
           c.ask_in_batch.new.source _ _ freed is_free done.few
           (rw c.if-not-branch.false at done.once) done.released
-          (rw c.if-not-branch.false at done.asks) done.runs done.places done.sectors,
+          (rw c.if-not-branch.false at done.holding) done.runs done.places done.sectors,
       free.most ∙ c.loop-self.invariant.1,
     )
