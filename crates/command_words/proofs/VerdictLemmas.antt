@@ -27,6 +27,8 @@ use Rattle.command_words.specs.rules.Checks.{ChecksModule, EndsAsAsked, IsChecke
 use Rattle.command_words.specs.rules.Verdicts.{EndsWithMore, IsImportOffered, SaysMore}
 use Rattle.command_words.specs.rules.Verdicts.{TellsMore, TellsOfLink}
 use Rattle.command_words.specs.rules.Verdicts.{first_pages, pages_text}
+use Rattle.command_words.specs.declared.status.Status.{Status}
+use Rattle.command_words.specs.declared.status.Status.TheVariants as exit
 use Rattle.command_words.proofs.LineLemmas.Printed.{prints_both}
 use Rattle.command_words.proofs.PrinterLemmas.{writes_so}
 
@@ -153,22 +155,23 @@ module _ (bytes : List ℕ) where
 
   pub told_why : (lists_all : Bool) (pages : ℕ) (new : PrinterState)
       (verdict : Result ⊤ ModuleFault) → IfErr verdict (IsReported pages bytes)
-      → IfErr verdict (λ fault. EndsAsAsked lists_all bytes fault new) → status_by verdict ≡ 3
-      → TellsWhy lists_all pages bytes new
-  told_why lists_all pages new (Ok done) reported more is = absurd (omega (arith, is))
+      → IfErr verdict (λ fault. EndsAsAsked lists_all bytes fault new)
+      → status_by verdict ≡ exit.Refused → TellsWhy lists_all pages bytes new
+  told_why lists_all pages new (Ok done) reported more is = absurd cc
   told_why lists_all pages new (Err fault) reported more is = (fault, reported, more)
 
   -- ---- a check
 
-  pub checked : (lists_all : Bool) (pages n : ℕ) (out out' err : PrinterState) (status : ℕ)
+  pub checked : (lists_all : Bool) (pages n : ℕ) (out out' err : PrinterState) (status : Status)
       → n ≡ pages → 1 ≤ pages → pages ≤ 256 → IsChecked lists_all n bytes out status out'
       → ChecksModule lists_all pages bytes out out' err err status
   checked lists_all pages n out out' err status is least most h =
       inl (least, most, subst (λ k. IsChecked lists_all k bytes out status out') is h, refl)
 
-  pub unchecked : (lists_all : Bool) (pages : ℕ) (out err err' : PrinterState) (status : ℕ)
+  pub unchecked : (lists_all : Bool) (pages : ℕ) (out err err' : PrinterState) (status : Status)
       (line : List ℕ)
-      → IsOutside 1 256 pages → line ≡ range_words bound.Pages → SaysLine line 3 err status err'
+      → IsOutside 1 256 pages → line ≡ range_words bound.Pages
+      → SaysLine line exit.Refused err status err'
       → ChecksModule lists_all pages bytes out out err err' status
   unchecked lists_all pages out err err' status line outside is said =
-      inr (outside, subst (λ l. SaysLine l 3 err status err') is said, refl)
+      inr (outside, subst (λ l. SaysLine l exit.Refused err status err') is said, refl)

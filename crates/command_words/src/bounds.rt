@@ -3,7 +3,7 @@
 //! # Choices
 //!
 //! - **`C1 Range` prints its bounds.** `configure` looks for what is out of them before it asks
-//!   `Config::new`, which answers only that something is. That both have the same bounds is proved.
+//!   `Config::new`, which answers only that something is. Both are proved to have the same bounds.
 
 ghost use Rattle.std.specs.Prelude.{◌≡◌, ◌↔◌, ℕ, List, IfSome, IsNone, IsTrue};
 ghost use Rattle.std.specs.List.{AllByRecursion};

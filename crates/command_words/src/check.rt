@@ -2,11 +2,11 @@
 //!
 //! # Promises
 //!
-//! - `check_bytes`: status 0 says that the bytes spell a module that is accepted with so many pages
-//!   (`accepted`), and that `accepted` was printed (`printed`). 3 says that they spell none
+//! - `check_bytes`: `Done` says that the bytes spell a module that is accepted with so many pages
+//!   (`accepted`), and that `accepted` was printed (`printed`). `Refused` says that they spell none
 //!   (`refused`). What else is known of it is told last, or if that is asked for all imports and
-//!   functions that are in the way (`more`). All others are 5 and 7 (`known`), and 7 comes just
-//!   where a write has failed (`heeded`).
+//!   functions that are in the way (`more`). All others are `OutOfMemory` and `Unwritten`
+//!   (`known`), and `Unwritten` comes just where a write has failed (`heeded`).
 //! - `check_module` is that, of as many pages as a worker may have, and of others it tells their
 //!   bounds (`ChecksModule`).
 //!
@@ -14,11 +14,11 @@
 //!
 //! - `check` is the front end and a line of text. By default the page limit is 256. A module file
 //!   is read up to one byte more than the longest module has, by which a longer one is known.
-//! - `check_bytes` answers 0 only where the bytes spell an accepted module and `accepted` was
-//!   written. It answers 3 only where they spell none, and its other statuses are 5 and 7. That 5
-//!   comes only for lack of memory no clause can say, since the host's room is in no contract.
-//!   Tests and refused allocations show it. Tests also show the text of refusals, which derived
-//!   `Display`s print.
+//! - `check_bytes` answers `Done` only where the bytes spell an accepted module and `accepted` was
+//!   written. `Refused` is answered only where the bytes spell none, and the other statuses are
+//!   `OutOfMemory` and `Unwritten`. No clause can say that `OutOfMemory` comes only for lack of
+//!   memory, since the host's room is in no contract. Tests and refused allocations show it. Tests
+//!   also show the text of refusals, which derived `Display`s print.
 
 ghost use Rattle.std.specs.Prelude.{◌≡◌, ◌≤◌, ◌⊎◌, ◌^◌, true, false, IsOk, Err, IfErr, OnErr, OnOk};
 ghost use Rattle.std.specs.Prelude.{MatchOption, Some, codes};
@@ -33,12 +33,13 @@ ghost use Rattle.command_words.specs.rules.Listings.{EndsWithList};
 ghost use Rattle.command_words.specs.rules.ModuleLimits.{TellsLimit};
 ghost use Rattle.command_words.specs.rules.Printers.{HeedsWrites};
 ghost use Rattle.command_words.specs.Statuses.{IsRight, status_by};
+ghost use Rattle.command_words.specs.declared.status.Status.TheVariants as exit;
 ghost use Rattle.command_words.specs.rules.Verdicts.{EndsWithMore};
 
 use crate::bounds::{Bound, PAGES_BOUND, words_of_range};
 use crate::module_limits::print_limit;
 use crate::printer::Printer;
-use crate::status::{NO_MEMORY, REFUSED, UNWRITTEN};
+use crate::status::Status;
 use crate::telling::say_line;
 use crate::verdicts::{print_list, print_more, print_unlisted};
 use machine::{ModuleFault, accept};
@@ -154,39 +155,40 @@ fn print_verdict<W: Write + Drop>(
 }
 
 /// The exit status of a verdict that is printed.
-fn status_of(verdict: Result<(), ModuleFault>) -> u8
+fn status_of(verdict: Result<(), ModuleFault>) -> Status
     ensures { result ≡ status_by verdict }
 {
     match verdict {
-        Ok(()) => 0,
-        Err(fault) if fault.is_want_of_memory() => NO_MEMORY,
-        Err(_) => REFUSED,
+        Ok(()) => Status::Done,
+        Err(fault) if fault.is_want_of_memory() => Status::OutOfMemory,
+        Err(_) => Status::Refused,
     }
 }
 
 /// Says whether a module is accepted with so many pages: prints a line, and why not on a further
-/// one, or lists all that is in the way if that is asked for. Answers the exit status, 0, 3 where
-/// it is refused, 5 for out of memory, 7 where a write has failed.
+/// one, or lists all that is in the way if that is asked for. Answers the exit status, `Done`,
+/// `Refused` where it is refused, `OutOfMemory`, `Unwritten` where a write has failed.
 pub fn check_bytes<W: Write + Drop>(
     alloc: Global,
     wasm: &[u8],
     pages: u32,
     lists_all: bool,
     out: &mut Printer<W>,
-) -> u8
+) -> Status
     requires { pages ≤ 2 ^ 16 }
-    ensures accepted { result ≡ 0 → HasAcceptedModule pages wasm.now }
-    ensures printed { result ≡ 0
+    ensures accepted { result ≡ exit.Done → HasAcceptedModule pages wasm.now }
+    ensures printed { result ≡ exit.Done
         → Appends out.old.contents out.new.contents (codes "accepted\n") }
-    ensures refused { result ≡ 3 → HasNoAcceptedModule pages wasm.now }
-    ensures more { result ≡ 3 → TellsWhy lists_all pages wasm.now out.new }
+    ensures refused { result ≡ exit.Refused → HasNoAcceptedModule pages wasm.now }
+    ensures more { result ≡ exit.Refused → TellsWhy lists_all pages wasm.now out.new }
     ensures heeded { HeedsWrites out.old result out.new }
-    ensures known { (result ≡ 0) ⊎ (result ≡ 3) ⊎ (result ≡ 5) ⊎ (result ≡ 7) }
+    ensures known { (result ≡ exit.Done) ⊎ (result ≡ exit.Refused) ⊎ (result ≡ exit.OutOfMemory)
+        ⊎ (result ≡ exit.Unwritten) }
 {
     let verdict = verdict_on(alloc, wasm, pages);
     match print_verdict(alloc, wasm, lists_all, verdict, out) {
         Ok(()) => status_of(verdict),
-        Err(_) => UNWRITTEN,
+        Err(_) => Status::Unwritten,
     }
 }
 
@@ -211,13 +213,12 @@ pub fn check_module<W: Write + Drop, E: Write + Drop>(
     lists_all: bool,
     out: &mut Printer<W>,
     err: &mut Printer<E>,
-) -> u8
-    ensures checks { ChecksModule lists_all pages wasm.now out.old out.new err.old err.new
+) -> Status
+    ensures { ChecksModule lists_all pages wasm.now out.old out.new err.old err.new
         result }
-    ensures known { result ≤ 7 }
 {
     match allowed_pages(pages) {
         Some(pages) => check_bytes(alloc, wasm, pages, lists_all, out),
-        None => say_line(err, REFUSED, words_of_range(Bound::Pages)),
+        None => say_line(err, Status::Refused, words_of_range(Bound::Pages)),
     }
 }

@@ -2,6 +2,8 @@
 //! modules, and exit statuses (this project's own). All that the commands need and that no worker
 //! is needed for.
 //!
+//! # Example
+//!
 //! ```text
 //! match read_words(alloc, &["wasmhost", "check", "guest.wasm"]) {
 //!     Ok(Order::Check(order)) => ..,
@@ -16,14 +18,15 @@
 //! with their clauses.
 //!
 //! - `read_words`: an order is exactly what the words mean, and a fault one that they have.
-//! - `check_bytes`, `check_module`: 0 only if the bytes spell a module that is
-//!   accepted, and 3 only if they don't, or the pages are out of bounds.
+//! - `Status`: one of the eight exit statuses, and its number.
+//! - `check_bytes`, `check_module`: `Done` only if the bytes spell a module that is accepted, and
+//!   `Refused` only if they don't, or the pages are out of bounds.
 //! - `prepare`, `report_unprepared`: what a worker needs, before there is a disk, or why it can't
 //!   be had.
 //! - `RequestSource`, `LineReader`, `BufferedLines`, `read_request`: request lines, in their order,
 //!   and why one is refused. Clocks and random words come from the outside (`Outside`, `RealTime`).
 //! - `LineOutlet`, `Printer`: all that the program says is printed by one that knows whether a
-//!   write has failed. So status 7 comes with a failed write.
+//!   write has failed. `Unwritten` comes with a failed write.
 //! - `read_seed`, `seeded`, `read_module`, `split_once`, `cut_line`, `digest_digits`, `spell_line`,
 //!   `spell_answer`, `spell_record`, `say_text`, `say_line`, `report`, `report_words`,
 //!   `report_output`: the words of all these.
@@ -34,24 +37,25 @@
 //! In `specs/rules/`: `GivesAnswers`, `GiveUpTo` (`Requests.antt`); `ComeFrom`, `requests_in`
 //! (`Outside.antt`); `seeded_bytes` (`Seeds.antt`); `printed`, `request_line` (`Texts.antt`);
 //! `IsPreparedAs`, `IsUnprepared`, `config_as` (`Preparations.antt`); `wasmhost`, `version_words`
-//! (`CommandLine.antt`); `meaning_in`, `IsReading`, `IsStatusOf` (`Commands.antt`);
-//! `IsOutOfBounds`, `range_words` (`Bounds.antt`); `TellsLimit` (`ModuleLimits.antt`);
-//! `IsUnnamedEntry`, `entry_text` (`Entries.antt`); `TellsMore` (`Verdicts.antt`); `ListsAll`
-//! (`Listings.antt`); `ChecksModule` (`Checks.antt`); `TellsOfFloat` (`Floats.antt`); `IsFlawIn`,
-//! `flaw_words` (`Flaws.antt`); `PrinterState`, `IsSaid`, `SaysText`, `HeedsBoth`, `TellsPerson`
-//! (`Printers.antt`); `SaysOfOutput` (`Reports.antt`); `lines_of` (`Pieces.antt`); `PrintsOneLine`
-//! (`Prints.antt`); `answer_words`, `record_line` (`Records.antt`). In `specs/laws/`, what the laws
-//! say: `all_printed` (`Printed.antt`).
+//! (`CommandLine.antt`); `meaning_in`, `IsReading`, `IsStatusOf` (`Commands.antt`); `status_code`
+//! (`Statuses.antt`); `IsOutOfBounds`, `range_words` (`Bounds.antt`); `TellsLimit`
+//! (`ModuleLimits.antt`); `IsUnnamedEntry`, `entry_text` (`Entries.antt`); `TellsMore`
+//! (`Verdicts.antt`); `ListsAll` (`Listings.antt`); `ChecksModule` (`Checks.antt`); `TellsOfFloat`
+//! (`Floats.antt`); `IsFlawIn`, `flaw_words` (`Flaws.antt`); `PrinterState`, `IsSaid`, `SaysText`,
+//! `HeedsBoth`, `TellsPerson` (`Printers.antt`); `SaysOfOutput` (`Reports.antt`); `lines_of`
+//! (`Pieces.antt`); `PrintsOneLine` (`Prints.antt`); `answer_words`, `record_line`
+//! (`Records.antt`). In `specs/laws/`, what the laws say: `all_printed` (`Printed.antt`).
 //!
 //! # Who may touch what
 //!
 //! Only this crate knows how lines, requests and words are spelled, and the exit statuses
-//! (`status`). `disk_commands`, `story_commands` and `wasmhost` use it. It uses `machine` and
-//! `record_replay`. Want of memory is status 5. It touches no disk, and opens no file.
+//! (`Status`). `disk_commands`, `story_commands` and `wasmhost` use the crate, which uses `machine`
+//! and `record_replay`. Want of memory is `OutOfMemory`. No disk is touched, and no file is opened.
 #![tactic(auto)]
 
 mod bounds;
 mod check;
+mod command_line;
 mod configuring;
 mod digests;
 mod entries;
@@ -63,13 +67,16 @@ mod pieces;
 mod preparing;
 mod printer;
 mod seed;
-pub mod status;
+mod status;
 mod telling;
 mod verdicts;
-mod words;
 
 pub use bounds::Bound;
 pub use check::{check_bytes, check_module};
+pub use command_line::{
+    CheckOrder, CreateOrder, FilesOrder, Order, RunOrder, StoryOrder, SweepOrder, WordsFault,
+    read_words,
+};
 pub use configuring::Sizes;
 pub use digests::digest_digits;
 pub use lines::{
@@ -83,7 +90,5 @@ pub use pieces::{cut_line, split_once};
 pub use preparing::{Prepared, Unprepared, prepare, report_unprepared, sectors_of};
 pub use printer::{Printer, say_text};
 pub use seed::{read_seed, seeded};
+pub use status::{Status, status_of_line};
 pub use telling::{Obstacle, report, report_output, report_words, say_line};
-pub use words::{
-    CheckOrder, CreateOrder, Order, RunOrder, StoryOrder, SweepOrder, WordsFault, read_words,
-};

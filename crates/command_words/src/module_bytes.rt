@@ -4,10 +4,10 @@
 //!
 //! - `read_module`: the bytes of a reader, where they are known, up to one more than the longest
 //!   module has. `say_line`, `report`: the line was written and the status is the one given, or a
-//!   write has failed and it is 7 (`SaysLine`). `report_output` says after a command that its
-//!   output couldn't be written (`SaysOfOutput`). `report_words`: help leaves the error output as
-//!   it was, and a mistake the output. A tip of `clap` to write a number below 0 after `--` is left
-//!   out.
+//!   write has failed and it is `Unwritten` (`SaysLine`). `report_output` says after a command that
+//!   its output couldn't be written (`SaysOfOutput`). `report_words`: help leaves the error output
+//!   as it was, and a mistake the output. A tip of `clap` to write a number below 0 after `--`
+//!   is left out.
 
 ghost use Rattle.std.specs.Prelude.{◌≡◌, ◌+◌, IfOk, IfSome, take};
 ghost use Rattle.wasm_syntax.specs.declared.limits.TheConstants.{MODULE_BYTES};

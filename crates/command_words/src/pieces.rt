@@ -4,8 +4,8 @@
 //!
 //! - `split_once`, `cut_line`: what is before and after a separator, and the first line of a text
 //!   (`lines_of`). `digest_digits`: the digits of the SHA-256 of bytes. `spell_line`: a line as it
-//!   is printed. `say_text`: the text was written and the status is 0, or a write has failed and it
-//!   is 7.
+//!   is printed. `say_text`: the text was written and the status is `Done`, or a write has failed
+//!   and it is `Unwritten`.
 
 ghost use Rattle.std.specs.Prelude.{◌≡◌, ◌≢◌, [], ◌∷◌, ◌<◌, length, option_copied};
 ghost use Rattle.command_words.specs.rules.Pieces.{lines_of, split_once};

@@ -4,11 +4,12 @@
 //!
 //! - `prepare`: an error says that the configuration is out of its limits, that the module isn't
 //!   accepted, or that memory ran out (`refused`). Else the module is accepted with the pages of
-//!   the configuration, and the sectors are those that its worker needs (`prepared`). It knows no
-//!   disk, so the program refuses a module before it makes one.
-//! - `report_unprepared` answers the status of what it tells, or 7. It tells the bounds of what is
-//!   out of them (`range`), which entry of an environment has no name (`entry`), the limit that a
-//!   module passes, with its place (`limit`), and what else is known of it (`more`).
+//!   the configuration, and the sectors are those that its worker needs (`prepared`). No disk is
+//!   known here, so the program refuses a module before it makes one.
+//! - `report_unprepared` answers the status of what it tells, or `Unwritten`. Told are the bounds
+//!   of what is out of them (`range`), and which entry of an environment has no name (`entry`). Of
+//!   a module the limit that it passes is told with its place (`limit`), and what else is known of
+//!   it (`more`).
 
 ghost use Rattle.std.specs.Prelude.{◌≡◌, ◌<◌, ◌≤◌, ◌^◌, IfErr, IfOk, OnErr, OnOk, Some, codes};
 ghost use Rattle.std.specs.Prelude.{length, true, ℕ};
@@ -28,13 +29,14 @@ ghost use Rattle.command_words.specs.rules.Printers.{IsSaid, SaysText};
 ghost use Rattle.command_words.specs.rules.Reports.{SaysLine};
 ghost use Rattle.command_words.specs.rules.Verdicts.{EndsWithMore, SaysMore};
 ghost use Rattle.command_words.specs.declared.bounds.Bound.{Bound};
+ghost use Rattle.command_words.specs.declared.status.Status.TheVariants as exit;
 ghost use Rattle.machine.specs.declared.from_bytes.fault.ModuleFault.{ModuleFault};
 
 use crate::bounds::{Bound, words_of_range};
 use crate::configuring::{Sizes, Unconfigured, configure};
 use crate::module_limits::print_limit;
 use crate::printer::Printer;
-use crate::status::{NO_MEMORY, REFUSED, UNWRITTEN};
+use crate::status::Status;
 use crate::telling::say_line;
 use crate::verdicts::print_more;
 use disk_layout::Geometry;
@@ -73,12 +75,12 @@ pub enum Unprepared {
 
 impl Unprepared {
     /// The exit status.
-    fn status(self) -> u8
+    fn status(self) -> Status
         ensures { result ≡ status_unprepared self }
     {
         match self {
-            Unprepared::Range(_) | Unprepared::Text(_) | Unprepared::Module(_) => REFUSED,
-            Unprepared::Memory => NO_MEMORY,
+            Unprepared::Range(_) | Unprepared::Text(_) | Unprepared::Module(_) => Status::Refused,
+            Unprepared::Memory => Status::OutOfMemory,
         }
     }
 }
@@ -153,42 +155,41 @@ pub fn prepare(
     with_sectors(config, measured)
 }
 
-/// Prints a fault of a creation, and answers the exit status, or 7 where a write has failed.
-fn say_fault<E: Write + Drop>(err: &mut Printer<E>, fault: Unprepared) -> u8
-    ensures status { IsSaid (status_unprepared fault) err.old result err.new }
-    ensures known { result ≤ 7 }
+/// Prints a fault of a creation, and answers the exit status, or `Unwritten` where a write has
+/// failed.
+fn say_fault<E: Write + Drop>(err: &mut Printer<E>, fault: Unprepared) -> Status
+    ensures { IsSaid (status_unprepared fault) err.old result err.new }
 {
     let said = writeln!(err, "{fault}");
     if said.is_ok() && err.flush().is_ok() {
         fault.status()
     } else {
-        UNWRITTEN
+        Status::Unwritten
     }
 }
 
-/// Prints that a module passes a limit, and answers the exit status, or 7 where a write has failed.
-fn say_limit<E: Write + Drop>(err: &mut Printer<E>, wasm: &[u8], passed: PassedLimit) -> u8
-    ensures said { SaysLimit wasm.now (codes "failed") passed 3 err.old result err.new }
-    ensures known { result ≤ 7 }
+/// Prints that a module passes a limit, and answers the exit status, or `Unwritten` where a write
+/// has failed.
+fn say_limit<E: Write + Drop>(err: &mut Printer<E>, wasm: &[u8], passed: PassedLimit) -> Status
+    ensures { SaysLimit wasm.now (codes "failed") passed exit.Refused err.old result err.new }
 {
     match print_limit(err, wasm, "failed", passed) {
-        Ok(()) => REFUSED,
-        Err(_) => UNWRITTEN,
+        Ok(()) => Status::Refused,
+        Err(_) => Status::Unwritten,
     }
 }
 
-/// Prints that an entry of the environment has no name, and answers the exit status, or 7 where a
-/// write has failed.
-fn say_unnamed<E: Write + Drop>(err: &mut Printer<E>, entry: usize) -> u8
-    ensures said { SaysText (entry_text entry) 3 err.old result err.new }
-    ensures known { result ≤ 7 }
+/// Prints that an entry of the environment has no name, and answers the exit status, or `Unwritten`
+/// where a write has failed.
+fn say_unnamed<E: Write + Drop>(err: &mut Printer<E>, entry: usize) -> Status
+    ensures { SaysText (entry_text entry) exit.Refused err.old result err.new }
 {
     match writeln!(
         err,
         "failed C2 Text\nentry {entry} of --env isn't NAME=VALUE"
     ) {
-        Ok(()) => REFUSED,
-        Err(_) => UNWRITTEN,
+        Ok(()) => Status::Refused,
+        Err(_) => Status::Unwritten,
     }
 }
 
@@ -208,50 +209,48 @@ fn print_refusal<E: Write + Drop>(
 }
 
 /// Prints why a module isn't accepted. A limit that it passes is told on a second line, and so is
-/// what else is known of it. Answers the exit status, or 7 where a write has failed.
+/// what else is known of it. Answers the exit status, or `Unwritten` where a write has failed.
 fn say_refusal<E: Write + Drop>(
     alloc: Global,
     wasm: &[u8],
     why: ModuleFault,
     err: &mut Printer<E>,
-) -> u8
+) -> Status
     ensures limit { (passed : PassedLimit) → passed_in why ≡ Some passed
-        → SaysLimit wasm.now (codes "failed") passed 3 err.old result err.new }
+        → SaysLimit wasm.now (codes "failed") passed exit.Refused err.old result err.new }
     ensures more { SaysMore wasm.now why err.new }
-    ensures status { IsSaid 3 err.old result err.new }
-    ensures known { result ≤ 7 }
+    ensures status { IsSaid exit.Refused err.old result err.new }
 {
     if let Some(passed) = why.passed_limit() {
         return say_limit(err, wasm, passed);
     }
     match print_refusal(alloc, wasm, why, err) {
-        Ok(()) => REFUSED,
-        Err(_) => UNWRITTEN,
+        Ok(()) => Status::Refused,
+        Err(_) => Status::Unwritten,
     }
 }
 
 /// Prints why no worker of the module that the bytes spell is created. What is out of its bounds,
 /// which entry has no name, and what is known of the module, is told on a second line. Answers the
-/// exit status, or 7 where a write has failed.
+/// exit status, or `Unwritten` where a write has failed.
 pub fn report_unprepared<E: Write + Drop>(
     alloc: Global,
     wasm: &[u8],
     fault: Unprepared,
     err: &mut Printer<E>,
-) -> u8
+) -> Status
     ensures range { (bound : Bound) → fault ≡ Unprepared.Range bound
-        → SaysLine (range_words bound) 3 err.old result err.new }
+        → SaysLine (range_words bound) exit.Refused err.old result err.new }
     ensures entry { (number : ℕ) → fault ≡ Unprepared.Text (Some number)
-        → SaysText (entry_text number) 3 err.old result err.new }
+        → SaysText (entry_text number) exit.Refused err.old result err.new }
     ensures limit { (passed : PassedLimit) → passed_by fault ≡ Some passed
-        → SaysLimit wasm.now (codes "failed") passed 3 err.old result err.new }
+        → SaysLimit wasm.now (codes "failed") passed exit.Refused err.old result err.new }
     ensures more { (why : ModuleFault) → fault ≡ Unprepared.Module why
         → SaysMore wasm.now why err.new }
     ensures status { IsSaid (status_unprepared fault) err.old result err.new }
-    ensures known { result ≤ 7 }
 {
     match fault {
-        Unprepared::Range(bound) => say_line(err, REFUSED, words_of_range(bound)),
+        Unprepared::Range(bound) => say_line(err, Status::Refused, words_of_range(bound)),
         Unprepared::Text(Some(entry)) => say_unnamed(err, entry),
         Unprepared::Module(why) => say_refusal(alloc, wasm, why, err),
         other => say_fault(err, other),

@@ -2,9 +2,9 @@
 //!
 //! # Promises
 //!
-//! - `Printer`: what the program says goes through one. It keeps whether a write has failed, and no
-//!   other code can make that true. So each status 7 below comes with a failed write (`IsSaid`,
-//!   `SaysText`, `HeedsBoth`).
+//! - `Printer`: what the program says goes through one. A printer keeps whether a write has failed,
+//!   and no other code can make that true. `Status::Unwritten` comes with a failed write everywhere
+//!   below (`IsSaid`, `SaysText`, `HeedsBoth`).
 //!
 //! # Choices
 //!
@@ -17,10 +17,10 @@ ghost use Rattle.std.specs.Prelude.{◌≡◌, true, false, IfSome, OnErr, OnOk}
 ghost use Rattle.std.specs.Io.KnownBytes.{Appends, Keeps};
 ghost use Rattle.command_words.specs.rules.Printers.{printer_state, GrowsByFront};
 ghost use Rattle.command_words.specs.rules.Printers.{read_along};
-ghost use Rattle.std.specs.Prelude.{◌≤◌};
 ghost use Rattle.command_words.specs.rules.Printers.{IsPrinted, SaysText};
+ghost use Rattle.command_words.specs.declared.status.Status.TheVariants as exit;
 
-use crate::status::UNWRITTEN;
+use crate::status::Status;
 use std::fmt::Display;
 use std::io::{self, Error, ErrorKind, Write};
 use std::marker::Model;
@@ -175,12 +175,11 @@ fn print_text<W: Write + Drop>(out: &mut Printer<W>, text: &[u8]) -> io::Result<
 }
 
 /// Writes a text whole. Answers the exit status.
-pub fn say_text<W: Write + Drop>(out: &mut Printer<W>, text: &[u8]) -> u8
-    ensures said { SaysText text.now 0 out.old result out.new }
-    ensures known { result ≤ 7 }
+pub fn say_text<W: Write + Drop>(out: &mut Printer<W>, text: &[u8]) -> Status
+    ensures { SaysText text.now exit.Done out.old result out.new }
 {
     match print_text(out, text) {
-        Ok(()) => 0,
-        Err(_) => UNWRITTEN,
+        Ok(()) => Status::Done,
+        Err(_) => Status::Unwritten,
     }
 }

@@ -1,38 +1,56 @@
-//! The exit statuses of the program, beside 0.
+//! The exit statuses of the program.
 
 ghost use Rattle.std.specs.Prelude.{◌≡◌};
-ghost use Rattle.command_words.specs.rules.Statuses.{status_of_line};
+ghost use Rattle.command_words.specs.rules.Statuses.{status_code, status_of_line};
 
 use crate::lines::LineFault;
 
-/// A cut of a sweep that differs from the run without one.
-pub const DIFFERENT: u8 = 1;
+/// How a command has ended.
+#[derive(Clone, Copy, Debug, PartialEq, Eq)]
+pub enum Status {
+    /// What was asked for is done.
+    Done,
+    /// A cut of a sweep differs from the run without one.
+    Different,
+    /// A command line or a script isn't understood, or a script can't be swept.
+    Usage,
+    /// A module, a configuration, a disk or an upgrade is refused, or a number can't be counted
+    /// further.
+    Refused,
+    /// A file, a disk or the input fails.
+    IoError,
+    OutOfMemory,
+    /// A request line is refused.
+    BadLine,
+    /// A write of the output has failed.
+    Unwritten,
+}
 
-/// A command line that isn't understood.
-pub const USAGE: u8 = 2;
-
-/// A refused module, and steps or lines that can't be counted further.
-pub const REFUSED: u8 = 3;
-
-/// A file or a reader that can't be read.
-pub const UNREAD: u8 = 4;
-
-/// The host has no room.
-pub const NO_MEMORY: u8 = 5;
-
-/// A refused request line.
-pub const BAD_LINE: u8 = 6;
-
-/// The output can't be written.
-pub const UNWRITTEN: u8 = 7;
+impl Status {
+    /// Its number, which the program ends with.
+    pub fn code(self) -> u8
+        ensures { result ≡ status_code self }
+    {
+        match self {
+            Status::Done => 0,
+            Status::Different => 1,
+            Status::Usage => 2,
+            Status::Refused => 3,
+            Status::IoError => 4,
+            Status::OutOfMemory => 5,
+            Status::BadLine => 6,
+            Status::Unwritten => 7,
+        }
+    }
+}
 
 /// The exit status of a request line that isn't taken, or of its reader.
-pub fn status_of_line(fault: LineFault) -> u8
+pub fn status_of_line(fault: LineFault) -> Status
     ensures { result ≡ status_of_line fault }
 {
     match fault {
-        LineFault::Read | LineFault::Clock | LineFault::Words => UNREAD,
-        LineFault::Memory => NO_MEMORY,
-        LineFault::Number { .. } | LineFault::Form => BAD_LINE,
+        LineFault::Read | LineFault::Clock | LineFault::Words => Status::IoError,
+        LineFault::Memory => Status::OutOfMemory,
+        LineFault::Number { .. } | LineFault::Form => Status::BadLine,
     }
 }

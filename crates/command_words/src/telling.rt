@@ -3,20 +3,21 @@
 //! # Choices
 //!
 //! - **The tip of `clap` to write `-- -1` for `--pages -1` isn't printed**, since it is of no use
-//!   here. It is cut out of the text (`around_tip`): to turn it off in the kit's `clap` would lose
-//!   what is proved of its words.
+//!   here. The tip is cut out of the text (`around_tip`): to turn it off in the kit's `clap` would
+//!   lose what is proved of the words.
 
-ghost use Rattle.std.specs.Prelude.{◌≡◌, ◌≤◌, ◌⊎◌, IfSome};
+ghost use Rattle.std.specs.Prelude.{◌≡◌, ◌⊎◌, IfSome};
 ghost use Rattle.command_words.specs.declared.telling.Obstacle.TheVariants.{NoText};
 ghost use Rattle.command_words.specs.rules.Commands.{IsStatusOf};
 ghost use Rattle.command_words.specs.rules.Printers.{IsSaid, HeedsBoth};
 ghost use Rattle.command_words.specs.rules.Reports.{SaysLine, obstacle_status};
 ghost use Rattle.command_words.specs.Reports.{IsAroundTip};
 ghost use Rattle.command_words.specs.rules.Reports.{SaysOfOutput, obstacle_words};
+ghost use Rattle.command_words.specs.declared.status.Status.TheVariants as exit;
 
+use crate::command_line::WordsFault;
 use crate::printer::Printer;
-use crate::status::{NO_MEMORY, UNREAD, UNWRITTEN, USAGE};
-use crate::words::WordsFault;
+use crate::status::Status;
 use clap::Error;
 use std::alloc::Global;
 use std::fmt::Display;
@@ -48,59 +49,62 @@ pub enum Obstacle {
     Unwritten,
 }
 
-/// Prints a line. Answers the status, or 7 where a write has failed.
-pub fn say_line<W: Write + Drop>(out: &mut Printer<W>, status: u8, line: &str) -> u8
+/// Prints a line. Answers the status, or `Unwritten` where a write has failed.
+pub fn say_line<W: Write + Drop>(out: &mut Printer<W>, status: Status, line: &str) -> Status
     ensures { SaysLine line.now status out.old result out.new }
 {
     match writeln!(out, "{line}") {
         Ok(()) => status,
-        Err(_) => UNWRITTEN,
+        Err(_) => Status::Unwritten,
     }
 }
 
-/// Prints which argument isn't UTF-8. Answers the status, or 7 where a write has failed.
-fn say_no_text<E: Write + Drop>(err: &mut Printer<E>, number: usize) -> u8
-    ensures { SaysLine (obstacle_words (NoText number)) 2 err.old result err.new }
+/// Prints which argument isn't UTF-8. Answers the status, or `Unwritten` where a write has failed.
+fn say_no_text<E: Write + Drop>(err: &mut Printer<E>, number: usize) -> Status
+    ensures { SaysLine (obstacle_words (NoText number)) exit.Usage err.old result err.new }
 {
     match writeln!(err, "error: argument {number} isn't UTF-8") {
-        Ok(()) => USAGE,
-        Err(_) => UNWRITTEN,
+        Ok(()) => Status::Usage,
+        Err(_) => Status::Unwritten,
     }
 }
 
 /// Prints why a command isn't begun, or that its output can't be written, and answers the exit
 /// status.
-pub fn report<E: Write + Drop>(err: &mut Printer<E>, obstacle: Obstacle) -> u8
-    ensures said { SaysLine (obstacle_words obstacle) (obstacle_status obstacle) err.old
+pub fn report<E: Write + Drop>(err: &mut Printer<E>, obstacle: Obstacle) -> Status
+    ensures { SaysLine (obstacle_words obstacle) (obstacle_status obstacle) err.old
         result err.new }
-    ensures known { result ≤ 7 }
 {
     match obstacle {
-        Obstacle::Memory => say_line(err, NO_MEMORY, "failed N4 Memory"),
-        Obstacle::Unread => say_line(err, UNREAD, "failed K2 Io"),
+        Obstacle::Memory => say_line(err, Status::OutOfMemory, "failed N4 Memory"),
+        Obstacle::Unread => say_line(err, Status::IoError, "failed K2 Io"),
         Obstacle::NoText(number) => say_no_text(err, number),
-        Obstacle::NoSeed => say_line(err, USAGE, "error: a seed is 64 hexadecimal digits"),
+        Obstacle::NoSeed => say_line(err, Status::Usage, "error: a seed is 64 hexadecimal digits"),
         Obstacle::TwoSeeds => {
             say_line(
                 err,
-                USAGE,
+                Status::Usage,
                 "error: --seed and --seed-file can't both be given",
             )
         }
-        Obstacle::NoFronts => say_line(err, USAGE, "error: fronts are numbers from 0 to 512"),
-        Obstacle::NoLife => say_line(err, USAGE, "error: the script has no such life"),
-        Obstacle::Unwritten => say_line(err, UNWRITTEN, "failed N3 Outlet"),
+        Obstacle::NoFronts => say_line(
+            err,
+            Status::Usage,
+            "error: fronts are numbers from 0 to 512",
+        ),
+        Obstacle::NoLife => say_line(err, Status::Usage, "error: the script has no such life"),
+        Obstacle::Unwritten => say_line(err, Status::Unwritten, "failed N3 Outlet"),
     }
 }
 
-/// Says after a command whether a write of its output has failed. Answers its status, or 7 then.
+/// Says after a command whether a write of its output has failed. Answers its status, or
+/// `Unwritten` then.
 pub fn report_output<W: Write + Drop, E: Write + Drop>(
     out: &Printer<W>,
-    status: u8,
+    status: Status,
     err: &mut Printer<E>,
-) -> u8
-    ensures said { SaysOfOutput out.now.failed status err.old result err.new }
-    ensures known { status ≤ 7 → result ≤ 7 }
+) -> Status
+    ensures { SaysOfOutput out.now.failed status err.old result err.new }
 {
     if out.has_failed() {
         return report(err, Obstacle::Unwritten);
@@ -108,13 +112,17 @@ pub fn report_output<W: Write + Drop, E: Write + Drop>(
     status
 }
 
-/// Prints a text as it is. Answers the status, or 7 where a write has failed.
-fn say_displayed<W: Write + Drop, T: Display>(out: &mut Printer<W>, status: u8, text: &T) -> u8
+/// Prints a text as it is. Answers the status, or `Unwritten` where a write has failed.
+fn say_displayed<W: Write + Drop, T: Display>(
+    out: &mut Printer<W>,
+    status: Status,
+    text: &T,
+) -> Status
     ensures { IsSaid status out.old result out.new }
 {
     match write!(out, "{text}") {
         Ok(()) => status,
-        Err(_) => UNWRITTEN,
+        Err(_) => Status::Unwritten,
     }
 }
 
@@ -136,15 +144,15 @@ fn around_tip(text: &str) -> Option<(&str, &str)>
     }
 }
 
-/// Prints what is wrong with the words, without such a tip: no number is below 0, after `--` or
-/// before it. Where there is no memory to look for one, the text is printed as it is. Answers the
-/// status, or 7 where a write has failed.
+/// Prints what is wrong with the words, without such a tip: no number is below 0, after `--`
+/// or before it. Where there is no memory to look for one, the text is printed as it is. Answers
+/// the status, or `Unwritten` where a write has failed.
 fn say_mistake<E: Write + Drop>(
     alloc: Global,
     err: &mut Printer<E>,
-    status: u8,
+    status: Status,
     mistake: &Error,
-) -> u8
+) -> Status
     ensures { IsSaid status err.old result err.new }
 {
     let Ok(text) = format!(in alloc; "{mistake}") else {
@@ -155,31 +163,29 @@ fn say_mistake<E: Write + Drop>(
     };
     match write!(err, "{before}{GAP}{behind}") {
         Ok(()) => status,
-        Err(_) => UNWRITTEN,
+        Err(_) => Status::Unwritten,
     }
 }
 
 /// Prints the text of a fault of the words: help on the output, all else on the error output.
-/// Answers the exit status, or 7 where a write has failed.
+/// Answers the exit status, or `Unwritten` where a write has failed.
 pub fn report_words<W: Write + Drop, E: Write + Drop>(
     alloc: Global,
     fault: &WordsFault,
     out: &mut Printer<W>,
     err: &mut Printer<E>,
-) -> u8
-    ensures status { IsStatusOf fault.now result ⊎ (result ≡ 7) }
+) -> Status
+    ensures status { IsStatusOf fault.now result ⊎ (result ≡ exit.Unwritten) }
     ensures heeded { HeedsBoth out.old out.new err.old err.new result }
-    ensures help { result ≡ 0 → err.new ≡ err.old }
-    ensures mistake { result ≡ 2 → out.new ≡ out.old }
-    ensures known { result ≤ 7 }
+    ensures help { result ≡ exit.Done → err.new ≡ err.old }
+    ensures mistake { result ≡ exit.Usage → out.new ≡ out.old }
 {
     let WordsFault::Words(text) = fault else {
         return report(err, Obstacle::Memory);
     };
     let status = fault.status();
-    if status == 0 {
-        say_displayed(out, status, text)
-    } else {
-        say_mistake(alloc, err, status, text)
+    match status {
+        Status::Done => say_displayed(out, status, text),
+        _ => say_mistake(alloc, err, status, text),
     }
 }

@@ -28,7 +28,8 @@ use Rattle.command_words.specs.rules.Commands.{copy_in, create, create_in, disk_
 use Rattle.command_words.specs.rules.Commands.{guest_words, meaning_below, module_in, number_or}
 use Rattle.command_words.specs.rules.Commands.{own_words, run, run_in, script_in, show}
 use Rattle.command_words.specs.rules.Commands.{spelled_number, story, story_in, TakesOptions}
-use Rattle.command_words.specs.rules.Commands.{files, history, inspect, sweep, sweep_in}
+use Rattle.command_words.specs.rules.Commands.{files, files_in, history_in, inspect_in, live_in}
+use Rattle.command_words.specs.rules.Commands.{sweep, sweep_in}
 use Rattle.command_words.specs.rules.Commands.{save, upgrade}
 use Rattle.command_words.specs.laws.Words.{FaultlessWordsMean, NumbersFit}
 use Rattle.command_words.proofs.WordLemmas.Walks.{Keeps, found_each, no_first}
@@ -36,9 +37,9 @@ use Rattle.command_words.proofs.WordLemmas.Walks.{no_second, settled_good, some_
 use Rattle.command_words.proofs.WordLemmas.Stops.{NoHelp, walk_on}
 use Rattle.command_words.proofs.WordLemmas.Rows.{IsGood, Passes, added_good, options_are_taken}
 use Rattle.command_words.proofs.WordLemmas.Rows.{path_is_there}
-use Rattle.command_words.proofs.WordLemmas.Uses.{keeps_env, keeps_flag, keeps_help, keeps_last}
-use Rattle.command_words.proofs.WordLemmas.Uses.{keeps_number, keeps_path, keeps_range}
-use Rattle.command_words.proofs.WordLemmas.Uses.{keeps_text}
+use Rattle.command_words.proofs.WordLemmas.Uses.{keeps_env, keeps_flag, keeps_folder, keeps_help}
+use Rattle.command_words.proofs.WordLemmas.Uses.{keeps_last, keeps_number, keeps_path}
+use Rattle.command_words.proofs.WordLemmas.Uses.{keeps_range, keeps_text}
 
 -- ---- one level
 
@@ -265,15 +266,26 @@ module _ (name : Text) (words : List Text) (no_help : bytes_eq name (codes "help
         )
             (λ rows good e. inr (inr (inl (refl, one_path (codes "DISK") rows good e)))) e,
         (
-          λ here e. below_taken _ words (keeps_path 1 (codes "DISK") (λ v. tt), (keeps_help, tt))
-              (unused, (unused, tt))
+          λ here e. below_taken _ words (
+            keeps_path 1 (codes "DISK") (λ v. tt),
+            (keeps_flag 2 (codes "live") (inl refl), (keeps_help, tt)),
+          )
+              (unused, (no_flag (codes "live") (inr refl), (unused, tt)))
               (λ rows good e. inr (inr (inr (inl (refl, one_path (codes "DISK") rows good e))))) e,
           (
             λ here e. below_taken _ words (
               keeps_path 1 (codes "DISK") (λ v. tt),
-              (keeps_flag 2 (codes "json") (inl refl), (keeps_help, tt)),
+              (
+                keeps_flag 2 (codes "json") (inl refl),
+                (keeps_flag 2 (codes "live") (inl refl), (keeps_help, tt)),
+              ),
+            ) (
+              unused,
+              (
+                no_flag (codes "json") (inr refl),
+                (no_flag (codes "live") (inr refl), (unused, tt)),
+              ),
             )
-                (unused, (no_flag (codes "json") (inr refl), (unused, tt)))
                 (λ rows good e. inr (inr (inr (inr (inl (
                   refl,
                   one_path (codes "DISK") rows good
@@ -282,9 +294,14 @@ module _ (name : Text) (words : List Text) (no_help : bytes_eq name (codes "help
             (
               λ here e. below_taken _ words (
                 keeps_path 1 (codes "DISK") (λ v. tt),
-                (keeps_last 2 (codes "PATH") (λ v. tt), (keeps_help, tt)),
+                (
+                  keeps_last 2 (codes "PATH") (λ v. tt),
+                  (keeps_folder 3, (keeps_flag 3 (codes "live") (inl refl), (keeps_help, tt))),
+                ),
+              ) (
+                unused,
+                (unused, (unused, (no_flag (codes "live") (inr refl), (unused, tt)))),
               )
-                  (unused, (unused, (unused, tt)))
                   (λ rows good e. inr (inr (inr (inr (inr (inl (
                     refl,
                     one_path (codes "DISK") rows
@@ -293,9 +310,17 @@ module _ (name : Text) (words : List Text) (no_help : bytes_eq name (codes "help
               (
                 λ here e. below_taken _ words (
                   keeps_path 1 (codes "DISK") (λ v. tt),
-                  (keeps_flag 2 (codes "story") (inl refl), (keeps_help, tt)),
+                  (
+                    keeps_flag 2 (codes "story") (inl refl),
+                    (keeps_flag 2 (codes "live") (inl refl), (keeps_help, tt)),
+                  ),
+                ) (
+                  unused,
+                  (
+                    no_flag (codes "story") (inr refl),
+                    (no_flag (codes "live") (inr refl), (unused, tt)),
+                  ),
                 )
-                    (unused, (no_flag (codes "story") (inr refl), (unused, tt)))
                     (λ rows good e. inr (inr (inr (inr (inr (inr (inl (
                       refl,
                       one_path (codes "DISK") rows good e,
@@ -313,9 +338,14 @@ module _ (name : Text) (words : List Text) (no_help : bytes_eq name (codes "help
                   (
                     λ here e. below_taken _ words (
                       keeps_path 1 (codes "DISK") (λ v. tt),
-                      (keeps_path 2 (codes "COPY") (λ v. tt), (keeps_help, tt)),
+                      (
+                        keeps_path 2 (codes "COPY") (λ v. tt),
+                        (keeps_flag 3 (codes "live") (inl refl), (keeps_help, tt)),
+                      ),
+                    ) (
+                      unused,
+                      (unused, (no_flag (codes "live") (inr refl), (unused, tt))),
                     )
-                        (unused, (unused, (unused, tt)))
                         (λ rows good e. inr (inr (inr (inr (inr (inr (inr (inr (inl (two_paths
                         (codes "save") (codes "DISK") (codes "COPY") rows good e)))))))))) e,
                     (
@@ -537,20 +567,18 @@ taken_means arguments name rows taken = elim taken.0 [
           (λ path. run_has_numbers rows path taken.1))
       | inr last ↦ elim last [
         | inl p ↦ subst (λ (t : Text). IsSomeAnd (meaning_below arguments (t, rows)) NumbersFit)
-            (sym p.0) (path_means show (disk_in rows) p.1 (λ path. tt))
+            (sym p.0) (path_means (λ d. show d (live_in rows)) (disk_in rows) p.1 (λ path. tt))
         | inr looks ↦ elim looks [
           | inl p ↦ subst (λ (t : Text). IsSomeAnd (meaning_below arguments (t, rows)) NumbersFit)
-              (sym p.0) (path_means (λ d. inspect d (flag_in (codes "json") rows)) (disk_in rows)
-              p.1 (λ path. tt))
+              (sym p.0) (path_means (inspect_in rows) (disk_in rows) p.1 (λ path. tt))
           | inr listed ↦ elim listed [
             | inl p ↦ subst (λ (t : Text). IsSomeAnd (meaning_below arguments (t, rows)) NumbersFit)
-                (sym p.0) (path_means (λ d. files d (first_of (codes "PATH") rows)) (disk_in rows)
+                (sym p.0) (path_means (λ d. files d (files_in rows) (live_in rows)) (disk_in rows)
                 p.1 (λ path. tt))
             | inr given ↦ elim given [
               | inl p ↦ subst (λ (t : Text). IsSomeAnd (meaning_below arguments
                   (t, rows)) NumbersFit)
-                  (sym p.0) (path_means (λ d. history d (flag_in (codes "story") rows))
-                  (disk_in rows) p.1 (λ path. tt))
+                  (sym p.0) (path_means (history_in rows) (disk_in rows) p.1 (λ path. tt))
               | inr kept ↦ elim kept [
                 | inl p ↦ subst (λ (t : Text). IsSomeAnd (meaning_below arguments
                     (t, rows)) NumbersFit)
@@ -558,8 +586,8 @@ taken_means arguments name rows taken = elim taken.0 [
                 | inr copied ↦ elim copied [
                   | inl p ↦ subst (λ (t : Text). IsSomeAnd (meaning_below arguments
                       (t, rows)) NumbersFit)
-                      (sym p.0) (paths_mean save (disk_in rows) (copy_in rows) p.1 p.2
-                      (λ disk copy. tt))
+                      (sym p.0) (paths_mean (λ d copy. save d copy (live_in rows)) (disk_in rows)
+                      (copy_in rows) p.1 p.2 (λ disk copy. tt))
                   | inr scripts ↦ scripts_mean arguments name rows taken.1 scripts
                 ]
               ]
@@ -573,7 +601,8 @@ taken_means arguments name rows taken = elim taken.0 [
 
 pub faultless_words_mean : FaultlessWordsMean
 faultless_words_mean words e =
-    go (subcommand_of wasmhost (own_words words)) (words_taken (own_words words) e)
+    go (subcommand_of wasmhost (own_words words))
+    (words_taken (own_words words) (no_first (fault_of wasmhost (own_words words)) _ e))
   where
     go : (o : Option (Text × List Row)) → IsSomeAnd o IsTaken
         → IsSomeAnd (option_and_then (meaning_below (guest_words words)) o) NumbersFit

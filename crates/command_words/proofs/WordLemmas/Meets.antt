@@ -1,7 +1,7 @@
 -- From what `clap` says of its matches to what the words mean.
 use Rattle.std.proofs.Common.{◌≡◌, ◌<◌, ◌≤◌, ℕ, Bool, true, false, refl, ap, ap₂, sym, ◌∙◌, subst}
-use Rattle.std.proofs.Common.{List, [], Option, Some, None, Result, Ok, Err, codes, true≢false, inl}
-use Rattle.std.proofs.Common.{inr}
+use Rattle.std.proofs.Common.{List, [], ◌∷◌, Option, Some, None, Result, Ok, Err, codes, inl, inr}
+use Rattle.std.proofs.Common.{true≢false, cond, not, ◌&&◌}
 use Rattle.std.specs.Option.{IsSomeAnd, is_some, option_map, option_map_or, unwrap_or}
 use Rattle.std.specs.Prelude.{Box, IfSome, option_and_then}
 use Rattle.std.specs.Str.{bytes_eq}
@@ -12,8 +12,10 @@ use Rattle.clap.specs.Words.{has_subcommand, is_simple_and_free, kind_of, matche
 use Rattle.clap.specs.Words.{HasMatchesOf, is_simple}
 use Rattle.clap.specs.Words.{one_text, raw_values, rows_of, subcommand_name_of, subcommand_of}
 use Rattle.clap.specs.Words.{subcommand_rows, subcommand_rows_of, takes, HasKind, IsAmong}
+use Rattle.clap.specs.Kinds.{Kinds, or_else}
 use Rattle.clap.specs.declared.error.Error.{Error}
-use Rattle.clap.specs.declared.error.ErrorKind.TheVariants as kind
+use Rattle.clap.specs.declared.error.kind.ErrorKind.{ErrorKind}
+use Rattle.clap.specs.declared.error.kind.ErrorKind.TheVariants as kind
 use Rattle.clap.specs.declared.parser.matches.ArgMatches.{ArgMatches}
 use Rattle.clap.specs.declared.parser.matches.ArgMatches.TheViews.{out-ArgMatches, out-SubCommand}
 use Rattle.clap.specs.declared.parser.matches.SubCommand.{SubCommand}
@@ -22,15 +24,16 @@ use Rattle.clap.proofs.WalkLemmas.{first_value-rows, one_text-rows, raw_values-r
 use Rattle.command_words.specs.rules.CommandLine.{wasmhost}
 use Rattle.command_words.specs.rules.Commands.{IsFaultOf, IsNumberFrom}
 use Rattle.command_words.specs.rules.Commands.{IsFlagText, TakesFlag, flag_in}
-use Rattle.command_words.specs.rules.Commands.{IsWordsFault, Meaning}
-use Rattle.command_words.specs.Commands.{IsTaken}
+use Rattle.command_words.specs.rules.Commands.{IsWordsFault, Meaning, conflict_in}
+use Rattle.command_words.specs.rules.Commands.{faults_in_own, has_conflict}
+use Rattle.command_words.specs.Commands.{IsConflictFault, IsTaken}
 use Rattle.command_words.specs.rules.Commands.{TakesNumber}
 use Rattle.command_words.specs.rules.Commands.{environment_in, faults_in_words, guest_words}
 use Rattle.command_words.specs.rules.Commands.{meaning_below, meaning_in, number_given}
 use Rattle.command_words.specs.rules.Commands.{number_or, own_words}
 use Rattle.command_words.specs.rules.Commands.{spelled_number}
-use Rattle.command_words.specs.declared.words.WordsFault.{WordsFault}
-use Rattle.command_words.specs.declared.words.WordsFault.TheVariants as fault
+use Rattle.command_words.specs.declared.command_line.WordsFault.{WordsFault}
+use Rattle.command_words.specs.declared.command_line.WordsFault.TheVariants as fault
 use Rattle.command_words.proofs.WordLemmas.Lines.{words_taken}
 
 -- ---- numbers
@@ -148,19 +151,54 @@ module _ (words : List Text) (m : ArgMatches) (faultless : fault_of wasmhost wor
 
 -- ---- the whole line
 
+-- the words have no arguments that exclude each other, or they have
+conflict_met : (own : List Text) (met : Text × List Row) (b : Bool)
+    → subcommand_of wasmhost own ≡ Some met → has_conflict met ≡ b → conflict_in own ≡ b
+conflict_met own met b is e = ap (λ o. option_map_or has_conflict o false) is ∙ e
+
+no_faults : (own : List Text) (name : Text) (rows : List Row) → fault_of wasmhost own ≡ []
+    → subcommand_of wasmhost own ≡ Some (name, rows) → has_conflict (name, rows) ≡ false
+    → faults_in_own own ≡ []
+no_faults own name rows faultless met apart =
+    let apart' = conflict_met own (name, rows) false met apart in
+    ap₂ (λ (ks : Kinds) (b : Bool). or_else ks (cond b (kind.ArgumentConflict ∷ []) [])) faultless
+    apart'
+
+-- what is told of arguments that exclude each other
+pub conflict_fault : (own : List Text) (met : Text × List Row) (f : WordsFault)
+    → fault_of wasmhost own ≡ [] → subcommand_of wasmhost own ≡ Some met → IsConflictFault met f
+    → IsFaultOf own f
+conflict_fault own met fault.Memory faultless is says = tt
+conflict_fault own met (fault.Words told) faultless is says =
+    let both : conflict_in own ≡ true = conflict_met own met true is says.1 in
+    let faults : faults_in_own own ≡ (kind.ArgumentConflict ∷ []) =
+    ap₂ (λ (ks : Kinds) (b : Bool). or_else ks (cond b (kind.ArgumentConflict ∷ []) [])) faultless
+    both in (
+      subst (IsAmong (kind_of told)) (sym faults) (inl says.0),
+      λ taken. is_taken (takes wasmhost own) (conflict_in own) both taken,
+    )
+  where
+    is_taken : (a b : Bool) → b ≡ true → (a && not b) ≡ true → ⊥
+    is_taken true true both taken = true≢false (sym taken)
+    is_taken false b both taken = true≢false (sym taken)
+    is_taken true false both taken = true≢false (sym both)
+
 -- what the words mean, of which these are the command's own, and these its guest's
 pub reads_so : (words own guest arguments : List Text) (name : Text) (rows : List Row)
     (meaning : Meaning) → own ≡ own_words words → guest ≡ guest_words words → arguments ≡ guest
     → fault_of wasmhost own ≡ [] → subcommand_of wasmhost own ≡ Some (name, rows)
+    → has_conflict (name, rows) ≡ false
     → meaning_below arguments (name, rows) ≡ Some meaning
     → (faults_in_words words ≡ []) × (meaning_in words ≡ Some meaning)
-reads_so words own guest arguments name rows meaning own-is guest-is same faultless met means = (
-  ap (fault_of wasmhost) (sym own-is) ∙ faultless,
-  ap (λ a. option_and_then (meaning_below a) (subcommand_of wasmhost (own_words words)))
-      (sym (same ∙ guest-is))
-      ∙ ap (λ o. option_and_then (meaning_below arguments) (subcommand_of wasmhost o)) (sym own-is)
-      ∙ ap (option_and_then (meaning_below arguments)) met ∙ means,
-)
+reads_so words own guest arguments name rows meaning own-is guest-is same faultless met apart
+    means = (
+      ap faults_in_own (sym own-is) ∙ no_faults own name rows faultless met apart,
+      ap (λ a. option_and_then (meaning_below a) (subcommand_of wasmhost (own_words words)))
+          (sym (same ∙ guest-is))
+          ∙ ap (λ o. option_and_then (meaning_below arguments) (subcommand_of wasmhost o))
+          (sym own-is)
+          ∙ ap (option_and_then (meaning_below arguments)) met ∙ means,
+    )
 
 -- ---- parses
 
@@ -187,6 +225,17 @@ told_fault words app told (fault.Words kept) is kinds passes says =
       | inl memory ↦ absurd (says.1 memory)
       | inr k ↦ subst (λ a. IsAmong (kind_of told) (fault_of a words)) is k
     ] in (
-      subst (λ e. IsAmong (kind_of e) (fault_of wasmhost words)) (sym says.0) among,
-      λ t. says.1 (passes (ap (λ a. takes a words) is ∙ t)),
+      subst (λ e. IsAmong (kind_of e) (faults_in_own words)) (sym says.0)
+          (among_first (kind_of told) (fault_of wasmhost words) _ among),
+      λ t. says.1 (passes (ap (λ a. takes a words) is ∙ first (takes wasmhost words)
+          (not (conflict_in words)) t)),
     )
+  where
+    among_first : (k : ErrorKind) (first second : Kinds) → IsAmong k first
+        → IsAmong k (or_else first second)
+    among_first k [] second among = absurd among
+    among_first k (x ∷ xs) second among = among
+
+    first : (a b : Bool) → (a && b) ≡ true → a ≡ true
+    first true b e = refl
+    first false b e = e

@@ -36,7 +36,8 @@ has_most id = bytes_eq id (codes "batch")
 abbrev pub is_flag : Text → Bool
 is_flag id = bytes_eq id (codes "rewrite") || (bytes_eq id (codes "device")
     || (bytes_eq id (codes "json") || (bytes_eq id (codes "verbose")
-    || (bytes_eq id (codes "all") || bytes_eq id (codes "story")))))
+    || (bytes_eq id (codes "all") || (bytes_eq id (codes "story")
+    || bytes_eq id (codes "live"))))))
 
 -- what is asked of the value of an argument
 pub data Asked : Type 0 where
@@ -163,4 +164,5 @@ options_are_taken rows good = record {
   json = first_passes (codes "json") rows good;
   story = first_passes (codes "story") rows good;
   all = first_passes (codes "all") rows good;
+  live = first_passes (codes "live") rows good;
 }

@@ -13,8 +13,8 @@ use Rattle.clap.specs.declared.builder.value_parser.ValueParser.TheVariants.{Uns
 use Rattle.clap.specs.declared.error.kind.ErrorKind.TheVariants as kind
 use Rattle.clap.specs.declared.parser.matches.ValueSource.TheVariants.{CommandLine}
 use Rattle.clap.proofs.ValueTestLemmas.{accepts-Accepts}
-use Rattle.command_words.specs.rules.CommandLine.{env_rule, flag_rule, last_rule, number_rule}
-use Rattle.command_words.specs.rules.CommandLine.{path_rule, range_rule, text_rule}
+use Rattle.command_words.specs.rules.CommandLine.{env_rule, flag_rule, folder_rule, last_rule}
+use Rattle.command_words.specs.rules.CommandLine.{number_rule, path_rule, range_rule, text_rule}
 use Rattle.command_words.specs.rules.Commands.{IsNumberFrom}
 use Rattle.command_words.proofs.WordLemmas.Walks.{Keeps, no_first, no_second, some_kind}
 use Rattle.command_words.proofs.WordLemmas.Rows.{IsGood, Passes, added_good, with_good}
@@ -93,6 +93,12 @@ pub keeps_text : (n : ℕ) (name : Text) → ((v : Text) → Passes name v)
 keeps_text n name free [] rows e good = absurd (some_kind _ _ e)
 keeps_text n name free (v ∷ []) rows e good = with_good name v rows (free v) good
 keeps_text n name free (v ∷ w ∷ vs) rows e good =
+    absurd (too_many v w vs (no_first (range_kinds 1 1 (length (v ∷ w ∷ vs))) _ e))
+
+pub keeps_folder : (n : ℕ) → Keeps IsGood false (with_index n (filled folder_rule))
+keeps_folder n [] rows e good = absurd (some_kind _ _ e)
+keeps_folder n (v ∷ []) rows e good = with_good (codes "FOLDER") v rows tt good
+keeps_folder n (v ∷ w ∷ vs) rows e good =
     absurd (too_many v w vs (no_first (range_kinds 1 1 (length (v ∷ w ∷ vs))) _ e))
 
 pub keeps_env : (n : ℕ) → Keeps IsGood false (with_index n (filled env_rule))

@@ -1,15 +1,14 @@
 -- Worked examples of command lines.
 use Rattle.std.specs.Prelude.{◌≡◌, ◌-◌, ◌^◌, ℕ, true, false, List, [], ◌∷◌, Some, None, codes}
-use Rattle.clap.specs.Words.{Text, takes}
+use Rattle.clap.specs.Words.{Text}
 use Rattle.clap.specs.Kinds.{Kinds}
 use Rattle.clap.specs.declared.error.ErrorKind.TheVariants as kind
-use Rattle.command_words.specs.rules.CommandLine.{wasmhost}
 use Rattle.command_words.specs.rules.Commands.{CreateMeaning, Meaning, RunMeaning, check}
 use Rattle.command_words.specs.rules.Commands.{create}
 use Rattle.command_words.specs.rules.Commands.{StoryMeaning, faults_in_words, meaning_in}
-use Rattle.command_words.specs.rules.Commands.{own_words, run, show, story}
-use Rattle.command_words.specs.rules.Commands.{SweepMeaning, files, history, inspect}
-use Rattle.command_words.specs.rules.Commands.{save, sweep, upgrade}
+use Rattle.command_words.specs.rules.Commands.{own_words, run, show, story, takes_own}
+use Rattle.command_words.specs.rules.Commands.{SweepMeaning, file, files, history, inspect}
+use Rattle.command_words.specs.rules.Commands.{listing, save, sweep, tree, upgrade}
 
 -- the program's name, and words after it
 abbrev pub line : List Text → List Text
@@ -85,7 +84,7 @@ plain_sweep = record {
 
 -- no fault is listed for the words, and they mean this
 abbrev pub Means : List Text → Meaning → Type 0
-Means words meaning = (faults_in_words words ≡ []) × (takes wasmhost (own_words words) ≡ true)
+Means words meaning = (faults_in_words words ≡ []) × (takes_own (own_words words) ≡ true)
     × (meaning_in words ≡ Some meaning)
 
 -- lines for a module's file, or for a disk that is only looked at
@@ -98,23 +97,41 @@ pub record PathExamples : Type 0 where
       ∷ codes "17" ∷ [])) (check (codes "a.wasm") 17 false)
   pub path_like_an_option : Means (line (codes "check" ∷ codes "--" ∷ codes "--fuel" ∷ []))
       (check (codes "--fuel") 256 false)
-  pub shows : Means (line (codes "show" ∷ codes "a.disk" ∷ [])) (show (codes "a.disk"))
+  pub shows : Means (line (codes "show" ∷ codes "a.disk" ∷ [])) (show (codes "a.disk") false)
+  pub shows_live : Means (line (codes "show" ∷ codes "a.disk" ∷ codes "--live" ∷ []))
+      (show (codes "a.disk") true)
   pub inspects : Means (line (codes "inspect" ∷ codes "a.disk" ∷ []))
-      (inspect (codes "a.disk") false)
+      (inspect (codes "a.disk") false false)
   pub inspects_as_json : Means (line (codes "inspect" ∷ codes "--json" ∷ codes "a.disk" ∷ []))
-      (inspect (codes "a.disk") true)
+      (inspect (codes "a.disk") true false)
+  pub inspects_live : Means
+      (line (codes "inspect" ∷ codes "--live" ∷ codes "--json" ∷ codes "a.disk" ∷ []))
+      (inspect (codes "a.disk") true true)
   pub lists_files : Means (line (codes "files" ∷ codes "a.disk" ∷ []))
-      (files (codes "a.disk") None)
+      (files (codes "a.disk") listing false)
+  pub lists_files_live : Means (line (codes "files" ∷ codes "--live" ∷ codes "a.disk" ∷ []))
+      (files (codes "a.disk") listing true)
+  pub gives_a_file : Means (line (codes "files" ∷ codes "a.disk" ∷ codes "a/b" ∷ []))
+      (files (codes "a.disk") (file (codes "a/b")) false)
+  pub writes_a_tree : Means
+      (line (codes "files" ∷ codes "a.disk" ∷ codes "--all" ∷ codes "b" ∷ []))
+      (files (codes "a.disk") (tree (codes "b")) false)
+  pub writes_a_tree_live : Means
+      (line (codes "files" ∷ codes "--live" ∷ codes "--all=b" ∷ codes "a.disk" ∷ []))
+      (files (codes "a.disk") (tree (codes "b")) true)
   pub lists_records : Means (line (codes "history" ∷ codes "a.disk" ∷ []))
-      (history (codes "a.disk") false)
+      (history (codes "a.disk") false false)
   pub lists_a_story : Means (line (codes "history" ∷ codes "a.disk" ∷ codes "--story" ∷ []))
-      (history (codes "a.disk") true)
+      (history (codes "a.disk") true false)
+  pub lists_records_live : Means (line (codes "history" ∷ codes "a.disk" ∷ codes "--live" ∷ []))
+      (history (codes "a.disk") false true)
   pub upgrades : Means (line (codes "upgrade" ∷ codes "a.disk" ∷ []))
       (upgrade (codes "a.disk"))
   pub saves : Means (line (codes "save" ∷ codes "a.disk" ∷ codes "b.disk" ∷ []))
-      (save (codes "a.disk") (codes "b.disk"))
-  pub gives_a_file : Means (line (codes "files" ∷ codes "a.disk" ∷ codes "a/b" ∷ []))
-      (files (codes "a.disk") (Some (codes "a/b")))
+      (save (codes "a.disk") (codes "b.disk") false)
+  pub saves_live : Means
+      (line (codes "save" ∷ codes "a.disk" ∷ codes "b.disk" ∷ codes "--live" ∷ []))
+      (save (codes "a.disk") (codes "b.disk") true)
 
 pub record CreateOrderExamples : Type 0 where
   pub creates : Means (create_line []) (create plain_creation)
@@ -220,6 +237,12 @@ pub record PathMistakes : Type 0 where
   pub files_of_two : WordsFail
       (line (codes "files" ∷ codes "a.disk" ∷ codes "a" ∷ codes "b" ∷ []))
       (kind.UnknownArgument ∷ [])
+  pub folder_beside_a_path : WordsFail
+      (line (codes "files" ∷ codes "a.disk" ∷ codes "a" ∷ codes "--all" ∷ codes "b" ∷ []))
+      (kind.ArgumentConflict ∷ [])
+  pub path_behind_a_folder : WordsFail
+      (line (codes "files" ∷ codes "--all=b" ∷ codes "--live" ∷ codes "a.disk" ∷ codes "a" ∷ []))
+      (kind.ArgumentConflict ∷ [])
   pub history_of_none : WordsFail (line (codes "history" ∷ [])) (kind.MissingRequiredArgument ∷ [])
   pub history_of_two : WordsFail (line (codes "history" ∷ codes "a.disk" ∷ codes "b.disk" ∷ []))
       (kind.UnknownArgument ∷ [])
@@ -309,6 +332,20 @@ pub record OptionMistakes : Type 0 where
       (kind.ArgumentConflict ∷ [])
   pub json_of_a_history : WordsFail
       (line (codes "history" ∷ codes "a.disk" ∷ codes "--json" ∷ [])) (kind.UnknownArgument ∷ [])
+  pub no_folder : WordsFail
+      (line (codes "files" ∷ codes "a.disk" ∷ codes "--all" ∷ [])) (kind.InvalidValue ∷ [])
+  pub two_folders : WordsFail
+      (line (codes "files" ∷ codes "a.disk" ∷ codes "--all=b" ∷ codes "--all=c" ∷ []))
+      (kind.ArgumentConflict ∷ [])
+  pub live_twice : WordsFail
+      (line (codes "show" ∷ codes "a.disk" ∷ codes "--live" ∷ codes "--live" ∷ []))
+      (kind.ArgumentConflict ∷ [])
+  pub live_with_a_value : WordsFail
+      (line (codes "save" ∷ codes "a.disk" ∷ codes "b.disk" ∷ codes "--live=yes" ∷ []))
+      (kind.TooManyValues ∷ [])
+  pub live_run : WordsFail (run_line (codes "--live" ∷ [])) (kind.UnknownArgument ∷ [])
+  pub live_upgrade : WordsFail
+      (line (codes "upgrade" ∷ codes "a.disk" ∷ codes "--live" ∷ [])) (kind.UnknownArgument ∷ [])
   pub life_of_zero : WordsFail (sweep_line (codes "--life" ∷ codes "0" ∷ []))
       (kind.ValueValidation ∷ [])
   pub fronts_twice : WordsFail (sweep_line (codes "--fronts=0" ∷ codes "--fronts=1" ∷ []))

@@ -15,12 +15,12 @@ NumbersFit (create said) = (said.pages < 2 ^ 64) × (said.files < 2 ^ 64) × (sa
 NumbersFit (run said) = (1 ≤ said.fuel) × (said.fuel < 2 ^ 64)
     × (1 ≤ said.every) × (said.every < 2 ^ 64)
     × (1 ≤ said.batch) × (said.batch ≤ 65536)
-NumbersFit (show path) = ⊤
-NumbersFit (inspect path as_json) = ⊤
-NumbersFit (files disk path) = ⊤
-NumbersFit (history path as_story) = ⊤
+NumbersFit (show path is_live) = ⊤
+NumbersFit (inspect path as_json is_live) = ⊤
+NumbersFit (files disk asked is_live) = ⊤
+NumbersFit (history path as_story is_live) = ⊤
 NumbersFit (upgrade path) = ⊤
-NumbersFit (save disk copy) = ⊤
+NumbersFit (save disk copy is_live) = ⊤
 NumbersFit (story said) = (said.pages < 2 ^ 64) × (said.files < 2 ^ 64) × (said.journal < 2 ^ 64)
 NumbersFit (sweep said) = (said.pages < 2 ^ 64) × (said.files < 2 ^ 64) × (said.journal < 2 ^ 64)
 

@@ -9,6 +9,8 @@ use Rattle.command_words.specs.rules.Listings.{EndsWithList}
 use Rattle.command_words.specs.rules.Printers.{PrinterState, HeedsWrites}
 use Rattle.command_words.specs.rules.Reports.{SaysLine}
 use Rattle.command_words.specs.rules.Verdicts.{EndsWithMore}
+use Rattle.command_words.specs.declared.status.Status.{Status}
+use Rattle.command_words.specs.declared.status.Status.TheVariants as exit
 
 -- That is told last of a fault, and if that is asked for, all that is in the way.
 abbrev pub EndsAsAsked : Bool → List ℕ → ModuleFault → PrinterState → Type 0
@@ -23,18 +25,20 @@ TellsWhy lists_all pages bytes new =
 -- The status says whether the bytes spell a module that is accepted with so many pages, and that is
 -- printed. Where it isn't, all that is in the way is listed if that is asked for.
 pub record IsChecked (lists_all : Bool) (pages : ℕ) (bytes : List ℕ) (old : PrinterState)
-    (status : ℕ) (new : PrinterState) : Type 0 where
-  pub accepted : status ≡ 0 → HasAcceptedModule pages bytes
-  pub shown : status ≡ 0 → Appends old.contents new.contents (codes "accepted\n")
-  pub refused : status ≡ 3 → HasNoAcceptedModule pages bytes
-  pub more : status ≡ 3 → TellsWhy lists_all pages bytes new
+    (status : Status) (new : PrinterState) : Type 0 where
+  pub accepted : status ≡ exit.Done → HasAcceptedModule pages bytes
+  pub shown : status ≡ exit.Done → Appends old.contents new.contents (codes "accepted\n")
+  pub refused : status ≡ exit.Refused → HasNoAcceptedModule pages bytes
+  pub more : status ≡ exit.Refused → TellsWhy lists_all pages bytes new
   pub heeded : HeedsWrites old status new
-  pub known : (status ≡ 0) ⊎ (status ≡ 3) ⊎ (status ≡ 5) ⊎ (status ≡ 7)
+  pub known : (status ≡ exit.Done) ⊎ (status ≡ exit.Refused) ⊎ (status ≡ exit.OutOfMemory)
+      ⊎ (status ≡ exit.Unwritten)
 
 -- A worker may have so many pages, and the module is checked with them. Or it may not, and their
 -- bounds are told.
 abbrev pub ChecksModule : Bool → ℕ → List ℕ → PrinterState → PrinterState → PrinterState
-    → PrinterState → ℕ → Type 0
+    → PrinterState → Status → Type 0
 ChecksModule lists_all pages bytes out out' err err' status =
     ((1 ≤ pages) × (pages ≤ 256) × IsChecked lists_all pages bytes out status out' × (err' ≡ err))
-    ⊎ (IsOutside 1 256 pages × SaysLine (range_words Pages) 3 err status err' × (out' ≡ out))
+    ⊎ (IsOutside 1 256 pages × SaysLine (range_words Pages) exit.Refused err status err'
+    × (out' ≡ out))

@@ -28,6 +28,10 @@ range_rule name least most = record (new_rule name) {
 abbrev pub number_rule : Text → ℕ → Rule
 number_rule name least = range_rule name least (2 ^ 64 - 1)
 
+-- the option `--all` of `files`, with the path of a folder
+abbrev pub folder_rule : Rule
+folder_rule = record (new_rule (codes "FOLDER")) { long = Some (codes "all"); value_names = 1 }
+
 -- an option with any text
 abbrev pub text_rule : Text → Rule
 text_rule name = record (new_rule name) { long = Some name; value_names = 1 }
@@ -43,6 +47,10 @@ env_rule = record (new_rule (codes "env")) {
 -- a flag
 abbrev pub flag_rule : Text → Rule
 flag_rule name = record (new_rule name) { long = Some name; action = Some SetTrue }
+
+-- the flag `--live`
+abbrev pub live_rule : Rule
+live_rule = flag_rule (codes "live")
 
 -- ---- commands
 
@@ -91,29 +99,32 @@ abbrev pub run_app : App
 run_app = with_rule (with_rule watched_run_app (flag_rule (codes "verbose")))
     (text_rule (codes "seed-file"))
 
--- `show DISK`
+-- `show DISK`, with `--live` where it is wanted
 abbrev pub show_app : App
-show_app = disk_app (codes "show")
+show_app = with_rule (disk_app (codes "show")) live_rule
 
--- `inspect DISK`, with `--json` where it is wanted
+-- `inspect DISK`, with `--json` and `--live` where they are wanted
 abbrev pub inspect_app : App
-inspect_app = with_rule (disk_app (codes "inspect")) (flag_rule (codes "json"))
+inspect_app = with_rule (with_rule (disk_app (codes "inspect")) (flag_rule (codes "json")))
+    live_rule
 
--- `files DISK`, with PATH where it is wanted
+-- `files DISK`, with PATH, `--all` and `--live` where they are wanted
 abbrev pub files_app : App
-files_app = with_rule (disk_app (codes "files")) (last_rule (codes "PATH"))
+files_app = with_rule (with_rule (with_rule (disk_app (codes "files")) (last_rule (codes "PATH")))
+    folder_rule) live_rule
 
--- `history DISK`, with `--story` where it is wanted
+-- `history DISK`, with `--story` and `--live` where they are wanted
 abbrev pub history_app : App
-history_app = with_rule (disk_app (codes "history")) (flag_rule (codes "story"))
+history_app = with_rule (with_rule (disk_app (codes "history")) (flag_rule (codes "story")))
+    live_rule
 
 -- `upgrade DISK`
 abbrev pub upgrade_app : App
 upgrade_app = disk_app (codes "upgrade")
 
--- `save DISK COPY`
+-- `save DISK COPY`, with `--live` where it is wanted
 abbrev pub save_app : App
-save_app = with_rule (disk_app (codes "save")) (path_rule (codes "COPY"))
+save_app = with_rule (with_rule (disk_app (codes "save")) (path_rule (codes "COPY"))) live_rule
 
 -- a command with the arguments SCRIPT and MODULE
 abbrev pub bare_script_app : Text → App

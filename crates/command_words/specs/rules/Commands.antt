@@ -1,5 +1,6 @@
 -- The order that the words of a command line give.
 use Rattle.std.specs.Prelude.{◌≡◌, ◌⊎◌, ◌≤◌, ⊤, ℕ, Bool, List, [], ◌∷◌, true, false, Option}
+use Rattle.std.specs.Prelude.{◌&&◌, is_some, not}
 use Rattle.std.specs.Prelude.{Some, None, Result, option_map, option_and_then, unwrap_or, slice_get}
 use Rattle.std.specs.Prelude.{if◌then◌else◌, codes, ◌≢◌, ◌-◌, ◌^◌, IfSome, MatchResult}
 use Rattle.std.specs.Option.{option_map_or}
@@ -8,21 +9,27 @@ use Rattle.std.specs.Str.{bytes_eq}
 use Rattle.std.specs.Str.Parse.{digits_value, without_leading_plus}
 use Rattle.clap.specs.Words.{IsAmong, IsUnsignedIn, Kinds, Row, Text, all_of, fault_of, first_of}
 use Rattle.clap.specs.Words.{kind_of, one_of, subcommand_of, subcommand_rows_of, takes}
+use Rattle.clap.specs.Kinds.{or_else}
 use Rattle.clap.specs.declared.error.ErrorKind.TheVariants as kind
 use Rattle.clap.specs.declared.error.Error.{Error}
 use Rattle.clap.specs.declared.parser.matches.ArgMatches.{ArgMatches}
 use Rattle.command_words.specs.rules.CommandLine.{wasmhost}
 use Rattle.command_words.specs.rules.Texts.{texts_in}
-use Rattle.command_words.specs.declared.words.CreateOrder.{CreateOrder}
-use Rattle.command_words.specs.declared.words.RunOrder.{RunOrder}
-use Rattle.command_words.specs.declared.words.StoryOrder.{StoryOrder}
-use Rattle.command_words.specs.declared.words.SweepOrder.{SweepOrder}
-use Rattle.command_words.specs.declared.words.Order.{Order}
-use Rattle.command_words.specs.declared.words.Order.TheVariants.{Check, Create, Run, Show}
-use Rattle.command_words.specs.declared.words.Order.TheVariants.{History, Save, Story}
-use Rattle.command_words.specs.declared.words.Order.TheVariants.{Sweep, Inspect, Files, Upgrade}
-use Rattle.command_words.specs.declared.words.WordsFault.{WordsFault}
-use Rattle.command_words.specs.declared.words.WordsFault.TheVariants as fault
+use Rattle.command_words.specs.declared.command_line.CreateOrder.{CreateOrder}
+use Rattle.command_words.specs.declared.command_line.FilesOrder.{FilesOrder}
+use Rattle.command_words.specs.declared.command_line.FilesOrder.TheVariants as asked
+use Rattle.command_words.specs.declared.command_line.RunOrder.{RunOrder}
+use Rattle.command_words.specs.declared.command_line.StoryOrder.{StoryOrder}
+use Rattle.command_words.specs.declared.command_line.SweepOrder.{SweepOrder}
+use Rattle.command_words.specs.declared.command_line.Order.{Order}
+use Rattle.command_words.specs.declared.command_line.Order.TheVariants.{Check, Create, Run, Show}
+use Rattle.command_words.specs.declared.command_line.Order.TheVariants.{History, Save, Story}
+use Rattle.command_words.specs.declared.command_line.Order.TheVariants.{Sweep, Inspect, Files}
+use Rattle.command_words.specs.declared.command_line.Order.TheVariants.{Upgrade}
+use Rattle.command_words.specs.declared.command_line.WordsFault.{WordsFault}
+use Rattle.command_words.specs.declared.command_line.WordsFault.TheVariants as fault
+use Rattle.command_words.specs.declared.status.Status.{Status}
+use Rattle.command_words.specs.declared.status.Status.TheVariants as exit
 
 -- ---- the words behind `--`
 
@@ -49,9 +56,29 @@ own_words words = if is_create words then before_dashes words else words
 abbrev pub guest_words : List Text → List Text
 guest_words words = if is_create words then behind_dashes words else []
 
+-- ---- arguments that exclude each other
+
+-- a command, by its name and the rows of what is after it, with PATH and `--all` of `files`
+abbrev pub has_conflict : Text × List Row → Bool
+has_conflict met = bytes_eq met.0 (codes "files")
+    && (is_some (first_of (codes "PATH") met.1) && is_some (first_of (codes "FOLDER") met.1))
+
+-- the words that the command reads have both
+abbrev pub conflict_in : List Text → Bool
+conflict_in words = option_map_or has_conflict (subcommand_of wasmhost words) false
+
+-- the kinds of fault that are listed for the words that the command reads
+abbrev pub faults_in_own : List Text → Kinds
+faults_in_own words = or_else (fault_of wasmhost words)
+    (if conflict_in words then kind.ArgumentConflict ∷ [] else [])
+
+-- the command takes the words that it reads
+abbrev pub takes_own : List Text → Bool
+takes_own words = takes wasmhost words && not (conflict_in words)
+
 -- the kinds of fault that are listed for the words of a line
 abbrev pub faults_in_words : List Text → Kinds
-faults_in_words words = fault_of wasmhost (own_words words)
+faults_in_words words = faults_in_own (own_words words)
 
 -- ---- orders
 
@@ -104,17 +131,25 @@ pub record SweepMeaning : Type 0 where
   pub fronts : Option Text
   pub life : Option ℕ
 
--- what an order says
+-- What a look at files says: they are listed, or the one at this path is given, or all are written
+-- into this folder.
+pub data FilesMeaning : Type 0 where
+  listing : FilesMeaning
+  file : Text → FilesMeaning
+  tree : Text → FilesMeaning
+
+-- What an order says. The last word of a look or a copy is whether the disk is only looked at,
+-- while its worker may run.
 pub data Meaning : Type 0 where
   check : Text → ℕ → Bool → Meaning
   create : CreateMeaning → Meaning
   run : RunMeaning → Meaning
-  show : Text → Meaning
-  inspect : Text → Bool → Meaning
-  files : Text → Option Text → Meaning
-  history : Text → Bool → Meaning
+  show : Text → Bool → Meaning
+  inspect : Text → Bool → Bool → Meaning
+  files : Text → FilesMeaning → Bool → Meaning
+  history : Text → Bool → Bool → Meaning
   upgrade : Text → Meaning
-  save : Text → Text → Meaning
+  save : Text → Text → Bool → Meaning
   story : StoryMeaning → Meaning
   sweep : SweepMeaning → Meaning
 
@@ -170,17 +205,23 @@ sweep_said order = record {
   life = order.life;
 }
 
+-- what is asked for of files
+abbrev pub files_said : FilesOrder → FilesMeaning
+files_said asked.List = listing
+files_said (asked.File path) = file path.now
+files_said (asked.Tree folder) = tree folder.now
+
 -- what an order says
 abbrev pub meaning_of : Order → Meaning
 meaning_of (Check order) = check order.path.now order.pages order.lists_all
 meaning_of (Create order) = create (create_said order)
 meaning_of (Run order) = run (run_said order)
-meaning_of (Show path) = show path.now
-meaning_of (Inspect path as_json) = inspect path.now as_json
-meaning_of (Files disk path) = files disk.now (option_map (λ text. text.now) path)
-meaning_of (History path as_story) = history path.now as_story
+meaning_of (Show path is_live) = show path.now is_live
+meaning_of (Inspect path as_json is_live) = inspect path.now as_json is_live
+meaning_of (Files disk asked is_live) = files disk.now (files_said asked) is_live
+meaning_of (History path as_story is_live) = history path.now as_story is_live
 meaning_of (Upgrade path) = upgrade path.now
-meaning_of (Save disk copy) = save disk.now copy.now
+meaning_of (Save disk copy is_live) = save disk.now copy.now is_live
 meaning_of (Story order) = story (story_said order)
 meaning_of (Sweep order) = sweep (sweep_said order)
 
@@ -201,6 +242,15 @@ number_or name other rows = option_map_or spelled_number (one_of name rows) othe
 -- the flag is there
 abbrev pub flag_in : Text → List Row → Bool
 flag_in name rows = option_map_or (λ text. bytes_eq text (codes "true")) (one_of name rows) false
+
+-- `--live` is there
+abbrev pub live_in : List Row → Bool
+live_in = flag_in (codes "live")
+
+-- what is asked for of files, where not both PATH and `--all` are there
+abbrev pub files_in : List Row → FilesMeaning
+files_in rows = option_map_or tree (first_of (codes "FOLDER") rows)
+    (option_map_or file (first_of (codes "PATH") rows) listing)
 
 -- the text of DISK
 abbrev pub disk_in : List Row → Option Text
@@ -283,6 +333,14 @@ abbrev pub check_in : List Row → Text → Meaning
 check_in rows wasm =
     check wasm (number_or (codes "pages") 256 rows) (flag_in (codes "all") rows)
 
+-- what a look at all facts means with this path and the rows of what is after its word
+abbrev pub inspect_in : List Row → Text → Meaning
+inspect_in rows disk = inspect disk (flag_in (codes "json") rows) (live_in rows)
+
+-- what a look at records means with this path and the rows of what is after its word
+abbrev pub history_in : List Row → Text → Meaning
+history_in rows disk = history disk (flag_in (codes "story") rows) (live_in rows)
+
 -- a check, where its path is there
 abbrev pub check_below : List Row → Option Meaning
 check_below rows = option_map (check_in rows) (module_in rows)
@@ -294,7 +352,8 @@ creation_below arguments rows = option_and_then (λ disk. option_map (λ wasm.
 
 -- a copy, where both paths are there
 abbrev pub save_below : List Row → Option Meaning
-save_below rows = option_and_then (λ disk. option_map (save disk) (copy_in rows)) (disk_in rows)
+save_below rows = option_and_then (λ disk. option_map (λ copy. save disk copy (live_in rows))
+    (copy_in rows)) (disk_in rows)
 
 -- a story, where both paths are there
 abbrev pub story_below : List Row → Option Meaning
@@ -313,13 +372,14 @@ meaning_below arguments met =
     else if bytes_eq met.0 (codes "create") then creation_below arguments met.1
     else if bytes_eq met.0 (codes "run")
     then option_map (λ disk. run (run_in met.1 disk)) (disk_in met.1)
-    else if bytes_eq met.0 (codes "show") then option_map show (disk_in met.1)
+    else if bytes_eq met.0 (codes "show")
+    then option_map (λ disk. show disk (live_in met.1)) (disk_in met.1)
     else if bytes_eq met.0 (codes "inspect")
-    then option_map (λ disk. inspect disk (flag_in (codes "json") met.1)) (disk_in met.1)
+    then option_map (inspect_in met.1) (disk_in met.1)
     else if bytes_eq met.0 (codes "files")
-    then option_map (λ disk. files disk (first_of (codes "PATH") met.1)) (disk_in met.1)
+    then option_map (λ disk. files disk (files_in met.1) (live_in met.1)) (disk_in met.1)
     else if bytes_eq met.0 (codes "history")
-    then option_map (λ disk. history disk (flag_in (codes "story") met.1)) (disk_in met.1)
+    then option_map (history_in met.1) (disk_in met.1)
     else if bytes_eq met.0 (codes "upgrade") then option_map upgrade (disk_in met.1)
     else if bytes_eq met.0 (codes "save") then save_below met.1
     else if bytes_eq met.0 (codes "story") then story_below met.1
@@ -334,8 +394,8 @@ meaning_in words = option_and_then (meaning_below (guest_words words))
 -- a fault of the words that the command reads: a mistake, or a call for help, of a kind that is
 -- listed for them; or out of memory
 abbrev pub IsFaultOf : List Text → WordsFault → Type 0
-IsFaultOf words (fault.Words told) = IsAmong (kind_of told) (fault_of wasmhost words)
-    × (takes wasmhost words ≡ true → ⊥)
+IsFaultOf words (fault.Words told) = IsAmong (kind_of told) (faults_in_own words)
+    × (takes_own words ≡ true → ⊥)
 IsFaultOf words fault.Memory = ⊤
 
 -- what may be answered to the words: the order that they mean, where no kind of fault is listed for
@@ -389,6 +449,7 @@ pub record TakesOptions (rows : List Row) : Type 0 where
   pub json : TakesFlag (codes "json") rows
   pub story : TakesFlag (codes "story") rows
   pub all : TakesFlag (codes "all") rows
+  pub live : TakesFlag (codes "live") rows
 
 -- ---- faults
 
@@ -401,8 +462,8 @@ abbrev pub IsWordsFault : Error → WordsFault → Type 0
 IsWordsFault told (fault.Words kept) = (kept ≡ told) × (kind_of told ≢ kind.OutOfMemory)
 IsWordsFault told fault.Memory = kind_of told ≡ kind.OutOfMemory
 
--- help is done, a mistake is 2, and out of memory 5
-abbrev pub IsStatusOf : WordsFault → ℕ → Type 0
-IsStatusOf (fault.Words told) status = ((status ≡ 0) × IsAskedFor told)
-    ⊎ ((status ≡ 2) × (IsAskedFor told → ⊥))
-IsStatusOf fault.Memory status = status ≡ 5
+-- help is `Done`, a mistake is `Usage`, and out of memory `OutOfMemory`
+abbrev pub IsStatusOf : WordsFault → Status → Type 0
+IsStatusOf (fault.Words told) status = ((status ≡ exit.Done) × IsAskedFor told)
+    ⊎ ((status ≡ exit.Usage) × (IsAskedFor told → ⊥))
+IsStatusOf fault.Memory status = status ≡ exit.OutOfMemory

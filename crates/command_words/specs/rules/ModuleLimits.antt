@@ -11,6 +11,8 @@ use Rattle.wasm_places.specs.declared.place.ModulePlace.{ModulePlace}
 use Rattle.wasm_places.specs.declared.place.ModulePlace.TheVariants as place
 use Rattle.wasm_places.specs.rules.Places.{LiesAt}
 use Rattle.command_words.specs.rules.Printers.{PrinterState, IsPrinted}
+use Rattle.command_words.specs.declared.status.Status.{Status}
+use Rattle.command_words.specs.declared.status.Status.TheVariants as exit
 
 -- how many it allows
 abbrev pub most_of : ModuleLimit → ℕ
@@ -60,9 +62,9 @@ abbrev pub TellsLimit : List ℕ → List ℕ → PassedLimit → PrinterState �
 TellsLimit bytes verdict passed old new = (lies : Option ModulePlace) × LiesAt bytes passed.at lies
     × IsPrinted old new (limit_text verdict passed (function_of lies))
 
--- That is said, with this status. Or it is 7, and a write has failed.
-abbrev pub SaysLimit : List ℕ → List ℕ → PassedLimit → ℕ → PrinterState → ℕ → PrinterState
+-- That is said, with this status. Or it is `Unwritten`, and a write has failed.
+abbrev pub SaysLimit : List ℕ → List ℕ → PassedLimit → Status → PrinterState → Status → PrinterState
     → Type 0
 SaysLimit bytes verdict passed status old answered new =
     ((answered ≡ status) × TellsLimit bytes verdict passed old new)
-    ⊎ ((answered ≡ 7) × (new.failed ≡ true))
+    ⊎ ((answered ≡ exit.Unwritten) × (new.failed ≡ true))

@@ -15,6 +15,8 @@ use Rattle.command_words.specs.declared.preparing.Unprepared.{Unprepared}
 use Rattle.command_words.specs.declared.preparing.Unprepared.TheVariants as unprepared
 use Rattle.command_words.specs.rules.Bounds.{IsOutOfBounds}
 use Rattle.command_words.specs.rules.Entries.{IsUnnamedEntry}
+use Rattle.command_words.specs.declared.status.Status.{Status}
+use Rattle.command_words.specs.declared.status.Status.TheVariants as exit
 
 -- what a worker of these sizes is configured with: its first argument is its name
 abbrev pub config_as : Sizes → List (List ℕ) → List (List ℕ) → Settings
@@ -76,8 +78,8 @@ passed_by (unprepared.Text unnamed) = None
 passed_by unprepared.Memory = None
 
 -- the exit status, where that is printed
-abbrev pub status_unprepared : Unprepared → ℕ
-status_unprepared (unprepared.Range bound) = 3
-status_unprepared (unprepared.Text unnamed) = 3
-status_unprepared (unprepared.Module why) = 3
-status_unprepared unprepared.Memory = 5
+abbrev pub status_unprepared : Unprepared → Status
+status_unprepared (unprepared.Range bound) = exit.Refused
+status_unprepared (unprepared.Text unnamed) = exit.Refused
+status_unprepared (unprepared.Module why) = exit.Refused
+status_unprepared unprepared.Memory = exit.OutOfMemory

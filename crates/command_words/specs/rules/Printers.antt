@@ -1,6 +1,8 @@
 -- What is known of a printer, and what its prints leave (this project's own).
 use Rattle.std.specs.Prelude.{◌≡◌, ◌≢◌, ◌⊎◌, ℕ, Bool, true, false, List, ◌++◌, Option}
 use Rattle.std.specs.Io.KnownBytes.{Appends}
+use Rattle.command_words.specs.declared.status.Status.{Status}
+use Rattle.command_words.specs.declared.status.Status.TheVariants as exit
 
 -- what its writer holds, where that is known; whether a person reads along, as on a terminal; and
 -- whether a write of it has failed
@@ -46,27 +48,30 @@ TellsPerson line old new =
 
 -- ---- exit statuses
 
--- The status is this one, and no write has failed; or it is 7, and one has.
-abbrev pub IsSaid : ℕ → PrinterState → ℕ → PrinterState → Type 0
+-- The status is this one, and no write has failed; or it is `Unwritten`, and one has.
+abbrev pub IsSaid : Status → PrinterState → Status → PrinterState → Type 0
 IsSaid status old answered new =
-    ((answered ≡ status) × (new.failed ≡ old.failed)) ⊎ ((answered ≡ 7) × (new.failed ≡ true))
+    ((answered ≡ status) × (new.failed ≡ old.failed))
+    ⊎ ((answered ≡ exit.Unwritten) × (new.failed ≡ true))
 
--- The status is this one, and the text is printed; or it is 7, and a write has failed.
-abbrev pub SaysText : List ℕ → ℕ → PrinterState → ℕ → PrinterState → Type 0
+-- The status is this one, and the text is printed; or it is `Unwritten`, and a write has failed.
+abbrev pub SaysText : List ℕ → Status → PrinterState → Status → PrinterState → Type 0
 SaysText text status old answered new =
-    ((answered ≡ status) × IsPrinted old new text) ⊎ ((answered ≡ 7) × (new.failed ≡ true))
+    ((answered ≡ status) × IsPrinted old new text)
+    ⊎ ((answered ≡ exit.Unwritten) × (new.failed ≡ true))
 
--- The status is 7 just where a write has failed.
-abbrev pub HeedsWrites : PrinterState → ℕ → PrinterState → Type 0
+-- The status is `Unwritten` just where a write has failed.
+abbrev pub HeedsWrites : PrinterState → Status → PrinterState → Type 0
 HeedsWrites old status new =
-    ((status ≢ 7) × (new.failed ≡ old.failed)) ⊎ ((status ≡ 7) × (new.failed ≡ true))
+    ((status ≢ exit.Unwritten) × (new.failed ≡ old.failed))
+    ⊎ ((status ≡ exit.Unwritten) × (new.failed ≡ true))
 
 -- a write of one of these two has failed
 abbrev pub HasOneFailed : PrinterState → PrinterState → Type 0
 HasOneFailed out err = (out.failed ≡ true) ⊎ (err.failed ≡ true)
 
--- The status is 7 just where a write of one of the two printers has failed.
-abbrev pub HeedsBoth : PrinterState → PrinterState → PrinterState → PrinterState → ℕ → Type 0
+-- The status is `Unwritten` just where a write of one of the two printers has failed.
+abbrev pub HeedsBoth : PrinterState → PrinterState → PrinterState → PrinterState → Status → Type 0
 HeedsBoth out out' err err' status =
-    ((status ≢ 7) × (out'.failed ≡ out.failed) × (err'.failed ≡ err.failed))
-    ⊎ ((status ≡ 7) × HasOneFailed out' err')
+    ((status ≢ exit.Unwritten) × (out'.failed ≡ out.failed) × (err'.failed ≡ err.failed))
+    ⊎ ((status ≡ exit.Unwritten) × HasOneFailed out' err')

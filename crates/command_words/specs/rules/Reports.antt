@@ -5,23 +5,25 @@ use Rattle.wasi_abi.specs.rules.Answers.{newline}
 use Rattle.command_words.specs.declared.telling.Obstacle.{Obstacle}
 use Rattle.command_words.specs.declared.telling.Obstacle.TheVariants as obstacle
 use Rattle.command_words.specs.rules.Printers.{PrinterState, IsPrinted, SaysText}
+use Rattle.command_words.specs.declared.status.Status.{Status}
+use Rattle.command_words.specs.declared.status.Status.TheVariants as exit
 
--- The line is printed, with its newline, and the status is this one; or it is 7, and a write has
--- failed.
-abbrev pub SaysLine : List ℕ → ℕ → PrinterState → ℕ → PrinterState → Type 0
+-- The line is printed, with its newline, and the status is this one; or it is `Unwritten`, and a
+-- write has failed.
+abbrev pub SaysLine : List ℕ → Status → PrinterState → Status → PrinterState → Type 0
 SaysLine line status old answered new =
     SaysText (line ++ newline ∷ []) status old answered new
 
 -- the exit status of a command that isn't begun, or whose output can't be written
-abbrev pub obstacle_status : Obstacle → ℕ
-obstacle_status obstacle.Memory = 5
-obstacle_status obstacle.Unread = 4
-obstacle_status (obstacle.NoText number) = 2
-obstacle_status obstacle.NoSeed = 2
-obstacle_status obstacle.TwoSeeds = 2
-obstacle_status obstacle.NoFronts = 2
-obstacle_status obstacle.NoLife = 2
-obstacle_status obstacle.Unwritten = 7
+abbrev pub obstacle_status : Obstacle → Status
+obstacle_status obstacle.Memory = exit.OutOfMemory
+obstacle_status obstacle.Unread = exit.IoError
+obstacle_status (obstacle.NoText number) = exit.Usage
+obstacle_status obstacle.NoSeed = exit.Usage
+obstacle_status obstacle.TwoSeeds = exit.Usage
+obstacle_status obstacle.NoFronts = exit.Usage
+obstacle_status obstacle.NoLife = exit.Usage
+obstacle_status obstacle.Unwritten = exit.Unwritten
 
 -- the line that says why
 abbrev pub obstacle_words : Obstacle → List ℕ
@@ -36,16 +38,17 @@ obstacle_words obstacle.NoLife = codes "error: the script has no such life"
 obstacle_words obstacle.Unwritten = codes "failed N3 Outlet"
 
 -- The text is printed on the output, and the status is this one. Or a write of the output has
--- failed: the status is 7, and that is told on the error output.
-abbrev pub SaysOnOutput : List ℕ → ℕ → PrinterState → PrinterState → PrinterState → PrinterState
-    → ℕ → Type 0
+-- failed: the status is `Unwritten`, and that is told on the error output.
+abbrev pub SaysOnOutput : List ℕ → Status → PrinterState → PrinterState → PrinterState
+    → PrinterState → Status → Type 0
 SaysOnOutput text status out out' err err' answered =
     ((answered ≡ status) × IsPrinted out out' text × (err' ≡ err))
-    ⊎ ((out'.failed ≡ true) × SaysLine (obstacle_words obstacle.Unwritten) 7 err answered err')
+    ⊎ ((out'.failed ≡ true)
+    × SaysLine (obstacle_words obstacle.Unwritten) exit.Unwritten err answered err')
 
 -- What is said after a command of its output: where a write of it has failed, that is told on the
--- error output, with status 7.
-abbrev pub SaysOfOutput : Bool → ℕ → PrinterState → ℕ → PrinterState → Type 0
+-- error output, with status `Unwritten`.
+abbrev pub SaysOfOutput : Bool → Status → PrinterState → Status → PrinterState → Type 0
 SaysOfOutput true status err answered err' =
-    SaysLine (obstacle_words obstacle.Unwritten) 7 err answered err'
+    SaysLine (obstacle_words obstacle.Unwritten) exit.Unwritten err answered err'
 SaysOfOutput false status err answered err' = (answered ≡ status) × (err' ≡ err)

@@ -2,8 +2,9 @@
 //!
 //! # Choices
 //!
-//! - **The piece that makes a line too long is looked at, and not consumed.** It is at most what a
-//!   buffer holds. So most such lines have a length that can be told, and none is read on for.
+//! - **The piece that makes a line too long is looked at, and not consumed.** A piece is at most
+//!   what a buffer holds. So most such lines have a length that can be told, and none is read on
+//!   for.
 
 ghost use Rattle.std.specs.Prelude.{◌≡◌, ◌≢◌, ◌≤◌, ◌<◌, ◌-◌, false, IfOk, IfErr, All, length, take};
 ghost use Rattle.std.specs.Io.Buffered.{reader_buffer};

@@ -15,7 +15,7 @@ mod real_time;
 mod records;
 pub mod request;
 mod source;
-mod words;
+mod trap_names;
 
 pub use buffered::BufferedLines;
 pub use fault::LineFault;
@@ -30,4 +30,4 @@ pub use real_time::{RealTime, nanoseconds_of};
 pub use records::{spell_answer, spell_record};
 pub use request::{Request, read_decimal, read_request, split_at_space};
 pub use source::RequestSource;
-pub use words::trap_name;
+pub use trap_names::trap_name;

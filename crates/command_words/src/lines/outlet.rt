@@ -2,8 +2,8 @@
 //!
 //! # Promises
 //!
-//! - `LineOutlet` prints each line that it takes, with its number and the letter of its stream. It
-//!   refuses one only where a write of it has failed, and has then printed at most a prefix of it
+//! - `LineOutlet` prints each line that it takes, with its number and the letter of its stream. A
+//!   line is refused only where a write of it has failed, and then at most a prefix was printed
 //!   (`PrintsOneLine`). `laws::taken_lines_are_printed` of `disk_commands`: the lines that it took
 //!   are printed, and nothing else.
 //!

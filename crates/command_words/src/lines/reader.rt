@@ -8,11 +8,11 @@
 //! # Choices
 //!
 //! - **Request lines come from a trait of this project's own**, `LineReader`, with one method. Its
-//!   contract has three values of the reader. They are the bytes that are still to come, whether a
-//!   read has failed, and how many pieces it gives at most. `BufRead` of the standard library has
-//!   the first alone: of an error it says nothing. So code that answered a failed read where none
-//!   was would be proved. Now only the implementation can say that a read has failed, which is a
-//!   few lines.
+//!   contract has three values of the reader. These are the bytes that are still to come, whether a
+//!   read has failed, and how many pieces are given at most. `BufRead` of the standard library has
+//!   the first alone, and says nothing of an error. With it code would be proved that answers a
+//!   failed read where none was. Now only the implementation can say that a read has failed, which
+//!   is a few lines.
 //! - **The third value is a measure.** Lines may go on for ever, and a loop has to end. A loop that
 //!   gave up after 2^64 lines would have to tell some fault that isn't true. Now the reader fails
 //!   after 2^64 - 1 pieces, and says so.

@@ -7,8 +7,9 @@
 //!
 //! # Choices
 //!
-//! - **A text with control bytes is told by digits**, under a letter of its own. So each record is
-//!   one line, a terminal only shows it, and every other text is as it was, with no byte escaped.
+//! - **A text with control bytes is told by digits**, under a letter of its own. Each record is
+//!   then one line that a terminal only shows, and every other text is as it was, with no byte
+//!   escaped.
 
 ghost use Rattle.std.specs.Prelude.{◌≡◌, [], ◌∷◌, OnOk};
 ghost use Rattle.std.specs.Char.{is_ascii_control};

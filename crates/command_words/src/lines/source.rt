@@ -3,10 +3,10 @@
 //! # Promises
 //!
 //! - `RequestSource` answers requests as the lines of its reader say, in their order (`HandsNext`).
-//!   It answers clocks with the fixed time, or with that of its `RealTime` clock, to the nanosecond
-//!   (`IsRealTime`). It answers questions for random bytes with the next words of its stream. It
-//!   says why it refuses. A failed read it tells only of a reader that has failed. Whether it would
-//!   wait for a request is a hint (`Readiness`).
+//!   Clocks are answered with the fixed time, or with that of its `RealTime` clock, to the
+//!   nanosecond (`IsRealTime`). Questions for random bytes are answered with the next words of its
+//!   stream. A refusal has its reason. A failed read is told only of a reader that has failed.
+//!   Whether the source would wait for a request is a hint (`Readiness`).
 //!
 //! # Choices
 //!
@@ -19,8 +19,8 @@
 //!   a source, and of a run.
 //! - **Answers of all kinds are in one list, in their order**, and two readings of it are exact.
 //!   Its requests (`requests_in`) are those that the lines give. Its times and random bytes come
-//!   from the outside (`ComeFrom`), with the place in the seed's stream counted along the list. So
-//!   the second holds where the bytes of the lines aren't known, as of the standard input.
+//!   from the outside (`ComeFrom`), with the place in the seed's stream counted along the list. The
+//!   second also holds where the bytes of the lines aren't known, as of the standard input.
 
 ghost use Rattle.std.specs.Prelude.{◌≡◌, ◌+◌, None, IfOk, IfErr, OnOk, OnErr};
 ghost use Rattle.wasi_abi.specs.declared.answer.Question.TheVariants as questions;

@@ -9,7 +9,8 @@ returns-in-Some-clause-printed g c =
     let vt = c.in-Some.words.value_type.now in
     let op = c.in-Some.words.operation.now in
     let number = decimal c.args.number in
-    let text : Option (List ℕ × List ℕ) → List ℕ = λ n. float_name n ++ codes " in function " ++ number ++ codes "\n" in
+    let text : Option (List ℕ × List ℕ) → List ℕ =
+    λ n. float_name n ++ codes " in function " ++ number ++ codes "\n" in
     prints_as c.writeln.result c.args.out.now c.writeln.new.self
     (vt ++ (op ++ (codes " in function " ++ (number ++ codes "\n"))))
     (text (float_at c.args.wasm.now c.args.at))
@@ -19,7 +20,8 @@ returns-in-Some-clause-printed g c =
 pub returns-in-None-clause-printed : goal.returns-in-None-clause-printed
 returns-in-None-clause-printed g c =
     let number = decimal c.args.number in
-    let text : Option (List ℕ × List ℕ) → List ℕ = λ n. float_name n ++ codes " in function " ++ number ++ codes "\n" in
+    let text : Option (List ℕ × List ℕ) → List ℕ =
+    λ n. float_name n ++ codes " in function " ++ number ++ codes "\n" in
     prints_as c.writeln-in-None.result c.args.out.now c.writeln-in-None.new.self
     (codes "a float in function " ++ (number ++ codes "\n"))
     (text (float_at c.args.wasm.now c.args.at))
