@@ -26,6 +26,8 @@ use Rattle.command_words.specs.rules.Outside.{requests_in, words_of}
 use Rattle.command_words.specs.rules.Printers.{PrinterState, IsSaid}
 use Rattle.command_words.specs.rules.Requests.{BeginsWithOther, BeginsWithLater}
 use Rattle.command_words.specs.rules.Requests.{BeginsWithNumber}
+use Rattle.command_words.specs.declared.status.Status.{Status}
+use Rattle.command_words.specs.declared.status.Status.TheVariants as exit
 use Rattle.command_words.proofs.LineLemmas.Passing.{up_to_map}
 use Rattle.disk_commands.specs.declared.on_disk.fault.OnDiskFault.{OnDiskFault}
 use Rattle.disk_commands.specs.declared.on_disk.fault.OnDiskFault.TheVariants as is_told
@@ -202,7 +204,7 @@ module _ {D O : Type 0} (medium : D → Medium) (takes : Taking O) where
 
     -- ---- statuses
 
-    abbrev Says : ℕ → Type 0
+    abbrev Says : Status → Type 0
     Says status = SaysOnDisk medium takes before after status
 
     abbrev IsSteady : Type 0
@@ -212,84 +214,84 @@ module _ {D O : Type 0} (medium : D → Medium) (takes : Taking O) where
     abbrev IsSteadyOrFull : Type 0
     IsSteadyOrFull = IsSteady ⊎ (2 ≤ before.given.batch)
 
-    zero : IsOverOnDisk medium takes before after → IsSteady → Says 0
+    zero : IsOverOnDisk medium takes before after → IsSteady → Says exit.Done
     zero h steady = record {
       over = λ e. h;
-      stuck = λ e. absurd (omega (arith, e));
-      unanswered = λ e. absurd (omega (arith, e));
-      starved = λ e. absurd (omega (arith, e));
-      bad_line = λ e. absurd (omega (arith, e));
-      unprinted = λ e. absurd (omega (arith, e));
+      stuck = λ e. absurd cc;
+      unanswered = λ e. absurd cc;
+      starved = λ e. absurd cc;
+      bad_line = λ e. absurd cc;
+      unprinted = λ e. absurd cc;
       heeded = inl steady;
-      known = inl refl;
+      known = ((λ e. cc), λ e. cc);
     }
 
-    three : Fails IsStuck IsAtItsEnd → IsSteadyOrFull → Says 3
+    three : Fails IsStuck IsAtItsEnd → IsSteadyOrFull → Says exit.Refused
     three h steady = record {
-      over = λ e. absurd (omega (arith, e));
+      over = λ e. absurd cc;
       stuck = λ e. h;
-      unanswered = λ e. absurd (omega (arith, e));
-      starved = λ e. absurd (omega (arith, e));
-      bad_line = λ e. absurd (omega (arith, e));
-      unprinted = λ e. absurd (omega (arith, e));
+      unanswered = λ e. absurd cc;
+      starved = λ e. absurd cc;
+      bad_line = λ e. absurd cc;
+      unprinted = λ e. absurd cc;
       heeded = ⊎_elim (λ same. inl same) (λ several. inr (inr (inr (inr (refl, several)))))
           steady;
-      known = inr (omega arith, omega arith);
+      known = ((λ e. cc), λ e. cc);
     }
 
-    four : Fails IsFailing IsUnanswering ⊎ Asks LacksAnswerAt → Says 4
+    four : Fails IsFailing IsUnanswering ⊎ Asks LacksAnswerAt → Says exit.IoError
     four h = record {
-      over = λ e. absurd (omega (arith, e));
-      stuck = λ e. absurd (omega (arith, e));
+      over = λ e. absurd cc;
+      stuck = λ e. absurd cc;
       unanswered = λ e. h;
-      starved = λ e. absurd (omega (arith, e));
-      bad_line = λ e. absurd (omega (arith, e));
-      unprinted = λ e. absurd (omega (arith, e));
+      starved = λ e. absurd cc;
+      bad_line = λ e. absurd cc;
+      unprinted = λ e. absurd cc;
       heeded = inr (inl refl);
-      known = inr (omega arith, omega arith);
+      known = ((λ e. cc), λ e. cc);
     }
 
-    five : Fails IsWanting IsOfMemory ⊎ Asks LacksMemoryAt → Says 5
+    five : Fails IsWanting IsOfMemory ⊎ Asks LacksMemoryAt → Says exit.OutOfMemory
     five h = record {
-      over = λ e. absurd (omega (arith, e));
-      stuck = λ e. absurd (omega (arith, e));
-      unanswered = λ e. absurd (omega (arith, e));
+      over = λ e. absurd cc;
+      stuck = λ e. absurd cc;
+      unanswered = λ e. absurd cc;
       starved = λ e. h;
-      bad_line = λ e. absurd (omega (arith, e));
-      unprinted = λ e. absurd (omega (arith, e));
+      bad_line = λ e. absurd cc;
+      unprinted = λ e. absurd cc;
       heeded = inr (inr (inl refl));
-      known = inr (omega arith, omega arith);
+      known = ((λ e. cc), λ e. cc);
     }
 
-    six : Asks MeetsBadLineAt → IsSteady → Says 6
+    six : Asks MeetsBadLineAt → IsSteady → Says exit.BadLine
     six h steady = record {
-      over = λ e. absurd (omega (arith, e));
-      stuck = λ e. absurd (omega (arith, e));
-      unanswered = λ e. absurd (omega (arith, e));
-      starved = λ e. absurd (omega (arith, e));
+      over = λ e. absurd cc;
+      stuck = λ e. absurd cc;
+      unanswered = λ e. absurd cc;
+      starved = λ e. absurd cc;
       bad_line = λ e. h;
-      unprinted = λ e. absurd (omega (arith, e));
+      unprinted = λ e. absurd cc;
       heeded = inl steady;
-      known = inr (omega arith, omega arith);
+      known = ((λ e. cc), λ e. cc);
     }
 
-    seven : Fails IsOutletFault IsOfOutlet ⊎ (after.err.failed ≡ true) → Says 7
+    seven : Fails IsOutletFault IsOfOutlet ⊎ (after.err.failed ≡ true) → Says exit.Unwritten
     seven h = record {
-      over = λ e. absurd (omega (arith, e));
-      stuck = λ e. absurd (omega (arith, e));
-      unanswered = λ e. absurd (omega (arith, e));
-      starved = λ e. absurd (omega (arith, e));
-      bad_line = λ e. absurd (omega (arith, e));
+      over = λ e. absurd cc;
+      stuck = λ e. absurd cc;
+      unanswered = λ e. absurd cc;
+      starved = λ e. absurd cc;
+      bad_line = λ e. absurd cc;
       unprinted = λ e. h;
       heeded = inr (inr (inr (inl refl)));
-      known = inr (omega arith, omega arith);
+      known = ((λ e. cc), λ e. cc);
     }
 
     -- what is on the disk is refused, or a layer wants memory
     refused_or : (why : RecoverFault) → (want : Bool) → wants_memory why ≡ want
         → (wants_memory why ≡ true → Fails IsWanting IsOfMemory)
         → (wants_memory why ≡ false → Fails IsStuck IsAtItsEnd) → IsSteady
-        → Says (if want then 5 else 3)
+        → Says (if want then exit.OutOfMemory else exit.Refused)
     refused_or why true is wants refuses steady = five (inl (wants is))
     refused_or why false is wants refuses steady = three (refuses is) (inl steady)
 
@@ -408,7 +410,7 @@ module _ {D O : Type 0} (medium : D → Medium) (takes : Taking O) where
         in six bad bad.behind.2
 
     -- that is said, or nothing can be
-    said_as : (between : PrinterState) (status told : ℕ) → IsSaid told between status after.err
+    said_as : (between : PrinterState) (status told : Status) → IsSaid told between status after.err
         → Says told → Says status
     said_as between status told (inl said) says = subst Says (sym said.0) says
     said_as between status told (inr unsaid) says =
@@ -430,7 +432,7 @@ module _ {D O : Type 0} (medium : D → Medium) (takes : Taking O) where
         subst (λ t. Says (status_on_disk t)) (sym e.3)
         (by_line e.0 (vain source' e.0 both.0 both.1 heeded e.2))
 
-    says_why : (status : ℕ) → ServesOnDisk medium takes before after status → Says status
+    says_why : (status : Status) → ServesOnDisk medium takes before after status → Says status
     says_why status (is_unopened why run heeded said) =
         said_as before.err status (status_on_disk (opening_fault why)) said
         (by_opening why (λ IsOfOpening IsOfCall is. opening why run heeded is) heeded)

@@ -4,19 +4,24 @@ use Rattle.std.proofs.Common.{true, false, List, [], ◌++◌, arith}
 use Rattle.std.specs.Prelude.{Result, Ok, Err, IfErr, IfOk, IsTrue}
 use Rattle.std.proofs.lemmas.List.{append-nil}
 use Rattle.sector_disk.specs.declared.file.FileDisk.{FileDisk}
+use Rattle.sector_disk.specs.declared.memory.MemDisk.{MemDisk}
 use Rattle.sector_disk.specs.rules.Answered.{file_calls, unsynced_of}
 use Rattle.sector_disk.specs.rules.Calls.{synced_writes}
 use Rattle.sector_disk.specs.rules.File.{answers_of, file_medium}
 use Rattle.sector_disk.specs.rules.Known.{KnownFiles, KnownHandles}
 use Rattle.sector_disk.specs.rules.Medium.{IsAllSynced, spare}
+use Rattle.sector_disk.specs.rules.Memory.{memory_medium}
 use Rattle.sector_disk.specs.rules.Open.{IsOpenedAt}
 use Rattle.sector_disk.specs.rules.Rewrite.{AddsNothing}
 use Rattle.command_words.specs.declared.telling.Obstacle.TheVariants.{Unread}
 use Rattle.command_words.specs.rules.Printers.{PrinterState}
 use Rattle.command_words.specs.rules.Reports.{SaysLine, obstacle_words}
+use Rattle.command_words.specs.declared.status.Status.{Status}
+use Rattle.command_words.specs.declared.status.Status.TheVariants as exit
+use Rattle.disk_commands.specs.rules.LivePictures.{IsPictureAt}
 use Rattle.disk_commands.specs.rules.Openings.{IsWrittenBack, IsOpenedFor, SaysUnopened}
 use Rattle.disk_commands.specs.declared.on_disk.disk_file.Look.{Look}
-use Rattle.disk_commands.specs.rules.LookedFiles.{TellsFile, TellsLook}
+use Rattle.disk_commands.specs.rules.LookedFiles.{TellsLook, TellsOpened, TellsPicture}
 
 -- what is known of a path is known of the same path
 pub known_at : (known : List ℕ → Bool) (there path : List ℕ) → there ≡ path → IsTrue (known there)
@@ -60,7 +65,7 @@ module _ {F : Type 0} (handles : KnownHandles F) (files : KnownFiles F) (rewrite
 
   -- one that is
   pub opened_back : rewrites ≡ true → IsOpenedAt handles files path opened
-      → (result : Result (FileDisk F) ℕ) → IfOk result (λ disk. IsWrittenBack opened disk)
+      → (result : Result (FileDisk F) Status) → IfOk result (λ disk. IsWrittenBack opened disk)
       → IfOk result (λ disk. IsOpenedFor handles files rewrites path disk)
   opened_back is at (Ok disk) written =
       subst (λ b. IsOpenedFor handles files b path disk) (sym is) (opened, at, written)
@@ -68,10 +73,10 @@ module _ {F : Type 0} (handles : KnownHandles F) (files : KnownFiles F) (rewrite
 
   -- one that couldn't be written back
   pub unrewritten : rewrites ≡ true → IsOpenedAt handles files path opened
-      → (old new : PrinterState) (result : Result (FileDisk F) ℕ)
+      → (old new : PrinterState) (result : Result (FileDisk F) Status)
       → IfErr result (λ status. (left : FileDisk F)
       × ((file_medium opened).faults < (file_medium left).faults) × IsTrue (files.closed left))
-      → IfErr result (λ status. SaysLine (obstacle_words Unread) 4 old status new)
+      → IfErr result (λ status. SaysLine (obstacle_words Unread) exit.IoError old status new)
       → IfErr result (λ status. SaysUnopened handles files rewrites path old status new)
   unrewritten is at old new (Ok disk) failed said = tt
   unrewritten is at old new (Err status) failed said = inr (
@@ -87,13 +92,13 @@ module _ {F : Type 0} (handles : KnownHandles F) (files : KnownFiles F) (rewrite
   )
 
 -- what is said of a disk that was opened at a path, and of whose opening nothing was said
-pub tells_file : {F : Type 0} (handles : KnownHandles F) (files : KnownFiles F) (what : Look)
+pub tells_opened : {F : Type 0} (handles : KnownHandles F) (files : KnownFiles F) (what : Look)
     (path : List ℕ) (opened disk : FileDisk F) (out out' err between err' : PrinterState)
-    (status : ℕ) → IsOpenedAt handles files path opened → IsTrue (files.closed disk)
+    (status : Status) → IsOpenedAt handles files path opened → IsTrue (files.closed disk)
     → between ≡ err
     → TellsLook what (file_medium opened) (file_medium disk) out out' between err' status
-    → TellsFile handles files what path out out' err err' status
-tells_file handles files what path opened disk out out' err between err' status at closed quiet
+    → TellsOpened handles files what path out out' err err' status
+tells_opened handles files what path opened disk out out' err between err' status at closed quiet
     tells =
     inl (
       opened,
@@ -102,4 +107,20 @@ tells_file handles files what path opened disk out out' err between err' status 
       closed,
       subst (λ old. TellsLook what (file_medium opened) (file_medium disk) out out' old err' status)
           quiet tells,
+    )
+
+-- what is said of a picture that was had of a path, and of whose taking nothing was said
+pub tells_picture : {F : Type 0} (handles : KnownHandles F) (files : KnownFiles F) (what : Look)
+    (path : List ℕ) (picture after : MemDisk) (out out' err between err' : PrinterState)
+    (status : Status) → IsPictureAt handles files path (Ok picture) → between ≡ err
+    → TellsLook what (memory_medium picture) (memory_medium after) out out' between err' status
+    → TellsPicture handles files what path out out' err err' status
+tells_picture handles files what path picture after out out' err between err' status pictured quiet
+    tells =
+    inl (
+      picture,
+      after,
+      pictured,
+      subst (λ old. TellsLook what (memory_medium picture) (memory_medium after) out out' old err'
+          status) quiet tells,
     )

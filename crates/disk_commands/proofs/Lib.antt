@@ -16,18 +16,22 @@ pub mod AnsweredLemmas
 pub mod RefusalLemmas
 pub mod CauseLemmas
 pub mod ServedLemmas
-pub mod SevenLemmas
+pub mod UnwrittenLemmas
 pub mod TakingLemmas
 pub mod ToldLemmas
+pub mod TrapFrameLemmas
 pub mod FileLemmas
 mod SavedLemmas
+pub mod CopiedLemmas
 pub mod OpeningLemmas
 pub mod StatusLineLemmas
 pub mod StatusLemmas
 pub mod StatusFileLemmas
 pub mod MetricsLemmas
 mod FactLemmas
+mod LargestLemmas
 mod JsonLemmas
 mod OpenedLemmas
 pub mod FlawLemmas
 mod HistoryLemmas
+mod ExtractedLemmas

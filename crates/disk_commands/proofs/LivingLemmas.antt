@@ -19,18 +19,17 @@ use Rattle.worker.specs.declared.fault.WorkFault.{WorkFault}
 use Rattle.worker.specs.declared.recover_fault.RecoverFault.{RecoverFault}
 use Rattle.worker.specs.declared.recover_fault.RecoverFault.TheVariants as recover
 use Rattle.worker.specs.rules.DurableValues.{DurableValue, without_disk}
-use Rattle.worker.specs.rules.Batches.{BatchCarries}
-use Rattle.worker.specs.rules.DurableCalls.{SliceCarries, CheckpointCarries}
-use Rattle.worker.specs.rules.LifeWords.{Act, Slice, Batch, Checkpoint, fuel_of}
+use Rattle.worker.specs.rules.DurableCalls.{ActCarries, Answered, CallKeeps}
+use Rattle.worker.specs.rules.LifeWords.{Act, Checkpoint, fuel_of}
 use Rattle.worker.specs.rules.Outlets.{TakesEach, HeedsOutlet, SaysOutletFault}
 use Rattle.worker.proofs.OutletLemmas.{none_told, takes_both, heeds_on}
-use Rattle.worker.specs.rules.OneLife.{no_more, sliced, slice_failed, batched, batch_failed}
-use Rattle.worker.specs.rules.OneLife.{saved, saving_failed}
-use Rattle.worker.specs.rules.Outcomes.{outcome_after}
+use Rattle.worker.specs.rules.OneLife.{FailsBy, no_more, called, call_failed}
+use Rattle.worker.specs.rules.Outcomes.{outcome_after, outcome_of_act}
 use Rattle.disk_commands.specs.rules.BrokenLives.{BreaksOff, SlicesLead, steps_among}
 use Rattle.disk_commands.specs.rules.Hearings.{AsksUnless, MayRefuse}
 use Rattle.disk_commands.specs.rules.Paces.{round_of, IsPaced, last, more}
-use Rattle.disk_commands.specs.Livings.{Scene, scene, undone_after, steps_left, AreCalled}
+use Rattle.worker.specs.rules.Scenes.{Scene, scene}
+use Rattle.disk_commands.specs.Livings.{undone_after, steps_left, AreCalled}
 use Rattle.disk_commands.specs.Livings.{ActsLead}
 use Rattle.disk_commands.specs.Livings.{HasDoneOnce, HasFailedOnce}
 use Rattle.disk_commands.specs.Livings.{IsRested, IsRound, IsBrokenRound, LivesAtPace}
@@ -112,48 +111,26 @@ module _ {D S O : Type 0} (medium : D → Medium) (gives : Giving S) (takes : Ta
         now.Spent (leads.behind [] (Ok []) to.disk to.source to.outlet no_more)
         ∙ leads.says [] (Ok []) to.disk to.source to.outlet no_more
 
-  -- a slice
-  pub slice_leads : (fuel : ℕ) (w w' : DurableValue) (disk disk' : D) (source source' : S)
-      (outlet outlet' : O) (said : Now)
-      → SliceCarries gives takes w fuel (Ok said) w' (medium disk) (medium disk') source source'
-      outlet outlet'
-      → ActsLead medium gives takes (Slice fuel ∷ []) (scene w disk source outlet) said
-      (scene w' disk' source' outlet')
-  slice_leads fuel w w' disk disk' source source' outlet outlet' said carries = record {
-    behind = λ rest undone end s o done. sliced said carries done;
-    says = λ rest undone end s o done. refl;
-  }
+  -- a call, and one that fails, whatever was to be done after it
+  module _ (act : Act) (w w' : DurableValue) (disk disk' : D) (source source' : S)
+      (outlet outlet' : O) where
+    pub call_leads : (said : Answered act)
+        → CallKeeps medium gives takes act (scene w disk source outlet) (Ok said)
+        (scene w' disk' source' outlet')
+        → ActsLead medium gives takes (act ∷ []) (scene w disk source outlet)
+        (outcome_of_act act now.Spent said) (scene w' disk' source' outlet')
+    call_leads said keeps = record {
+      behind = λ rest undone end s o done. called said keeps done;
+      says = λ rest undone end s o done. refl;
+    }
 
-  -- a batch
-  pub batch_leads : (fuel most : ℕ) (w w' : DurableValue) (disk disk' : D) (source source' : S)
-      (outlet outlet' : O) (said : Now)
-      → BatchCarries gives takes w fuel most (Ok said) w' (medium disk) (medium disk') source
-      source' outlet outlet'
-      → ActsLead medium gives takes (Batch fuel most ∷ []) (scene w disk source outlet) said
-      (scene w' disk' source' outlet')
-  batch_leads fuel most w w' disk disk' source source' outlet outlet' said carries = record {
-    behind = λ rest undone end s o done. batched said carries done;
-    says = λ rest undone end s o done. refl;
-  }
-
-  -- one that fails, whatever was to be done after it
-  pub slice_fails : (fuel : ℕ) (w w' : DurableValue) (disk disk' : D) (source source' : S)
-      (outlet outlet' : O) (why : WorkFault)
-      → SliceCarries gives takes w fuel (Err why) w' (medium disk) (medium disk') source source'
-      outlet outlet'
-      → (rest : List Act) → AreCalled medium gives takes (Slice fuel ∷ rest)
-      (scene w disk source outlet) (Err (recover.Worker why)) disk' source' outlet'
-  slice_fails fuel w w' disk disk' source source' outlet outlet' why carries rest =
-      slice_failed carries
-
-  pub batch_fails : (fuel most : ℕ) (w w' : DurableValue) (disk disk' : D) (source source' : S)
-      (outlet outlet' : O) (why : WorkFault)
-      → BatchCarries gives takes w fuel most (Err why) w' (medium disk) (medium disk') source
-      source' outlet outlet'
-      → (rest : List Act) → AreCalled medium gives takes (Batch fuel most ∷ rest)
-      (scene w disk source outlet) (Err (recover.Worker why)) disk' source' outlet'
-  batch_fails fuel most w w' disk disk' source source' outlet outlet' why carries rest =
-      batch_failed carries
+    pub call_fails : (why : WorkFault)
+        → CallKeeps medium gives takes act (scene w disk source outlet) (Err why)
+        (scene w' disk' source' outlet')
+        → FailsBy act w why w' (medium disk) (medium disk')
+        → (rest : List Act) → AreCalled medium gives takes (act ∷ rest)
+        (scene w disk source outlet) (Err (recover.Worker why)) disk' source' outlet'
+    call_fails why keeps fails rest = call_failed keeps fails
 
   module _ (act : Act) (n : ℕ) (from here : Scene D S O)
       (leads : ActsLead medium gives takes (replicate n act) from now.Spent here) where
@@ -191,20 +168,29 @@ module _ {D S O : Type 0} (medium : D → Medium) (gives : Giving S) (takes : Ta
       (leads : ActsLead medium gives takes (replicate n act) from said
       (scene w disk source outlet)) where
     -- a checkpoint after so many of them
-    round_leads : CheckpointCarries w (Ok tt) w' (medium disk) (medium disk')
+    rest_keeps : (result : Result (Unit {0}) WorkFault)
+        → ActCarries Checkpoint [] w result w' (medium disk) (medium disk')
+        → CallKeeps medium gives takes Checkpoint (scene w disk source outlet) result
+        (scene w' disk' source outlet)
+    rest_keeps result carries = ([], record { asked = refl; released = refl }, carries, refl)
+
+    round_leads : ActCarries Checkpoint [] w (Ok tt) w' (medium disk) (medium disk')
         → ActsLead medium gives takes (round_of act n) from said (scene w' disk' source outlet)
     round_leads carries = record {
       behind = λ rest undone end s o done.
           called_as from undone end s o (replicate n act ++ (Checkpoint ∷ rest))
           (round_of act n ++ rest)
           (sym (append_assoc (replicate n act) (Checkpoint ∷ []) rest))
-          (leads.behind (Checkpoint ∷ rest) undone end s o (saved carries done));
+          (leads.behind (Checkpoint ∷ rest) undone end s o
+          (called tt (rest_keeps (Ok tt) carries) done));
       says = λ rest undone end s o done.
           says_as from undone end s o (replicate n act ++ (Checkpoint ∷ rest))
           (round_of act n ++ rest)
           (sym (append_assoc (replicate n act) (Checkpoint ∷ []) rest)) now.Spent
-          (leads.behind (Checkpoint ∷ rest) undone end s o (saved carries done))
-          ∙ leads.says (Checkpoint ∷ rest) undone end s o (saved carries done);
+          (leads.behind (Checkpoint ∷ rest) undone end s o
+          (called tt (rest_keeps (Ok tt) carries) done))
+          ∙ leads.says (Checkpoint ∷ rest) undone end s o
+          (called tt (rest_keeps (Ok tt) carries) done);
     }
 
     rested : (some : 1 ≤ n) (within : n ≤ every) (heard : AsksUnless gives ⊥ from.source source)
@@ -249,7 +235,7 @@ module _ {D S O : Type 0} (medium : D → Medium) (gives : Giving S) (takes : Ta
           heard;
       heeded = inl (taken, saving_is_other w (medium disk) (medium disk') fault rests.2);
       done = leads.behind (Checkpoint ∷ []) (Err (recover.Worker fault)) disk' source outlet
-          (saving_failed rests.0 rests.1);
+          (call_failed (rest_keeps (Err fault) rests.0) rests.1);
       broken = breaks fault;
     }
 

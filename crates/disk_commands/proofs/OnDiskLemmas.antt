@@ -1,15 +1,12 @@
 -- From the calls of a worker on its disk to what a run of it says.
 use Rattle.std.proofs.Common.{◌≡◌, ◌≢◌, inl, inr, ℕ, Bool, List, Option, None}
 use Rattle.std.proofs.Common.{Ok, Err}
-use Rattle.std.proofs.Common.{refl, sym, ◌∙◌, subst, ◌≤◌, lit≤}
-use Rattle.std.specs.Prelude.{Result, IfOk, true, false, if◌then◌else◌}
+use Rattle.std.proofs.Common.{refl, sym, ◌∙◌, subst}
+use Rattle.std.specs.Prelude.{Result, IfOk}
 use Rattle.std.proofs.lemmas.Result.{IfErr-weaker}
 use Rattle.sector_disk.specs.declared.fault.DiskFault.{DiskFault}
-use Rattle.sector_disk.specs.declared.fault.DiskFault.TheVariants as disk
 use Rattle.sector_disk.specs.rules.Medium.{Medium}
-use Rattle.record_replay.specs.declared.fault.ReplayFault.TheVariants as replay
 use Rattle.record_replay.specs.rules.Calls.{Taking, AnswersInOrder}
-use Rattle.record_replay.specs.declared.slices.fault.SliceFault.TheVariants as slice
 use Rattle.record_replay.specs.declared.slices.now.Now.{Now}
 use Rattle.record_replay.specs.declared.slices.now.Now.TheVariants as now
 use Rattle.worker.specs.declared.fault.WorkFault.{WorkFault}
@@ -18,28 +15,23 @@ use Rattle.worker.specs.declared.recover_fault.RecoverFault.{RecoverFault}
 use Rattle.worker.specs.declared.recover_fault.RecoverFault.TheVariants as recover
 use Rattle.worker.specs.rules.DurableValues.{DurableValue}
 use Rattle.worker.specs.rules.Outlets.{HeedsOutlet, IsOutletFault, SaysOutletFault}
-use Rattle.worker.specs.rules.RecoverFaults.{wants_memory}
 use Rattle.worker.specs.rules.Effects.{RecoversWorker}
 use Rattle.worker.specs.rules.Recoveries.{IsNoWorker, Recovers}
 use Rattle.worker.proofs.OutletLemmas.{heeds_on, each_taken}
 use Rattle.worker.specs.rules.OneLife.{recovered, opened, unopened}
 use Rattle.command_words.specs.declared.lines.fault.LineFault.{LineFault}
-use Rattle.command_words.specs.declared.lines.fault.LineFault.TheVariants as line
 use Rattle.command_words.specs.declared.lines.outside.Outside.{Outside}
 use Rattle.command_words.specs.Lines.Answers.{SourceState, source_state}
-use Rattle.command_words.specs.rules.Statuses.{status_of_line}
-use Rattle.command_words.specs.rules.Printers.{PrinterState, IsSaid, SaysText, TellsPerson}
-use Rattle.command_words.proofs.PrinterLemmas.{few_said}
+use Rattle.command_words.specs.rules.Printers.{PrinterState, IsSaid, TellsPerson}
+use Rattle.command_words.specs.declared.status.Status.{Status}
 use Rattle.disk_commands.specs.declared.on_disk.fault.OnDiskFault.{OnDiskFault}
-use Rattle.disk_commands.specs.declared.on_disk.fault.OnDiskFault.TheVariants as is_told
-use Rattle.disk_commands.specs.Livings.{scene, undone_after, AreCalled, LivesAtPace, HasGoneOn}
+use Rattle.worker.specs.rules.Scenes.{scene}
+use Rattle.disk_commands.specs.Livings.{undone_after, AreCalled, LivesAtPace, HasGoneOn}
 use Rattle.disk_commands.specs.Livings.{BreaksOffAt, SaysGone}
 use Rattle.disk_commands.specs.rules.BrokenLives.{BreaksOffFrom, steps_among}
 use Rattle.disk_commands.specs.rules.DiskStatuses.{IsReportedOnDisk, opening_fault}
 use Rattle.disk_commands.specs.rules.DiskStatuses.{status_on_disk}
-use Rattle.disk_commands.specs.rules.DiskStatuses.{status_of_disk, status_of_call}
-use Rattle.disk_commands.specs.rules.DiskStatuses.{status_of_recovery}
-use Rattle.disk_commands.specs.rules.LastWords.{ended_by, over_words}
+use Rattle.disk_commands.specs.rules.LastWords.{SaysOver, ended_by}
 use Rattle.worker.specs.rules.Outcomes.{outcome_after}
 use Rattle.disk_commands.specs.rules.ServedOnDisk.{DiskJob, act_given, source_behind, handing}
 use Rattle.disk_commands.specs.rules.ServedOnDisk.{IsOnlySynced, IsUnopenedRun, LivesOnDisk}
@@ -198,7 +190,7 @@ module _ {D O : Type 0} (medium : D → Medium) (takes : Taking O) where
 
   -- ---- what the status says
 
-  module _ (before : RunStart D O) (after : RunEnd D O) (status : ℕ) where
+  module _ (before : RunStart D O) (after : RunEnd D O) (status : Status) where
     abbrev Serves : Type 0
     Serves = ServesOnDisk medium takes before after status
 
@@ -223,15 +215,14 @@ module _ {D O : Type 0} (medium : D → Medium) (takes : Taking O) where
           after.failed taken result
 
       serves_over : (why : Now) → Goes (Ok why)
-          → SaysText (over_words before.err.on_terminal (ended_by why) taken) 0 between status
-          after.err → Serves
+          → SaysOver before.err.on_terminal (ended_by why) taken between status after.err → Serves
       unfolding lives_on
       serves_over why gone says =
           over why gone.0 between gone.1
           (lives_on before after w (Ok why) opening p gone.0 recovers heeds gone.4)
           (λ image leaves bytes config. gone.4.says) gone.2 tells
-          (subst (λ n. SaysText (over_words before.err.on_terminal (ended_by why) n) 0 between
-          status after.err) (sym gone.3) says)
+          (subst (λ n. SaysOver before.err.on_terminal (ended_by why) n between status
+          after.err) (sym gone.3) says)
 
       serves_broken : (told : OnDiskFault) → Goes (Err told)
           → IsSaid (status_on_disk told) between status after.err → Serves
@@ -248,61 +239,9 @@ module _ {D O : Type 0} (medium : D → Medium) (takes : Taking O) where
 
 -- the last words, seen by who reads along and by what was taken
 pub says_over : (heard heard' : Bool) (taken taken' : ℕ) (why : Now) (old : PrinterState)
-    (status : ℕ) (new : PrinterState) → heard ≡ heard' → taken ≡ taken'
-    → SaysText (over_words heard (ended_by why) taken) 0 old status new
-    → SaysText (over_words heard' (ended_by why) taken') 0 old status new
+    (status : Status) (new : PrinterState) → heard ≡ heard' → taken ≡ taken'
+    → SaysOver heard (ended_by why) taken old status new
+    → SaysOver heard' (ended_by why) taken' old status new
 says_over heard heard' taken taken' why old status new same as_many says =
-    subst (λ n. SaysText (over_words heard' (ended_by why) n) 0 old status new) as_many
-    (subst (λ h. SaysText (over_words h (ended_by why) taken) 0 old status new) same says)
-
--- ---- statuses
-
-few_of_call : (fault : WorkFault) → status_of_call fault ≤ 7
-few_of_call (work.Work slice.Source) = lit≤ tt
-few_of_call (work.Work slice.Outlet) = lit≤ tt
-few_of_call (work.Work slice.Memory) = lit≤ tt
-few_of_call (work.Work slice.Failed) = lit≤ tt
-few_of_call (work.Work (slice.Refused why)) = lit≤ tt
-few_of_call (work.Disk fault) = lit≤ tt
-few_of_call (work.Store fault) = lit≤ tt
-few_of_call (work.Upgrade fault) = lit≤ tt
-
-few_of_disk : (fault : DiskFault) → status_of_disk fault ≤ 7
-few_of_disk disk.Range = lit≤ tt
-few_of_disk disk.Io = lit≤ tt
-few_of_disk disk.Cut = lit≤ tt
-few_of_disk disk.Memory = lit≤ tt
-
-few_of_line : (fault : LineFault) → status_of_line fault ≤ 7
-few_of_line line.Read = lit≤ tt
-few_of_line line.Clock = lit≤ tt
-few_of_line line.Words = lit≤ tt
-few_of_line line.Memory = lit≤ tt
-few_of_line (line.Number given wanted) = lit≤ tt
-few_of_line line.Form = lit≤ tt
-
-few_by_want : (want : Bool) → (if want then 5 else 3) ≤ 7
-few_by_want true = lit≤ tt
-few_by_want false = lit≤ tt
-
-few_of_recovery : (fault : RecoverFault) → status_of_recovery fault ≤ 7
-few_of_recovery (recover.Worker fault) = few_of_call fault
-few_of_recovery (recover.Replay replay.Diverged) = lit≤ tt
-few_of_recovery (recover.Replay replay.Memory) = lit≤ tt
-few_of_recovery (recover.Replay replay.Outlet) = lit≤ tt
-few_of_recovery (recover.Layout why) = few_by_want (wants_memory (recover.Layout why))
-few_of_recovery (recover.Module why) = few_by_want (wants_memory (recover.Module why))
-few_of_recovery (recover.Snapshot why) = few_by_want (wants_memory (recover.Snapshot why))
-few_of_recovery (recover.ProcessImage why) = few_by_want (wants_memory (recover.ProcessImage why))
-few_of_recovery (recover.Journal why) = few_by_want (wants_memory (recover.Journal why))
-
-pub few_on_disk : (told : OnDiskFault) → status_on_disk told ≤ 7
-few_on_disk (is_told.Disk fault) = few_of_disk fault
-few_on_disk (is_told.Recovery fault) = few_of_recovery fault
-few_on_disk (is_told.Call fault) = few_of_call fault
-few_on_disk (is_told.Line fault) = few_of_line fault
-
-pub few_told : (told : OnDiskFault) (err : PrinterState) (status : ℕ) (err' : PrinterState)
-    → IsSaid (status_on_disk told) err status err' → status ≤ 7
-few_told told err status err' says =
-    few_said (status_on_disk told) err status err' (few_on_disk told) says
+    subst (λ n. SaysOver heard' (ended_by why) n old status new) as_many
+    (subst (λ h. SaysOver h (ended_by why) taken old status new) same says)

@@ -6,19 +6,25 @@ use Rattle.std.specs.declared.io.ErrorKind.{ErrorKind}
 use Rattle.std.specs.declared.io.ErrorKind.TheVariants.{OutOfMemory}
 use Rattle.sector_disk.specs.rules.Causes.{open_cause}
 use Rattle.sector_disk.specs.declared.open_fault.OpenFault.{OpenFault}
-use Rattle.sector_disk.specs.declared.open_fault.OpenFault.TheVariants.{Busy, Io}
+use Rattle.sector_disk.specs.declared.open_fault.OpenFault.TheVariants.{Io}
 use Rattle.wasi_abi.specs.rules.Answers.{newline}
 use Rattle.command_words.specs.rules.Printers.{PrinterState, SaysText}
 use Rattle.command_words.specs.rules.Reports.{SaysLine}
+use Rattle.command_words.specs.declared.status.Status.{Status}
+use Rattle.command_words.specs.declared.status.Status.TheVariants as exit
 use Rattle.disk_commands.specs.rules.Openings.{SaysUnread, open_words}
 use Rattle.disk_commands.specs.rules.SeedFiles.{seedless_words}
 
 -- an error of a file other than out of memory
 pub cause_told : (path : List ℕ) (kind : ErrorKind) (told : OpenFault) (old : PrinterState)
-    (status : ℕ) (new : PrinterState) → kind ≢ OutOfMemory → told ≡ Io (open_cause kind)
-    → SaysLine (open_words path told) 4 old status new → SaysUnread path kind old status new
+    (status : Status) (new : PrinterState) → kind ≢ OutOfMemory → told ≡ Io (open_cause kind)
+    → SaysLine (open_words path told) exit.IoError old status new
+    → SaysUnread path kind old status new
 cause_told path kind told old status new other is says =
-    inr (other, subst (λ fault. SaysLine (open_words path fault) 4 old status new) is says)
+    inr (
+      other,
+      subst (λ fault. SaysLine (open_words path fault) exit.IoError old status new) is says,
+    )
 
 -- a path and its cause, as they are written
 spelled_so : (path words : List ℕ) → path ++ (58 ∷ 32 ∷ (words ++ newline ∷ []))
@@ -31,30 +37,31 @@ pub cause_said : (path words told : List ℕ) (old new : PrinterState) → words
     → Appends old.contents new.contents
     (codes "failed K2 Io\n" ++ (path ++ (58 ∷ 32 ∷ (words ++ newline ∷ []))))
     → new.failed ≡ old.failed
-    → SaysText (codes "failed K2 Io\n" ++ path ++ codes ": " ++ told ++ newline ∷ []) 4 old 4 new
+    → SaysText (codes "failed K2 Io\n" ++ path ++ codes ": " ++ told ++ newline ∷ []) exit.IoError
+    old exit.IoError new
 cause_said path words told old new is bytes steady =
     let whole : List ℕ → List ℕ = λ t. codes "failed K2 Io\n" ++ t in
     let text = spelled_so path words
     ∙ ap (λ w. path ++ codes ": " ++ w ++ newline ∷ []) is in
     inl (refl, (subst (λ t. Appends old.contents new.contents (whole t)) text bytes, steady))
 
--- a disk that another host has, as it is written
-pub busy_said : (path : List ℕ) (old new : PrinterState)
+-- a disk that another host has, or that has changed, as it is written
+pub busy_said : (path why : List ℕ) (old new : PrinterState)
     → Appends old.contents new.contents
-    (codes "failed K5 Busy\n" ++ (path ++ codes ": another host is using this disk\n"))
-    → new.failed ≡ old.failed → SaysLine (open_words path Busy) 4 old 4 new
-busy_said path old new bytes steady =
-    let text : codes "failed K5 Busy\n" ++ (path ++ codes ": another host is using this disk\n")
-    ≡ open_words path Busy ++ newline ∷ [] =
-    ap (λ t. codes "failed K5 Busy\n" ++ t)
-    (sym (append_assoc path (codes ": another host is using this disk") (newline ∷ []))) in
+    (codes "failed K5 Busy\n" ++ (path ++ (why ++ newline ∷ [])))
+    → new.failed ≡ old.failed
+    → SaysLine (codes "failed K5 Busy\n" ++ path ++ why) exit.IoError old exit.IoError new
+busy_said path why old new bytes steady =
+    let text : codes "failed K5 Busy\n" ++ (path ++ (why ++ newline ∷ []))
+    ≡ (codes "failed K5 Busy\n" ++ path ++ why) ++ newline ∷ [] =
+    ap (λ t. codes "failed K5 Busy\n" ++ t) (sym (append_assoc path why (newline ∷ []))) in
     inl (refl, (subst (λ t. Appends old.contents new.contents t) text bytes, steady))
 
 -- a file that has no seed, as it is written
 pub seedless_said : (path : List ℕ) (old new : PrinterState)
     → Appends old.contents new.contents
     (codes "failed C2 Text\n" ++ (path ++ codes ": isn't 64 hexadecimal digits\n"))
-    → new.failed ≡ old.failed → SaysLine (seedless_words path) 3 old 3 new
+    → new.failed ≡ old.failed → SaysLine (seedless_words path) exit.Refused old exit.Refused new
 seedless_said path old new bytes steady =
     let text : codes "failed C2 Text\n" ++ (path ++ codes ": isn't 64 hexadecimal digits\n")
     ≡ seedless_words path ++ newline ∷ [] =

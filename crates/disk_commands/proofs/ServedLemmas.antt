@@ -12,6 +12,7 @@ use Rattle.command_words.specs.declared.lines.outside.Outside.{Outside}
 use Rattle.command_words.specs.rules.Commands.{RunMeaning}
 use Rattle.command_words.specs.rules.Printers.{PrinterState, read_along}
 use Rattle.command_words.specs.rules.Prints.{printing}
+use Rattle.command_words.specs.declared.status.Status.{Status}
 use Rattle.disk_commands.specs.declared.on_disk.running.RunJob.{RunJob}
 use Rattle.disk_commands.specs.declared.on_disk.upgrading.Upgraded.{Upgraded}
 use Rattle.disk_commands.specs.rules.Openings.{IsOpenedFor}
@@ -27,8 +28,9 @@ use Rattle.disk_commands.specs.rules.Upgradings.{UpgradesOnDisk, status_so_far}
 -- a worker that was served on the lines of a reader, of whose status file nothing was said
 pub job_served : {D O : Type 0} (medium : D → Medium) (takes : Taking O)
     (path metrics : Option (List ℕ)) (job : RunJob) (lines found : Option (List ℕ))
-    (failed broken : Bool) (outside : Outside) (disk disk' : D) (outlet outlet' : O) (err between err' : PrinterState)
-    (status : ℕ) → outside ≡ job.outside → found ≡ lines → broken ≡ failed → between ≡ err
+    (failed broken : Bool) (outside : Outside) (disk disk' : D) (outlet outlet' : O)
+    (err between err' : PrinterState) (status : Status) → outside ≡ job.outside → found ≡ lines
+    → broken ≡ failed → between ≡ err
     → ServesToEnd medium takes (run_start (disk_job (non_zero_u64_get job.pace.fuel)
     (non_zero_u64_get job.pace.every) (non_zero_u64_get job.pace.batch) found outside broken) disk
     outlet between) disk' outlet' err' status
@@ -49,7 +51,7 @@ job_served {D} {O} medium takes path metrics job lines found failed broken outsi
 module _ {F O : Type 0} (handles : KnownHandles F) (files : KnownFiles F) (takes : Taking O)
     (said : RunMeaning) (lines : Option (List ℕ)) (failed : Bool) where
   -- a run before which nothing was said
-  pub runs_quietly : (outlet outlet' : O) (err between err' : PrinterState) (status : ℕ)
+  pub runs_quietly : (outlet outlet' : O) (err between err' : PrinterState) (status : Status)
       → between ≡ err
       → RunsFile handles files takes said lines failed outlet outlet' between err' status
       → RunsFile handles files takes said lines failed outlet outlet' err err' status
@@ -58,14 +60,14 @@ module _ {F O : Type 0} (handles : KnownHandles F) (files : KnownFiles F) (takes
       quiet runs
 
   -- a run without a seed
-  pub runs_seedless : (outlet : O) (err err' : PrinterState) (status : ℕ)
+  pub runs_seedless : (outlet : O) (err err' : PrinterState) (status : Status)
       → SaysSeedless said.seed_file said.seed err status err'
       → RunsFile handles files takes said lines failed outlet outlet err err' status
   runs_seedless outlet err err' status says = seedless says refl
 
   -- a run of a disk that was opened, of whose opening nothing was said
   pub runs_opened : (disk disk' : FileDisk F) (outlet outlet' : O)
-      (err between err' : PrinterState) (status : ℕ) (job : RunJob) → IsJobOf said job
+      (err between err' : PrinterState) (status : Status) (job : RunJob) → IsJobOf said job
       → IsOpenedFor handles files said.rewrites said.disk disk → IsTrue (files.closed disk')
       → between ≡ read_along said.is_verbose err
       → RunsJob file_medium takes (named_status job) (named_metrics job)
@@ -86,7 +88,7 @@ module _ {F : Type 0} (handles : KnownHandles F) (files : KnownFiles F) (path : 
     (disk disk' : FileDisk F) where
   -- an upgrade of a disk that was opened there, of whose opening nothing was said
   pub upgrades_opened : (out told out' err opening between err' : PrinterState)
-      (status : ℕ) (upgraded : Result Upgraded ℕ) → IsOpenedAt handles files path disk
+      (status : Status) (upgraded : Result Upgraded Status) → IsOpenedAt handles files path disk
       → IsTrue (files.closed disk') → opening ≡ err
       → UpgradesOnDisk file_medium printing upgraded disk disk' out told opening between
       → HeedsRefusal printing out told between (status_so_far upgraded)

@@ -1,7 +1,7 @@
 -- What is printed of a disk, by its survey.
-use Rattle.std.proofs.Common.{◌≡◌, ◌⊎◌, inl, inr, ℕ, ◌<◌, ◌≤◌, refl, sym, ap}
+use Rattle.std.proofs.Common.{◌≡◌, ◌⊎◌, inl, inr, ◌<◌, refl, sym, ap}
 use Rattle.std.proofs.Common.{◌∙◌}
-use Rattle.std.proofs.Common.{subst, arith}
+use Rattle.std.proofs.Common.{subst}
 use Rattle.std.specs.Prelude.{Result, Ok, Err, if◌then◌else◌}
 use Rattle.sector_disk.specs.declared.fault.DiskFault.{DiskFault}
 use Rattle.sector_disk.specs.declared.fault.DiskFault.TheVariants as disk
@@ -16,25 +16,25 @@ use Rattle.worker.specs.rules.Recoveries.{SaysNothing}
 use Rattle.worker.proofs.WantLemmas.{wanted_early}
 use Rattle.worker.specs.rules.Surveys.{Surveys, EachSurvey, TellsSurvey, survey_of}
 use Rattle.command_words.specs.rules.Printers.{PrinterState, IsSaid}
-use Rattle.command_words.proofs.PrinterLemmas.{few_said, text_is_said}
+use Rattle.command_words.specs.declared.status.Status.{Status}
+use Rattle.command_words.specs.declared.status.Status.TheVariants as exit
 use Rattle.disk_commands.specs.declared.on_disk.fault.OnDiskFault.{OnDiskFault}
 use Rattle.disk_commands.specs.rules.DiskStatuses.{opening_fault, status_on_disk}
 use Rattle.disk_commands.specs.rules.Showings.{SaysSurvey, SaysResult, ShowsSurvey, ShowsDisk}
-use Rattle.disk_commands.specs.rules.Showings.{survey_line}
-use Rattle.disk_commands.proofs.OnDiskLemmas.{few_on_disk}
 
 -- ---- statuses
 
--- a layer that wants memory is told by 5
+-- a layer that wants memory is told by that
 status_of_want : (why : RecoverFault) → LayerWantsMemory why
-    → ◌≡◌ {A = ℕ} (if wants_memory why then 5 else 3) 5
+    → ◌≡◌ {A = Status} (if wants_memory why then exit.OutOfMemory else exit.Refused)
+    exit.OutOfMemory
 status_of_want why wants = rw (wanted_early why wants) refl
 
--- what says nothing of the disk is told by 4, where the disk has failed, or by 5
+-- what says nothing of the disk is told as a disk that has failed, or as want of memory
 status_of_nothing : (old new : Medium) (why : RecoverFault) → SaysNothing why
     → ((fault : DiskFault) → why ≡ recover.Worker (work.Disk fault) → old.faults < new.faults)
-    → ((status_on_disk (opening_fault why) ≡ 4) × (old.faults < new.faults))
-    ⊎ (status_on_disk (opening_fault why) ≡ 5)
+    → ((status_on_disk (opening_fault why) ≡ exit.IoError) × (old.faults < new.faults))
+    ⊎ (status_on_disk (opening_fault why) ≡ exit.OutOfMemory)
 status_of_nothing old new (recover.Worker (work.Disk disk.Memory)) says failed = inr refl
 status_of_nothing old new (recover.Worker (work.Disk disk.Range)) says failed =
     inl (refl, failed disk.Range refl)
@@ -57,15 +57,6 @@ status_of_nothing old new (recover.ProcessImage why) says failed =
 status_of_nothing old new (recover.Journal why) says failed =
     inr (status_of_want (recover.Journal why) says)
 
-says_known : (result : Result Survey RecoverFault) (out out' err err' : PrinterState) (status : ℕ)
-    → SaysResult result out out' err err' status → status ≤ 7
-says_known (Ok survey) out out' err err' status says =
-    few_said 0 out status out' (omega arith)
-    (text_is_said 0 out status out' (survey_line survey) says.0)
-says_known (Err why) out out' err err' status says =
-    few_said (status_on_disk (opening_fault why)) err status err'
-    (few_on_disk (opening_fault why)) says.0
-
 -- ---- what is shown of a worker
 
 -- Whatever the disk shows, the survey tells it. A fault of the disk comes of one that has failed.
@@ -84,7 +75,7 @@ module _ (old new : Medium) where
   fails_so result (inl failed_sync) fault is = failed_sync.faulted
   fails_so result (inr just_synced) fault is = just_synced.1 fault is
 
-module _ (old new : Medium) (out out' err err' : PrinterState) (status : ℕ) where
+module _ (old new : Medium) (out out' err err' : PrinterState) (status : Status) where
   pub shows_survey : (survey : Survey) → Surveys (Ok survey) old new
       → SaysSurvey survey out status out' → err' ≡ err → ShowsDisk old new out out' err err' status
   shows_survey survey surveys says stays =
@@ -103,12 +94,9 @@ module _ (old new : Medium) (out out' err err' : PrinterState) (status : ℕ) wh
     );
   }
 
-  pub shows_known : ShowsDisk old new out out' err err' status → status ≤ 7
-  shows_known shown = says_known shown.result out out' err err' status shown.says
-
   -- nothing but the status is told of what says nothing of the disk
-  says_nothing : (survey : Survey) (told : ℕ)
-      → ((told ≡ 4) × (old.faults < new.faults)) ⊎ (told ≡ 5)
+  says_nothing : (survey : Survey) (told : Status)
+      → ((told ≡ exit.IoError) × (old.faults < new.faults)) ⊎ (told ≡ exit.OutOfMemory)
       → IsSaid told err status err' → ShowsSurvey old new out out' err' status survey
   says_nothing survey told is (inr unsaid) = inr (inr (inr unsaid))
   says_nothing survey told (inl four) (inl said) = inr (inl (said.0 ∙ four.0, four.1))

@@ -8,10 +8,8 @@ use Rattle.record_replay.specs.declared.slices.now.Now.{Now}
 use Rattle.worker.specs.declared.recover_fault.RecoverFault.{RecoverFault}
 use Rattle.worker.specs.rules.DurableValues.{DurableValue}
 use Rattle.worker.specs.rules.LifeWords.{Act}
-use Rattle.worker.specs.rules.OneLife.{CallsInOrder, no_more, sliced, slice_failed, batched}
-use Rattle.worker.specs.rules.OneLife.{batch_failed, saved}
-use Rattle.worker.specs.rules.OneLife.{saving_failed, was_upgraded, upgrade_failed}
-use Rattle.worker.specs.rules.Outcomes.{outcome_after}
+use Rattle.worker.specs.rules.OneLife.{CallsInOrder, no_more, called, call_failed}
+use Rattle.worker.specs.rules.Outcomes.{outcome_after, outcome_of_act}
 use Rattle.process.specs.rules.Values.{ProcessValue}
 use Rattle.worker.specs.declared.fault.WorkFault.{WorkFault}
 use Rattle.disk_commands.specs.rules.BrokenLives.{BreaksOffFrom}
@@ -63,29 +61,12 @@ module _ {S T O : Type 0} (state_of : S → T) (gives : Giving T) (takes : Takin
         → CallsInOrder medium gives takes acts w disk (state_of s) o undone last (state_of t) p
     calls_so acts w disk last s t o p undone no_more = no_more
     calls_so acts w disk last s t o p undone
-        (sliced {fuel = fuel} {acts = others} {w' = w'} {disk' = mid} {source' = u} {outlet' = q}
-        said slice more) =
-        sliced said (slice.0, exchanged_so slice.0 s u o q slice.1, slice.2)
+        (called {acts = others} {w' = w'} {disk' = mid} {source' = u} {outlet' = q} said call
+        more) =
+        called said (call.0, exchanged_so call.0 s u o q call.1, call.2, call.3)
         (calls_so others w' mid last u t q p undone more)
-    calls_so acts w disk last s t o p undone (slice_failed slice) =
-        slice_failed (slice.0, exchanged_so slice.0 s t o p slice.1, slice.2)
-    calls_so acts w disk last s t o p undone
-        (batched {fuel = fuel} {most = most} {acts = others} {w' = w'} {disk' = mid} {source' = u}
-        {outlet' = q} said batch more) =
-        batched said (batch.0, exchanged_so batch.0 s u o q batch.1, batch.2)
-        (calls_so others w' mid last u t q p undone more)
-    calls_so acts w disk last s t o p undone (batch_failed batch) =
-        batch_failed (batch.0, exchanged_so batch.0 s t o p batch.1, batch.2)
-    calls_so acts w disk last s t o p undone
-        (saved {acts = others} {w' = w'} {disk' = mid} carries more) =
-        saved carries (calls_so others w' mid last s t o p undone more)
-    calls_so acts w disk last s t o p undone (saving_failed carries cause) =
-        saving_failed carries cause
-    calls_so acts w disk last s t o p undone
-        (was_upgraded {acts = others} {w' = w'} {disk' = mid} carries more) =
-        was_upgraded carries (calls_so others w' mid last s t o p undone more)
-    calls_so acts w disk last s t o p undone (upgrade_failed carries cause) =
-        upgrade_failed carries cause
+    calls_so acts w disk last s t o p undone (call_failed call fails) =
+        call_failed (call.0, exchanged_so call.0 s t o p call.1, call.2, call.3) fails
 
     -- they say the same
     pub outcome_so : (before : Now) (acts : List Act) (w : DurableValue) (disk last : D) (s t : S)
@@ -96,18 +77,7 @@ module _ {S T O : Type 0} (state_of : S → T) (gives : Giving T) (takes : Takin
     unfolding calls_so
     outcome_so before acts w disk last s t o p undone no_more = refl
     outcome_so before acts w disk last s t o p undone
-        (sliced {fuel = fuel} {acts = others} {w' = w'} {disk' = mid} {source' = u} {outlet' = q}
-        said slice more) = outcome_so said others w' mid last u t q p undone more
-    outcome_so before acts w disk last s t o p undone (slice_failed slice) = refl
-    outcome_so before acts w disk last s t o p undone
-        (batched {fuel = fuel} {most = most} {acts = others} {w' = w'} {disk' = mid} {source' = u}
-        {outlet' = q} said batch more) = outcome_so said others w' mid last u t q p undone more
-    outcome_so before acts w disk last s t o p undone (batch_failed batch) = refl
-    outcome_so before acts w disk last s t o p undone
-        (saved {acts = others} {w' = w'} {disk' = mid} carries more) =
-        outcome_so before others w' mid last s t o p undone more
-    outcome_so before acts w disk last s t o p undone (saving_failed carries cause) = refl
-    outcome_so before acts w disk last s t o p undone
-        (was_upgraded {acts = others} {w' = w'} {disk' = mid} carries more) =
-        outcome_so before others w' mid last s t o p undone more
-    outcome_so before acts w disk last s t o p undone (upgrade_failed carries cause) = refl
+        (called {act = act} {acts = others} {w' = w'} {disk' = mid} {source' = u} {outlet' = q}
+        said call more) =
+        outcome_so (outcome_of_act act before said) others w' mid last u t q p undone more
+    outcome_so before acts w disk last s t o p undone (call_failed call fails) = refl

@@ -10,8 +10,8 @@ use Rattle.wasm_syntax.specs.declared.value.Trap.TheVariants as trap
 use Rattle.process.specs.declared.stop.ProcessEnd.TheVariants as end
 use Rattle.command_words.specs.rules.Texts.{named_number}
 use Rattle.command_words.specs.rules.Texts.{trap_text}
-use Rattle.disk_commands.specs.declared.on_disk.sighting.State.{State}
-use Rattle.disk_commands.specs.declared.on_disk.sighting.State.TheVariants as state
+use Rattle.disk_commands.specs.declared.on_disk.sighting.WatchedState.{WatchedState}
+use Rattle.disk_commands.specs.declared.on_disk.sighting.WatchedState.TheVariants as state
 use Rattle.disk_commands.specs.StatusLines.{IsBehindNumber, IsBehindNumbers, IsExitWords}
 use Rattle.disk_commands.specs.StatusLines.{IsLeftWords, IsOnWords, IsStateWords, IsTrapWords}
 use Rattle.disk_commands.specs.StatusLines.{IsWatchWords}
@@ -166,7 +166,7 @@ in_order g p s q a r l t rest =
     ∙ append_assoc g p (32 ∷ (s ++ (q ++ 32 ∷ (a ++ (r ++ 32 ∷ (l ++ (t ++ 32 ∷ rest)))))))
 
 line_in_order : (generation steps answers lines : ℕ) (requests left : Option ℕ)
-    (is : State) → status_line generation steps answers lines requests left is
+    (is : WatchedState) → status_line generation steps answers lines requests left is
     ≡ codes "generation " ++ (decimal generation
     ++ 32 ∷ (codes "steps " ++ (decimal steps ++ 32 ∷ (codes "answers " ++ (decimal answers
     ++ 32 ∷ (codes "lines " ++ (decimal lines ++ 32 ∷ state_words requests left is)))))))
@@ -243,7 +243,7 @@ trap_short trap.UninitializedElement = lit≤ tt
 trap_short trap.IndirectCallTypeMismatch = lit≤ tt
 trap_short trap.StackExhausted = lit≤ tt
 
-words_short : (is : State) → HasCodeInRange is → length (watch_words is) ≤ 36
+words_short : (is : WatchedState) → HasCodeInRange is → length (watch_words is) ≤ 36
 words_short state.Running fits = lit≤ tt
 words_short state.Waiting fits = lit≤ tt
 words_short state.Parked fits = lit≤ tt
@@ -260,7 +260,7 @@ named_short : (name : List ℕ) (k n : ℕ) → length name ≤ k → n < 2 ^ 64
     → length (named_number name n) ≤ k + 20
 named_short name k n short small = both_short name (decimal n) k 20 short (digits_short n small)
 
-left_short : (left : Option ℕ) (is : State) → IfSome left (λ n. n < 2 ^ 64)
+left_short : (left : Option ℕ) (is : WatchedState) → IfSome left (λ n. n < 2 ^ 64)
     → HasCodeInRange is → length (left_words left is) ≤ 70
 left_short None is fit fits =
     let short = words_short is fits in omega (arith, short)
@@ -269,7 +269,7 @@ left_short (Some n) is fit fits =
     (both_short (named_number (codes "journal_left ") n) (codes " ") 33 1
     (named_short (codes "journal_left ") 13 n (lit≤ tt) fit) (lit≤ tt)) (words_short is fits)
 
-state_short : (requests left : Option ℕ) (is : State) → IfSome requests (λ n. n < 2 ^ 64)
+state_short : (requests left : Option ℕ) (is : WatchedState) → IfSome requests (λ n. n < 2 ^ 64)
     → IfSome left (λ n. n < 2 ^ 64) → HasCodeInRange is
     → length (state_words requests left is) ≤ 100
 state_short None left is fit room fits =

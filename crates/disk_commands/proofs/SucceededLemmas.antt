@@ -1,21 +1,22 @@
 -- What the status of a creation says, whose worker goes on from another one.
 use Rattle.std.proofs.Common.{◌≡◌, ◌⊎◌, ℕ, List, Ok, Err, ap, refl, inl, inr, ⊎_elim}
-use Rattle.std.proofs.Common.{arith, ◌∙◌}
+use Rattle.std.proofs.Common.{◌∙◌}
 use Rattle.wasi_abi.specs.rules.Configs.{Settings}
 use Rattle.sector_disk.specs.rules.Medium.{Medium}
-use Rattle.disk_layout.specs.declared.fault.LayoutFault.TheVariants as layout
 use Rattle.record_replay.specs.declared.slices.fault.Refusal.TheVariants as refusal
 use Rattle.record_replay.specs.declared.slices.fault.SliceFault.TheVariants as slice
-use Rattle.worker_store.specs.declared.fault.StoreFault.TheVariants as store
 use Rattle.worker.specs.declared.fault.WorkFault.{WorkFault}
 use Rattle.worker.specs.declared.fault.WorkFault.TheVariants as work
 use Rattle.worker.specs.declared.handover.Handover.{Handover}
 use Rattle.worker.specs.declared.upgrade_fault.UpgradeFault.TheVariants as upgrade
 use Rattle.worker.specs.rules.Successions.{IsCreatedFrom, IsNotCreatedFrom, IsRefusedBefore}
 use Rattle.worker.specs.rules.Successions.{SuccessionCalls, SuccessionKeeps}
+use Rattle.worker.proofs.RefusedCreations.{store_lacks_sectors}
 use Rattle.command_words.specs.rules.Preparations.{disk_sectors}
 use Rattle.command_words.specs.rules.Printers.{PrinterState, HeedsBoth, IsSaid}
 use Rattle.command_words.specs.rules.Reports.{SaysOnOutput}
+use Rattle.command_words.specs.declared.status.Status.{Status}
+use Rattle.command_words.specs.declared.status.Status.TheVariants as exit
 use Rattle.disk_commands.specs.rules.Creations.{HasDiskFailed}
 use Rattle.disk_commands.specs.rules.DiskStatuses.{status_of_call}
 use Rattle.disk_commands.specs.rules.SuccessorDisks.{IsSuccessorRefused, SucceedsOn}
@@ -24,12 +25,12 @@ use Rattle.disk_commands.specs.rules.SuccessorDisks.{handover_text}
 module _ {D : Type 0} (medium : D → Medium) (bytes : List ℕ) (config : Settings)
     (left : Handover) (old new : D) where
   -- a worker that was created, and what is said of it
-  pub successor_said : (out out' err err' : PrinterState) (status : ℕ)
+  pub successor_said : (out out' err err' : PrinterState) (status : Status)
       → SuccessionKeeps {E = WorkFault} bytes config left.legacy (Ok tt) (medium old) (medium new)
       → SuccessionCalls {T = Unit {0}} {E = WorkFault} bytes config (Ok tt) (medium old)
       (medium new) → IsCreatedFrom bytes config (medium new)
-      → SaysOnOutput (handover_text (disk_sectors config bytes) left) 0 out out' err err' status
-      → SucceedsOn medium bytes config left old new out out' err err' status
+      → SaysOnOutput (handover_text (disk_sectors config bytes) left) exit.Done out out' err err'
+      status → SucceedsOn medium bytes config left old new out out' err err' status
   successor_said out out' err err' status keeps calls created (inl says) =
       let is = says.0 in
       let printed = says.1 in
@@ -38,27 +39,27 @@ module _ {D : Type 0} (medium : D → Medium) (bytes : List ℕ) (config : Setti
         keeps = keeps;
         calls = calls;
         made = λ at. record { answered = refl; created = created; told = printed.0 };
-        refused = λ at. absurd (omega (arith, is, at));
-        failed = λ at. absurd (omega (arith, is, at));
-        starved = λ at. absurd (omega (arith, is, at));
-        unwritten = λ at. absurd (omega (arith, is, at));
+        refused = λ at. absurd cc;
+        failed = λ at. absurd cc;
+        starved = λ at. absurd cc;
+        unwritten = λ at. absurd cc;
         heeded = inl (
-          (λ seven. absurd (omega (arith, is, seven))),
+          (λ seven. absurd cc),
           printed.1,
           ap (λ (p : PrinterState). p.failed) says.2,
         );
         known = inl is;
       }
   successor_said out out' err err' status keeps calls created (inr says) =
-      let seven : status ≡ 7 = ⊎_elim (λ told. told.0) (λ told. told.0) says.1 in
+      let seven : status ≡ exit.Unwritten = ⊎_elim (λ told. told.0) (λ told. told.0) says.1 in
       record {
         answer = Ok tt;
         keeps = keeps;
         calls = calls;
-        made = λ at. absurd (omega (arith, seven, at));
-        refused = λ at. absurd (omega (arith, seven, at));
-        failed = λ at. absurd (omega (arith, seven, at));
-        starved = λ at. absurd (omega (arith, seven, at));
+        made = λ at. absurd cc;
+        refused = λ at. absurd cc;
+        failed = λ at. absurd cc;
+        starved = λ at. absurd cc;
         unwritten = λ at. says.1;
         heeded = inr (seven, inl says.0);
         known = inr (inr (inr (inr seven)));
@@ -66,14 +67,15 @@ module _ {D : Type 0} (medium : D → Medium) (bytes : List ℕ) (config : Setti
 
   -- why there is none
   abbrev Refused : WorkFault → Type 0
-  Refused why = (status_of_call why ≡ 3) × IsSuccessorRefused bytes config left.legacy (medium old)
-      × (new ≡ old)
+  Refused why = (status_of_call why ≡ exit.Refused)
+      × IsSuccessorRefused bytes config left.legacy (medium old) × (new ≡ old)
 
   abbrev Failed : WorkFault → Type 0
-  Failed why = (status_of_call why ≡ 4) × HasDiskFailed bytes config (medium old) (medium new)
+  Failed why = (status_of_call why ≡ exit.IoError)
+      × HasDiskFailed bytes config (medium old) (medium new)
 
   abbrev Starved : WorkFault → Type 0
-  Starved why = (status_of_call why ≡ 5) × (new ≡ old)
+  Starved why = (status_of_call why ≡ exit.OutOfMemory) × (new ≡ old)
 
   cause_of : (why : WorkFault)
       → IsNotCreatedFrom bytes config left.legacy (medium old) (medium new) why
@@ -86,25 +88,14 @@ module _ {D : Type 0} (medium : D → Medium) (bytes : List ℕ) (config : Setti
       inl (refl, inl (inl is.2), same tt)
   cause_of (work.Work (slice.Refused refusal.StepsSpent)) is same = absurd is
   cause_of (work.Disk fault) is same = inr (inl (refl, is))
-  cause_of (work.Store (store.Layout layout.TooSmall)) is same =
-      inl (refl, inl (inr is), same tt)
-  cause_of (work.Store (store.Layout layout.NotAWorker)) is same = absurd is
-  cause_of (work.Store (store.Layout layout.Version)) is same = absurd is
-  cause_of (work.Store (store.Layout (layout.Damaged why))) is same = absurd is
-  cause_of (work.Store (store.Layout layout.Memory)) is same = absurd is
-  cause_of (work.Store (store.Layout (layout.Disk fault))) is same = absurd is
-  cause_of (work.Store store.Full) is same = absurd is
-  cause_of (work.Store store.TooLong) is same = absurd is
-  cause_of (work.Store store.TooBig) is same = absurd is
-  cause_of (work.Store store.Damaged) is same = absurd is
-  cause_of (work.Store (store.Disk fault)) is same = absurd is
-  cause_of (work.Store store.Memory) is same = absurd is
-  cause_of (work.Store store.Failed) is same = absurd is
+  cause_of (work.Store fault) is same =
+      let few = store_lacks_sectors bytes config left.legacy (medium old) (medium new) fault is in
+      inl (refl, inl (inr few), same tt)
   cause_of (work.Upgrade upgrade.JournalTooSmall) is same = inl (refl, inr is, same tt)
   cause_of (work.Upgrade upgrade.NotCaughtUp) is same = absurd is
 
   -- and what is said of that
-  module _ (why : WorkFault) (out err err' : PrinterState) (status : ℕ)
+  module _ (why : WorkFault) (out err err' : PrinterState) (status : Status)
       (keeps : SuccessionKeeps bytes config left.legacy (Err why) (medium old) (medium new))
       (calls : SuccessionCalls {T = Unit {0}} bytes config (Err why) (medium old) (medium new))
       (heeded : HeedsBoth out out err err' status) where
@@ -116,11 +107,11 @@ module _ {D : Type 0} (medium : D → Medium) (bytes : List ℕ) (config : Setti
           answer = Err why;
           keeps = keeps;
           calls = calls;
-          made = λ other. absurd (omega (arith, is, other));
+          made = λ other. absurd cc;
           refused = λ this. (refused.1, refused.2, refl);
-          failed = λ other. absurd (omega (arith, is, other));
-          starved = λ other. absurd (omega (arith, is, other));
-          unwritten = λ other. absurd (omega (arith, is, other));
+          failed = λ other. absurd cc;
+          starved = λ other. absurd cc;
+          unwritten = λ other. absurd cc;
           heeded = heeded;
           known = inr (inl is);
         }
@@ -130,11 +121,11 @@ module _ {D : Type 0} (medium : D → Medium) (bytes : List ℕ) (config : Setti
           answer = Err why;
           keeps = keeps;
           calls = calls;
-          made = λ other. absurd (omega (arith, is, other));
-          refused = λ other. absurd (omega (arith, is, other));
+          made = λ other. absurd cc;
+          refused = λ other. absurd cc;
           failed = λ this. (failed.1, refl);
-          starved = λ other. absurd (omega (arith, is, other));
-          unwritten = λ other. absurd (omega (arith, is, other));
+          starved = λ other. absurd cc;
+          unwritten = λ other. absurd cc;
           heeded = heeded;
           known = inr (inr (inl is));
         }
@@ -144,11 +135,11 @@ module _ {D : Type 0} (medium : D → Medium) (bytes : List ℕ) (config : Setti
           answer = Err why;
           keeps = keeps;
           calls = calls;
-          made = λ other. absurd (omega (arith, is, other));
-          refused = λ other. absurd (omega (arith, is, other));
-          failed = λ other. absurd (omega (arith, is, other));
+          made = λ other. absurd cc;
+          refused = λ other. absurd cc;
+          failed = λ other. absurd cc;
           starved = λ this. (starved.1, refl);
-          unwritten = λ other. absurd (omega (arith, is, other));
+          unwritten = λ other. absurd cc;
           heeded = heeded;
           known = inr (inr (inr (inl is)));
         }
@@ -163,10 +154,10 @@ module _ {D : Type 0} (medium : D → Medium) (bytes : List ℕ) (config : Setti
           answer = Err why;
           keeps = keeps;
           calls = calls;
-          made = λ other. absurd (omega (arith, seven, other));
-          refused = λ other. absurd (omega (arith, seven, other));
-          failed = λ other. absurd (omega (arith, seven, other));
-          starved = λ other. absurd (omega (arith, seven, other));
+          made = λ other. absurd cc;
+          refused = λ other. absurd cc;
+          failed = λ other. absurd cc;
+          starved = λ other. absurd cc;
           unwritten = λ this. inr told;
           heeded = heeded;
           known = inr (inr (inr (inr seven)));

@@ -1,6 +1,6 @@
 -- A worker that succeeds another one, or why there is none.
 use Rattle.std.proofs.Common.{◌≡◌, ◌≢◌, ℕ, Bool, List, [], ◌∷◌, ◌++◌, Result, Ok, Err, subst}
-use Rattle.std.proofs.Common.{Option, Some, None, ap, refl, sym, ◌∙◌, append_assoc, inl, inr, arith}
+use Rattle.std.proofs.Common.{Option, Some, None, ap, refl, sym, ◌∙◌, append_assoc, inl, inr}
 use Rattle.std.specs.Fmt.{decimal}
 use Rattle.std.specs.Io.KnownBytes.{Appends, Keeps}
 use Rattle.std.specs.Prelude.{IsTrue, OnOk, codes}
@@ -21,6 +21,8 @@ use Rattle.worker.specs.rules.Successions.{IsNotCreatedFrom, ReadsLegacy}
 use Rattle.command_words.specs.declared.preparing.Prepared.{Prepared}
 use Rattle.command_words.specs.rules.Printers.{PrinterState, HeedsBoth, IsPrinted, IsSaid, SaysText}
 use Rattle.command_words.specs.rules.Reports.{SaysLine}
+use Rattle.command_words.specs.declared.status.Status.{Status}
+use Rattle.command_words.specs.declared.status.Status.TheVariants as exit
 use Rattle.command_words.proofs.LineLemmas.Printed.{prints_both}
 use Rattle.command_words.proofs.PrinterLemmas.{heeds_out, heeds_err}
 use Rattle.disk_commands.specs.declared.on_disk.fault.OnDiskFault.{OnDiskFault}
@@ -35,36 +37,37 @@ use Rattle.disk_commands.specs.SuccessorDisks.{IsTakenOver, SucceedsOpened, Take
 module _ (bytes : List ℕ) (config : Settings) (left : LegacyValue) (old new : Medium) where
   -- nothing is released in a creation
   none_released : (why : WorkFault) → IsNotCreatedFrom bytes config left old new why
-      → status_of_call why ≢ 7
-  none_released (work.Work slice.Source) refused = λ is. omega (arith, is)
+      → status_of_call why ≢ exit.Unwritten
+  none_released (work.Work slice.Source) refused = λ is. cc
   none_released (work.Work slice.Outlet) refused = λ is. refused
-  none_released (work.Work slice.Memory) refused = λ is. omega (arith, is)
-  none_released (work.Work slice.Failed) refused = λ is. omega (arith, is)
-  none_released (work.Work (slice.Refused why)) refused = λ is. omega (arith, is)
-  none_released (work.Disk fault) refused = λ is. omega (arith, is)
-  none_released (work.Store fault) refused = λ is. omega (arith, is)
-  none_released (work.Upgrade fault) refused = λ is. omega (arith, is)
+  none_released (work.Work slice.Memory) refused = λ is. cc
+  none_released (work.Work slice.Failed) refused = λ is. cc
+  none_released (work.Work (slice.Refused why)) refused = λ is. cc
+  none_released (work.Disk fault) refused = λ is. cc
+  none_released (work.Store fault) refused = λ is. cc
+  none_released (work.Upgrade fault) refused = λ is. cc
 
   pub unsucceeded_heeded : (why : WorkFault) → IsNotCreatedFrom bytes config left old new why
-      → (told : OnDiskFault) → told ≡ call_fault why → (out err : PrinterState) (status : ℕ)
+      → (told : OnDiskFault) → told ≡ call_fault why → (out err : PrinterState) (status : Status)
       (err' : PrinterState) → IsSaid (status_on_disk told) err status err'
       → HeedsBoth out out err err' status
   unsucceeded_heeded why refused told tells out err status err' says =
       heeds_err (status_of_call why) err status err' out (none_released why refused)
       (subst (λ (t : OnDiskFault). IsSaid (status_on_disk t) err status err') tells says)
 
-pub succeeded_heeded : (sectors requests lines dropped : ℕ) (out : PrinterState) (status : ℕ)
+pub succeeded_heeded : (sectors requests lines dropped : ℕ) (out : PrinterState) (status : Status)
     (out' err : PrinterState)
-    → SaysText (successor_text sectors requests lines dropped) 0 out status out'
+    → SaysText (successor_text sectors requests lines dropped) exit.Done out status out'
     → HeedsBoth out out' err err status
 succeeded_heeded sectors requests lines dropped out status out' err says =
-    heeds_out 0 out status out' (successor_text sectors requests lines dropped) err
-    (λ is. omega (arith, is)) says
+    heeds_out exit.Done out status out' (successor_text sectors requests lines dropped) err
+    (λ is. cc) says
 
 module _ {F : Type 0} (handles : KnownHandles F) (files : KnownFiles F) (from : List ℕ)
     (on_device : Bool) (path bytes : List ℕ) (prepared : Prepared) (old new : FileDisk F) where
   -- what was left was taken over, and a worker goes on from it
-  pub succeeds_taken : (left : Handover) (out out' err between err' : PrinterState) (status : ℕ)
+  pub succeeds_taken : (left : Handover) (out out' err between err' : PrinterState)
+      (status : Status)
       → IsTakenOver from prepared.config (file_medium old) (file_medium new) err (Ok left) between
       → MakesSuccessor handles files on_device path bytes prepared left out out' between err' status
       → SucceedsOpened handles files from on_device path bytes prepared old new out out' err err'
@@ -91,7 +94,7 @@ module _ {F : Type 0} (handles : KnownHandles F) (files : KnownFiles F) (from : 
       }
 
   -- nothing was left, or it doesn't fit
-  pub succeeds_none : (out err err' : PrinterState) (status : ℕ)
+  pub succeeds_none : (out err err' : PrinterState) (status : Status)
       → IsTakenOver from prepared.config (file_medium old) (file_medium new) err (Err status) err'
       → SucceedsOpened handles files from on_device path bytes prepared old new out out err err'
       status
@@ -114,7 +117,7 @@ module _ {F : Type 0} (handles : KnownHandles F) (files : KnownFiles F) (from : 
       }
 
   -- the old disk was opened, without a word
-  pub succeeds_on_opened : (out out' err between err' : PrinterState) (status : ℕ)
+  pub succeeds_on_opened : (out out' err between err' : PrinterState) (status : Status)
       → IsOpenedAt handles files from old → IsTrue (files.closed new) → between ≡ err
       → SucceedsOpened handles files from on_device path bytes prepared old new out out' between
       err' status
@@ -175,7 +178,7 @@ successor_printed (Ok done) a b c d e sectors requests lines dropped bytes stead
 pub restless_said : (path : List ℕ) (old new : PrinterState)
     → Appends old.contents new.contents (codes "failed N9 NotParked\n" ++ (path
     ++ codes ": isn't at rest: run it without requests, and keep its lines\n"))
-    → new.failed ≡ old.failed → SaysLine (restless_words path) 3 old 3 new
+    → new.failed ≡ old.failed → SaysLine (restless_words path) exit.Refused old exit.Refused new
 restless_said path old new bytes steady =
     let text : codes "failed N9 NotParked\n" ++ (path
     ++ codes ": isn't at rest: run it without requests, and keep its lines\n")
@@ -188,7 +191,8 @@ restless_said path old new bytes steady =
 pub crowded_said : (units bytes : ℕ) (old new : PrinterState) → units ≡ units_for bytes
     → Appends old.contents new.contents (codes "failed F4 NoRoom\nits files take "
     ++ (decimal units ++ (codes " units: --files " ++ (decimal units ++ codes "\n"))))
-    → new.failed ≡ old.failed → SaysLine (crowded_words (units_for bytes)) 3 old 3 new
+    → new.failed ≡ old.failed → SaysLine (crowded_words (units_for bytes)) exit.Refused old
+    exit.Refused new
 crowded_said units bytes old new is written steady =
     let text : codes "failed F4 NoRoom\nits files take "
     ++ (decimal units ++ (codes " units: --files " ++ (decimal units ++ codes "\n")))
@@ -196,5 +200,5 @@ crowded_said units bytes old new is written steady =
     ap (λ t. codes "failed F4 NoRoom\nits files take " ++ t)
     (sym (append_assoc (decimal units) (codes " units: --files " ++ decimal units)
     (newline ∷ []))) in
-    subst (λ n. SaysLine (crowded_words n) 3 old 3 new) is
+    subst (λ n. SaysLine (crowded_words n) exit.Refused old exit.Refused new) is
     (inl (refl, (subst (λ t. Appends old.contents new.contents t) text written, steady)))

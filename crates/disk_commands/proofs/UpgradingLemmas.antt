@@ -18,18 +18,20 @@ use Rattle.worker.specs.declared.fault.WorkFault.TheVariants as work
 use Rattle.worker.specs.declared.recover_fault.RecoverFault.{RecoverFault}
 use Rattle.worker.specs.declared.recover_fault.RecoverFault.TheVariants as recover
 use Rattle.worker.specs.rules.DurableValues.{DurableValue, without_disk}
-use Rattle.worker.specs.rules.DurableCalls.{SliceCarries, UpgradeCarries}
+use Rattle.worker.specs.rules.DurableCalls.{ActCarries, CallKeeps}
 use Rattle.worker.specs.rules.DurableFailures.{HasSliceCause}
 use Rattle.worker.specs.rules.LifeWords.{Slice, Upgrade}
 use Rattle.worker.specs.rules.Outlets.{TakesEach, HeedsOutlet, IsOutletFault, SaysOutletFault}
 use Rattle.worker.specs.rules.Effects.{RecoversWorker}
 use Rattle.worker.specs.rules.Upgrades.{UpgradeFails, HasUpgradeCause, IsNotCaughtUp}
-use Rattle.worker.specs.rules.OneLife.{no_more, slice_failed, was_upgraded, upgrade_failed}
+use Rattle.worker.specs.rules.OneLife.{no_more, called, call_failed}
 use Rattle.worker.specs.rules.OneLife.{recovered, opened}
 use Rattle.worker.specs.rules.Outcomes.{outcome_after}
 use Rattle.worker.proofs.OutletLemmas.{takes_both, heeds_on, each_taken}
 use Rattle.command_words.specs.rules.Printers.{PrinterState, IsSaid, TellsPerson}
-use Rattle.disk_commands.specs.Livings.{Scene, scene, AreCalled, HasDoneOnce}
+use Rattle.command_words.specs.declared.status.Status.{Status}
+use Rattle.worker.specs.rules.Scenes.{Scene, scene}
+use Rattle.disk_commands.specs.Livings.{AreCalled, HasDoneOnce}
 use Rattle.disk_commands.specs.ComingUp.{ComesUp, EndsRun, IsUpgradedFrom, UpgradesOpen}
 use Rattle.disk_commands.specs.declared.on_disk.fault.OnDiskFault.{OnDiskFault}
 use Rattle.disk_commands.specs.declared.on_disk.upgrading.Upgraded.{Upgraded}
@@ -44,7 +46,7 @@ use Rattle.disk_commands.specs.rules.Upgradings.{IsOfUpgrade, IsOfCaughtUp, undo
 use Rattle.disk_commands.proofs.BreakLemmas.{act_more, breaks_in_join}
 use Rattle.disk_commands.proofs.HearingLemmas.{asked_on, asked_so_far, slice_hears}
 use Rattle.disk_commands.proofs.LivingLemmas.{IsWithin, none_taken, within_more, acts_lead}
-use Rattle.disk_commands.proofs.LivingLemmas.{slice_leads, called_as, turned, slice_fewer}
+use Rattle.disk_commands.proofs.LivingLemmas.{call_leads, called_as, turned, slice_fewer}
 use Rattle.disk_commands.proofs.OnDiskLemmas.{opens_none}
 use Rattle.disk_commands.proofs.TakingLemmas.{IsOutletsCall, slice_takes}
 
@@ -107,8 +109,9 @@ module _ {D S O : Type 0} (medium : D → Medium) (gives : Giving S) (takes : Ta
   module _ (fuel : ℕ) (from here : Scene D S O) (so_far : HasComeTo fuel from here)
       (w' : DurableValue) (disk' : D) (source' : S) (outlet' : O) where
     abbrev Slicing : Result Now WorkFault → Type 0
-    Slicing result = SliceCarries gives takes here.worker fuel result w' (medium here.disk)
-        (medium disk') here.source source' here.outlet outlet'
+    Slicing result = CallKeeps medium gives takes (Slice fuel)
+        (scene here.worker here.disk here.source here.outlet) result
+        (scene w' disk' source' outlet')
 
     -- what a slice does, where it has no error
     abbrev Sliced : Now → Type 0
@@ -138,8 +141,8 @@ module _ {D S O : Type 0} (medium : D → Medium) (gives : Giving S) (takes : Ta
     slice_done said carries shows slices room = record {
       heard = slice_heard said shows slices;
       taken = slice_taken said shows slices;
-      leads = slice_leads medium gives takes fuel here.worker w' here.disk disk' here.source
-          source' here.outlet outlet' said carries;
+      leads = call_leads medium gives takes (Slice fuel) here.worker w' here.disk disk'
+          here.source source' here.outlet outlet' said carries;
       shows = shows;
       slices = slices;
       room = room;
@@ -172,8 +175,8 @@ module _ {D S O : Type 0} (medium : D → Medium) (gives : Giving S) (takes : Ta
       taken = takes_both takes from.outlet here.outlet outlet' so_many.taken
           (slice_taken said shows slices);
       leads = acts_lead medium gives takes (Slice fuel) so_far.count from here so_many.leads said
-          reached (slice_leads medium gives takes fuel here.worker w' here.disk disk' here.source
-          source' here.outlet outlet' said carries);
+          reached (call_leads medium gives takes (Slice fuel) here.worker w' here.disk disk'
+          here.source source' here.outlet outlet' said carries);
       unfailed = slices.has_not_failed;
       abreast = abreast;
     }
@@ -204,7 +207,7 @@ module _ {D S O : Type 0} (medium : D → Medium) (gives : Giving S) (takes : Ta
           (replicate (so_far.count + 1) (Slice fuel) ++ rest)
           (turned so_far.count (Slice fuel) rest)
           (so_many.leads.behind (Slice fuel ∷ rest) (Err (recover.Worker why)) disk' source'
-          outlet' (slice_failed carries));
+          outlet' (call_failed carries tt));
       caught_up = of_slice here.worker (medium here.disk) (medium disk') why cause;
     }
 
@@ -249,19 +252,26 @@ module _ {D S O : Type 0} (medium : D → Medium) (gives : Giving S) (takes : Ta
       caught_up = caught_up;
     }
 
+    keeps_so : (result : Result (Unit {0}) WorkFault)
+        → ActCarries Upgrade [] to.worker result w' (medium to.disk) (medium disk')
+        → CallKeeps medium gives takes Upgrade
+        (scene to.worker to.disk to.source to.outlet) result (scene w' disk' to.source to.outlet)
+    keeps_so result carries = ([], record { asked = refl; released = refl }, carries, refl)
+
     pub then_ended : (result : Result (Unit {0}) WorkFault) (outlet' : O) → outlet' ≡ to.outlet
-        → UpgradeCarries to.worker result w' (medium to.disk) (medium disk')
+        → ActCarries Upgrade [] to.worker result w' (medium to.disk) (medium disk')
         → IfErr result (UpgradeFails to.worker w'.process (medium to.disk) (medium disk'))
         → IfErr result (HasUpgradeCause to.worker (medium to.disk) (medium disk'))
         → IsUpgradedFrom medium gives takes from result disk' outlet'
     then_ended (Ok done) outlet' quiet carries fails cause =
-        rw quiet (ended (Ok done) (was_upgraded carries no_more) (λ told. told)
-        (run_on (Ok done) (was_upgraded carries no_more) refl) tt)
+        rw quiet (ended (Ok done) (called done (keeps_so (Ok done) carries) no_more) (λ told. told)
+        (run_on (Ok done) (called done (keeps_so (Ok done) carries) no_more) refl) tt)
     then_ended (Err why) outlet' quiet carries fails cause =
         let is : IsOfUpgrade why =
         of_upgrade to.worker (medium to.disk) (medium disk') why comes.unfailed cause in
-        rw quiet (ended (Err why) (upgrade_failed carries fails) (upgrade_is_other why is)
-        (inr (is, run_on (Err why) (upgrade_failed carries fails) refl))
+        rw quiet (ended (Err why) (call_failed (keeps_so (Err why) carries) fails)
+        (upgrade_is_other why is)
+        (inr (is, run_on (Err why) (call_failed (keeps_so (Err why) carries) fails) refl))
         (of_caught_up to.worker (medium to.disk) (medium disk') why (comes.abreast over) cause))
 
   pub not_come : (from to : Scene D S O) (why : WorkFault)
@@ -305,7 +315,8 @@ module _ {D O : Type 0} (medium : D → Medium) (takes : Taking O) where
 
   -- a worker that isn't opened
   pub none_upgraded : (why : RecoverFault) (told : OnDiskFault) (found last : D) (o q : O)
-      (err err' : PrinterState) (status : ℕ) → RecoversWorker medium takes (Err why) found last o q
+      (err err' : PrinterState) (status : Status)
+      → RecoversWorker medium takes (Err why) found last o q
       → HeedsOutlet takes (IsOutletFault why) o q → told ≡ opening_fault why
       → IsSaid (status_on_disk told) err status err'
       → UpgradesOnDisk medium takes (Err status) found last o q err err'
@@ -345,7 +356,7 @@ module _ {D O : Type 0} (medium : D → Medium) (takes : Taking O) where
       tells,
     )
 
-    not_upgraded : (why : WorkFault) (err' : PrinterState) (status : ℕ)
+    not_upgraded : (why : WorkFault) (err' : PrinterState) (status : Status)
         → IsUpgradedFrom medium from_list takes (scene w opening [] p) (Err why) last q
         → IsSaid (status_on_disk (call_fault why)) between status err'
         → UpgradesOnDisk medium takes (Err status) found last o q err err'
@@ -366,7 +377,7 @@ module _ {D O : Type 0} (medium : D → Medium) (takes : Taking O) where
   pub open_upgraded : (w : DurableValue) (found opening last : D) (o p q : O)
       (err err' : PrinterState)
       → RecoversWorker medium takes (Ok w) found opening o p → HeedsOutlet takes ⊥ o p
-      → (result : Result Upgraded ℕ)
+      → (result : Result Upgraded Status)
       → UpgradesOpen medium takes w result opening last p q err err'
       → UpgradesOnDisk medium takes result found last o q err err'
   open_upgraded w found opening last o p q err err' recovers heeds (Ok upgraded.Now) does =

@@ -13,7 +13,9 @@ use Rattle.worker.specs.rules.LifeWords.{Act, Slice}
 use Rattle.worker.specs.rules.Outlets.{TakesEach, HeedsOutlet, IsOutletFault, SaysOutletFault}
 use Rattle.worker.specs.rules.Outcomes.{outcome_after}
 use Rattle.command_words.specs.rules.Printers.{PrinterState, IsSaid, TellsPerson}
-use Rattle.disk_commands.specs.Livings.{Scene, scene, AreCalled, ActsLead}
+use Rattle.command_words.specs.declared.status.Status.{Status}
+use Rattle.worker.specs.rules.Scenes.{Scene, scene}
+use Rattle.disk_commands.specs.Livings.{AreCalled, ActsLead}
 use Rattle.disk_commands.specs.declared.on_disk.upgrading.Upgraded.{Upgraded}
 use Rattle.disk_commands.specs.declared.on_disk.upgrading.Upgraded.TheVariants as upgraded
 use Rattle.disk_commands.specs.rules.BrokenLives.{BreaksInSliceFrom, steps_among}
@@ -81,7 +83,7 @@ module _ {D S O : Type 0} (medium : D → Medium) (gives : Giving S) (takes : Ta
 -- and of version 1: it is upgraded, or a call of that has failed, and the status says why. Or it is
 -- of version 2, and nothing is done.
 abbrev pub UpgradesOpen : {D O : Type 0} → (D → Medium) → Taking O → DurableValue
-    → Result Upgraded ℕ → D → D → O → O → PrinterState → PrinterState → Type 0
+    → Result Upgraded Status → D → D → O → O → PrinterState → PrinterState → Type 0
 UpgradesOpen medium takes w (Ok upgraded.Now) disk disk' outlet outlet' err err' =
     (w.process.host.host.version ≡ One) × TellsPerson (recovered_line w) err err'
     × IsUpgradedFrom medium from_list takes (scene w disk [] outlet) (Ok tt) disk' outlet'

@@ -4,6 +4,7 @@ pub mod Members
 pub mod ComingUp
 pub mod StatusLines
 pub mod SuccessorDisks
+pub mod TrapFrames
 pub mod laws
 pub mod rules
 pub mod Watchings

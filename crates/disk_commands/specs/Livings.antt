@@ -13,38 +13,25 @@ use Rattle.worker.specs.declared.fault.WorkFault.{WorkFault}
 use Rattle.worker.specs.declared.recover_fault.RecoverFault.{RecoverFault}
 use Rattle.worker.specs.declared.recover_fault.RecoverFault.TheVariants as recover
 use Rattle.worker.specs.rules.DurableValues.{DurableValue, without_disk}
-use Rattle.worker.specs.rules.DurableCalls.{CheckpointCarries}
+use Rattle.worker.specs.rules.DurableCalls.{ActCarries}
 use Rattle.worker.specs.rules.Checkpoints.{CheckpointFails, HasCheckpointCause}
-use Rattle.worker.specs.rules.LifeWords.{Act, fuel_of}
+use Rattle.worker.specs.rules.LifeWords.{Act, Checkpoint, fuel_of}
 use Rattle.worker.specs.rules.Outlets.{TakesEach, HeedsOutlet, IsOutletFault}
 use Rattle.worker.specs.rules.Outlets.{SaysOutletFault}
 use Rattle.worker.specs.rules.OneLife.{CallsInOrder}
+use Rattle.worker.specs.rules.Scenes.{Scene, scene}
 use Rattle.command_words.specs.Lines.Answers.{SourceState}
-use Rattle.command_words.specs.rules.Printers.{PrinterState, IsSaid, SaysText, TellsPerson}
+use Rattle.command_words.specs.rules.Printers.{PrinterState, IsSaid, TellsPerson}
+use Rattle.command_words.specs.declared.status.Status.{Status}
 use Rattle.disk_commands.specs.declared.on_disk.fault.OnDiskFault.{OnDiskFault}
 use Rattle.disk_commands.specs.rules.DiskStatuses.{IsReportedOnDisk, status_on_disk}
 use Rattle.worker.specs.rules.Outcomes.{outcome_after}
 use Rattle.disk_commands.specs.rules.BrokenLives.{BreaksOffFrom, SlicesLead, steps_among}
 use Rattle.disk_commands.specs.rules.Hearings.{AsksUnless, MayRefuse}
-use Rattle.disk_commands.specs.rules.LastWords.{ended_by, over_words}
+use Rattle.disk_commands.specs.rules.LastWords.{SaysOver, ended_by}
 use Rattle.disk_commands.specs.rules.Paces.{round_of, IsPaced}
 use Rattle.disk_commands.specs.rules.ServedOnDisk.{DiskJob, act_given, source_behind, handing}
 use Rattle.disk_commands.specs.rules.ServedOnDisk.{RunStart, RunEnd, recovered_line}
-
--- a worker between two calls, with its disk, its source and its outlet
-pub record Scene (D S O : Type 0) : Type 0 where
-  pub worker : DurableValue
-  pub disk : D
-  pub source : S
-  pub outlet : O
-
-abbrev pub scene : {D S O : Type 0} → DurableValue → D → S → O → Scene D S O
-scene worker disk source outlet = record {
-  worker = worker;
-  disk = disk;
-  source = source;
-  outlet = outlet;
-}
 
 -- Slices lead from there to there by all of these steps, whichever process the worker showed.
 abbrev pub SlicesLeadOn : {D S O : Type 0} → Giving S → Taking O → Scene D S O → ℕ → Scene D S O
@@ -159,8 +146,9 @@ module _ {D S O : Type 0} (medium : D → Medium) (gives : Giving S) (takes : Ta
 abbrev pub IsRested : Now → Result Now WorkFault → DurableValue → DurableValue → Medium → Medium
     → Type 0
 IsRested why (Ok told) old new disk disk' = (told ≡ why)
-    × CheckpointCarries old (Ok tt) new disk disk' × (new.process ≡ old.process)
-IsRested why (Err fault) old new disk disk' = CheckpointCarries old (Err fault) new disk disk'
+    × ActCarries Checkpoint [] old (Ok tt) new disk disk' × (new.process ≡ old.process)
+IsRested why (Err fault) old new disk disk' =
+    ActCarries Checkpoint [] old (Err fault) new disk disk'
     × CheckpointFails old disk disk' fault × HasCheckpointCause old disk disk' fault
 
 -- An open worker has lived at its pace, on answers of a source that begins after the requests that
@@ -179,16 +167,16 @@ HasGoneOn medium takes given w disk disk' outlet outlet' failed' taken' (Err tol
 
 -- What is said of a worker that has gone on so, with so many requests: its last words, where a
 -- person may read along, or its error.
-abbrev pub SaysGone : Bool → ℕ → Result Now OnDiskFault → PrinterState → ℕ → PrinterState
+abbrev pub SaysGone : Bool → ℕ → Result Now OnDiskFault → PrinterState → Status → PrinterState
     → Type 0
 SaysGone heard taken (Ok why) old status new =
-    SaysText (over_words heard (ended_by why) taken) 0 old status new
+    SaysOver heard (ended_by why) taken old status new
 SaysGone heard taken (Err told) old status new = IsSaid (status_on_disk told) old status new
 
 -- A person is told that this worker is recovered, where one reads along. It is open on the disk,
 -- and goes on. Then that is said of it.
 abbrev pub RunsOpen : {D O : Type 0} → (D → Medium) → Taking O → DurableValue → RunStart D O
-    → RunEnd D O → ℕ → Type 0
+    → RunEnd D O → Status → Type 0
 RunsOpen medium takes w before after status =
     (between : PrinterState) × (gone : Result Now OnDiskFault) × (taken : ℕ)
     × TellsPerson (recovered_line w) before.err between

@@ -3,7 +3,7 @@ use Rattle.std.specs.Prelude.{◌≡◌, ◌⊎◌, ◌<◌, ◌^◌, ℕ, List,
 use Rattle.std.specs.Fmt.{decimal}
 use Rattle.wasm_syntax.specs.declared.value.Trap.{Trap}
 use Rattle.command_words.specs.rules.Texts.{trap_text}
-use Rattle.disk_commands.specs.declared.on_disk.sighting.State.{State}
+use Rattle.disk_commands.specs.declared.on_disk.sighting.WatchedState.{WatchedState}
 use Rattle.disk_commands.specs.rules.Watchings.{HasCodeInRange, left_words, state_words}
 use Rattle.disk_commands.specs.rules.Watchings.{watch_words}
 
@@ -40,12 +40,12 @@ IsTrapWords words = (why : Trap) × (words ≡ codes "trapped " ++ trap_text why
 
 -- those of one that runs on, waits or is over
 abbrev pub IsWatchWords : List ℕ → Type 0
-IsWatchWords words = (is : State) × HasCodeInRange is × (words ≡ watch_words is)
+IsWatchWords words = (is : WatchedState) × HasCodeInRange is × (words ≡ watch_words is)
 
 -- such words, or the number of its sectors that are left and such words
 pub record IsLeftWords (words : List ℕ) : Type 0 where
   pub left : Option ℕ
-  pub is : State
+  pub is : WatchedState
   pub left_fits : IfSome left (λ n. n < 2 ^ 64)
   pub code_fits : HasCodeInRange is
   pub spelled : words ≡ left_words left is
@@ -54,7 +54,7 @@ pub record IsLeftWords (words : List ℕ) : Type 0 where
 pub record IsStateWords (words : List ℕ) : Type 0 where
   pub requests : Option ℕ
   pub left : Option ℕ
-  pub is : State
+  pub is : WatchedState
   pub requests_fit : IfSome requests (λ n. n < 2 ^ 64)
   pub left_fits : IfSome left (λ n. n < 2 ^ 64)
   pub code_fits : HasCodeInRange is

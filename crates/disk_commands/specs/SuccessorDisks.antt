@@ -10,11 +10,12 @@ use Rattle.worker.specs.declared.leave_fault.LeaveFault.{LeaveFault}
 use Rattle.worker.specs.rules.Successions.{ReadsLegacy}
 use Rattle.command_words.specs.declared.preparing.Prepared.{Prepared}
 use Rattle.command_words.specs.rules.Printers.{PrinterState}
+use Rattle.command_words.specs.declared.status.Status.{Status}
 use Rattle.disk_commands.specs.rules.SuccessorDisks.{HasRoomFor, SaysRoomless, SaysUnleft}
 use Rattle.disk_commands.specs.rules.SuccessorDisks.{SucceedsAsLeft}
 
 -- what was left is handed on, or it is said what doesn't fit
-abbrev pub FitsOrSays : Settings → Handover → PrinterState → Result Handover ℕ → PrinterState
+abbrev pub FitsOrSays : Settings → Handover → PrinterState → Result Handover Status → PrinterState
     → Type 0
 FitsOrSays config left err (Ok taken) err' =
     (taken ≡ left) × HasRoomFor config left.legacy × (err' ≡ err)
@@ -22,14 +23,14 @@ FitsOrSays config left err (Err status) err' = SaysRoomless config left.legacy e
 
 -- the same of what was read, if it was
 abbrev pub TakesLegacy : List ℕ → Settings → Result Handover LeaveFault → PrinterState
-    → Result Handover ℕ → PrinterState → Type 0
+    → Result Handover Status → PrinterState → Type 0
 TakesLegacy path config (Ok left) err result err' = FitsOrSays config left err result err'
 TakesLegacy path config (Err why) err (Ok taken) err' = ⊥
 TakesLegacy path config (Err why) err (Err status) err' = SaysUnleft path why err status err'
 
 -- A disk is read, and what its worker leaves is taken over.
 pub record IsTakenOver (path : List ℕ) (config : Settings) (old new : Medium)
-    (err : PrinterState) (result : Result Handover ℕ) (err' : PrinterState) : Type 0 where
+    (err : PrinterState) (result : Result Handover Status) (err' : PrinterState) : Type 0 where
   pub left : Result Handover LeaveFault
   pub reads : ReadsLegacy left old new
   pub takes : TakesLegacy path config left err result err'
@@ -37,7 +38,7 @@ pub record IsTakenOver (path : List ℕ) (config : Settings) (old new : Medium)
 -- An old disk that was opened is read, and the new worker succeeds the one on it.
 pub record SucceedsOpened {F : Type 0} (handles : KnownHandles F) (files : KnownFiles F)
     (from : List ℕ) (on_device : Bool) (path bytes : List ℕ) (prepared : Prepared)
-    (old old' : FileDisk F) (out out' err err' : PrinterState) (status : ℕ) : Type 0 where
+    (old old' : FileDisk F) (out out' err err' : PrinterState) (status : Status) : Type 0 where
   pub left : Result Handover LeaveFault
   pub reads : ReadsLegacy left (file_medium old) (file_medium old')
   pub goes_on : SucceedsAsLeft handles files from on_device path bytes prepared left out out' err

@@ -1,3 +1,5 @@
 pub mod DiskCauses
 pub mod Answered
+pub mod Copied
 pub mod Released
+pub mod LargestDisks

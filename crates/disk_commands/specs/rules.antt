@@ -7,6 +7,7 @@ pub mod Paces
 pub mod Refusals
 pub mod SeedFiles
 pub mod LastWords
+pub mod TrapFrames
 pub mod Leavings
 pub mod Metrics
 pub mod MadeFiles
@@ -21,5 +22,8 @@ pub mod Facts
 pub mod DiskFacts
 pub mod Inspectings
 pub mod Histories
+pub mod LivePictures
 pub mod LookedFiles
 pub mod SavedCopies
+pub mod NewTrees
+pub mod ExtractedTrees

@@ -1,4 +1,4 @@
-//! Laws of answers and printed lines. The functions do nothing: what they ensure is the law.
+//! Laws of answers, printed lines and disks. The functions do nothing: what they ensure is the law.
 //!
 //! # Promises
 //!
@@ -6,7 +6,9 @@
 //!   fails is told (`SaysOnDisk`). Where a number, memory or an answer was wanting, each line of
 //!   the worker was told (`HasToldItsLines`). `laws::refusals_have_reasons`: why the source of a
 //!   run refuses a question. `laws::answers_come_from_the_lines`: what it answers, and when it has
-//!   none yet.
+//!   none yet. `laws::largest_disks_are_pictured`: no worker's disk is larger than a picture.
+//!   `laws::copies_stand_for_the_same`: a copy that is finished stands for the worker of its disk,
+//!   and one that is cut off stands for it or has none.
 //!
 //! # Choices
 //!
@@ -18,12 +20,21 @@ ghost use Rattle.worker.specs.laws.Uncut.{LivesGoOnUncut};
 ghost use Rattle.command_words.specs.laws.Printed.{TakenLinesArePrinted};
 ghost use Rattle.disk_commands.specs.laws.Answered.{AnswersComeFromTheLines};
 ghost use Rattle.disk_commands.specs.laws.Answered.{NoneIsLeftAtTheEnd};
+ghost use Rattle.disk_commands.specs.laws.Copied.{CopiesStandForTheSame};
+ghost use Rattle.disk_commands.specs.laws.Copied.{SavedFilesStandForTheSame};
 ghost use Rattle.disk_commands.specs.laws.DiskCauses.{RefusalsHaveReasons, StatusesHaveCauses};
-ghost use Rattle.disk_commands.specs.laws.Released.{ReleasedLinesArePrinted, SevenIsAFailedWrite};
+ghost use Rattle.disk_commands.specs.laws.LargestDisks.{LargestDisksArePictured};
+ghost use Rattle.disk_commands.specs.laws.Released.{ReleasedLinesArePrinted, UnwrittenIsAFailedWrite};
 ghost use Rattle.disk_commands.specs.rules.ServedOnDisk.{handing};
 
 use record_replay::Outlet;
 use sector_disk::Disk;
+
+/// A picture has room for the disk of each worker whose settings and module are within their
+/// limits.
+pub fn largest_disks_are_pictured()
+    ensures { LargestDisksArePictured }
+{}
 
 /// An outlet that prints, and took each of some lines, has printed them, and nothing else.
 pub fn taken_lines_are_printed()
@@ -31,10 +42,10 @@ pub fn taken_lines_are_printed()
     ensures released { ReleasedLinesArePrinted }
 {}
 
-/// A run whose lines are printed answers 7 where a write of the output has failed, and only where
-/// one of the output or of the error output has.
-pub fn seven_is_a_failed_write()
-    ensures { SevenIsAFailedWrite }
+/// A run whose lines are printed answers `Unwritten` where a write of the output has failed, and
+/// only where one of the output or of the error output has.
+pub fn unwritten_is_a_failed_write()
+    ensures { UnwrittenIsAFailedWrite }
 {}
 
 /// All that `serve` does of a worker that it has opened is one life. Where the power isn't cut
@@ -64,4 +75,12 @@ pub fn refusals_have_reasons()
 /// was wanting, each line that the process had written by then was told.
 pub fn statuses_have_causes<D: Disk, O: Outlet>()
     ensures { StatusesHaveCauses D.medium O.takes }
+{}
+
+/// A copy of a disk that stands for a worker, as `save_on` makes it on zeros, stands for the same
+/// once the status is `Done`. What a cut leaves of it before that has no worker, or stands for the
+/// same. So it is with the file that `save_file` makes of a disk, or of a picture of it.
+pub fn copies_stand_for_the_same<D: Disk, C: Disk, F>()
+    ensures copies { CopiesStandForTheSame D.medium C.medium }
+    ensures files { SavedFilesStandForTheSame D.medium F }
 {}

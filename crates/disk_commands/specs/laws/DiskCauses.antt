@@ -26,11 +26,13 @@ use Rattle.command_words.specs.declared.lines.fault.LineFault.TheVariants as lin
 use Rattle.command_words.specs.Lines.Answers.{SourceState, IsRefusedFor}
 use Rattle.command_words.specs.rules.Outside.{requests_in, words_of}
 use Rattle.command_words.specs.rules.Requests.{GiveUpTo, BeginsWithOther, BeginsWithLater}
-use Rattle.command_words.specs.rules.Printers.{PrinterState, IsPrinted, TellsPerson}
+use Rattle.command_words.specs.rules.Printers.{PrinterState, TellsPerson}
 use Rattle.command_words.specs.rules.Seeds.{words_for}
+use Rattle.command_words.specs.declared.status.Status.{Status}
+use Rattle.command_words.specs.declared.status.Status.TheVariants as exit
 use Rattle.disk_commands.specs.rules.BrokenLives.{BreaksOff, LeavesNoLine, TellsItsLines}
 use Rattle.disk_commands.specs.rules.BrokenLives.{steps_among}
-use Rattle.disk_commands.specs.rules.LastWords.{ended_by, over_words}
+use Rattle.disk_commands.specs.rules.LastWords.{PrintsOver, ended_by}
 use Rattle.disk_commands.specs.rules.ServedOnDisk.{RunStart, RunEnd, act_given, source_behind}
 use Rattle.disk_commands.specs.rules.ServedOnDisk.{handing}
 use Rattle.disk_commands.specs.rules.ServedOnDisk.{IsUnopenedRun, LivesOnDisk, HasOutcome}
@@ -150,8 +152,7 @@ module _ {D O : Type 0} (medium : D → Medium) (takes : Taking O) (before : Run
     pub outcome : HasOutcome lives now
     pub heeded : source'.failed ≡ after.failed
     pub told : TellsPerson (recovered_line lives.worker) before.err between
-    pub printed : IsPrinted between after.err
-        (over_words before.err.on_terminal (ended_by now) source'.taken)
+    pub printed : PrintsOver before.err.on_terminal (ended_by now) source'.taken between after.err
 
   -- The recovery has failed by a fault of this sort, or a call of the life by one of that sort.
   -- Where that is the source's, it isn't one of a request line. Where no line can wait, each line
@@ -180,29 +181,32 @@ module _ {D O : Type 0} (medium : D → Medium) (takes : Taking O) (before : Run
     pub led : AnswersInOrder handing (source_behind before.given lives.worker) asks source'
     pub behind : Holds (source_behind before.given lives.worker) asks after.failed
 
-  -- 0: it is over. 3: the disk shows no worker that can go on, or a number is at its end. 4: the
-  -- disk or the source has failed. 5: memory was refused. 6: the next line is refused. 7: a line of
-  -- the worker was refused, or what is said couldn't be written. A reader that fails is told by 4,
-  -- or by 5 where it wants memory. That isn't so where it can't be printed, nor where a batch then
-  -- finds its journal full (3). Of a worker that was recovered, each line was told where the source
-  -- has failed (4, 5, 6), and without batches where a number is at its end (3) or memory was
-  -- refused (5).
-  pub record SaysOnDisk (status : ℕ) : Type 0 where
-    pub over : status ≡ 0 → IsOverOnDisk
-    pub stuck : status ≡ 3 → FailsOnDisk IsStuck IsAtItsEnd
-    pub unanswered : status ≡ 4
+  -- `Done`: it is over. `Refused`: the disk shows no worker that can go on, or a number is at its
+  -- end. `IoError`: the disk or the source has failed. `OutOfMemory`: memory was refused.
+  -- `BadLine`: the next line is refused. `Unwritten`: a line of the worker was refused, or what is
+  -- said couldn't be written. A reader that fails is told by `IoError`, or by `OutOfMemory` where
+  -- it wants memory. That isn't so where it can't be printed, nor where a batch then finds its
+  -- journal full (`Refused`). Of a worker that was recovered, each line was told where the source
+  -- has failed (`IoError`, `OutOfMemory`, `BadLine`), and without batches where a number is at its
+  -- end (`Refused`) or memory was refused (`OutOfMemory`).
+  pub record SaysOnDisk (status : Status) : Type 0 where
+    pub over : status ≡ exit.Done → IsOverOnDisk
+    pub stuck : status ≡ exit.Refused → FailsOnDisk IsStuck IsAtItsEnd
+    pub unanswered : status ≡ exit.IoError
         → FailsOnDisk IsFailing IsUnanswering ⊎ AsksInVain LacksAnswerAt
-    pub starved : status ≡ 5
+    pub starved : status ≡ exit.OutOfMemory
         → FailsOnDisk IsWanting (λ why. why ≡ work.Work slice.Memory) ⊎ AsksInVain LacksMemoryAt
-    pub bad_line : status ≡ 6 → AsksInVain MeetsBadLineAt
-    pub unprinted : status ≡ 7
+    pub bad_line : status ≡ exit.BadLine → AsksInVain MeetsBadLineAt
+    pub unprinted : status ≡ exit.Unwritten
         → FailsOnDisk IsOutletFault (λ why. why ≡ work.Work slice.Outlet)
         ⊎ (after.err.failed ≡ true)
-    pub heeded : (after.failed ≡ before.given.failed) ⊎ (status ≡ 4) ⊎ (status ≡ 5) ⊎ (status ≡ 7)
-        ⊎ ((status ≡ 3) × (2 ≤ before.given.batch))
-    pub known : (status ≡ 0) ⊎ ((3 ≤ status) × (status ≤ 7))
+    pub heeded : (after.failed ≡ before.given.failed) ⊎ (status ≡ exit.IoError)
+        ⊎ (status ≡ exit.OutOfMemory) ⊎ (status ≡ exit.Unwritten)
+        ⊎ ((status ≡ exit.Refused) × (2 ≤ before.given.batch))
+    pub known : (status ≢ exit.Different) × (status ≢ exit.Usage)
 
 -- so it is of each run
 abbrev pub StatusesHaveCauses : {D O : Type 0} → (D → Medium) → Taking O → Type 0
-StatusesHaveCauses {D} {O} medium takes = (before : RunStart D O) (after : RunEnd D O) (status : ℕ)
+StatusesHaveCauses {D} {O} medium takes =
+    (before : RunStart D O) (after : RunEnd D O) (status : Status)
     → ServesOnDisk medium takes before after status → SaysOnDisk medium takes before after status

@@ -7,6 +7,8 @@ use Rattle.worker.specs.rules.LifeWords.{Release}
 use Rattle.command_words.specs.rules.Printers.{PrinterState, IsPrinted, HasOneFailed}
 use Rattle.command_words.specs.rules.Prints.{printing}
 use Rattle.command_words.specs.rules.Texts.{printed}
+use Rattle.command_words.specs.declared.status.Status.{Status}
+use Rattle.command_words.specs.declared.status.Status.TheVariants as exit
 use Rattle.disk_commands.specs.rules.Refusals.{HeedsRefusal}
 
 -- the lines that were released in it, as they are printed
@@ -23,8 +25,9 @@ ReleasedLinesArePrinted = (exchanges : List Exchange) (old new : PrinterState)
 -- ---- a write that fails
 
 -- No write of the output had failed when a run began that prints its lines there. Then its status
--- is 7 where one has failed, and only where one of the output or of the error output has.
-abbrev pub SevenIsAFailedWrite : Type 0
-SevenIsAFailedWrite = (out out' err' : PrinterState) (status : ℕ) → out.failed ≡ false
+-- is `Unwritten` where one has failed, and only where one of the output or of the error output has.
+abbrev pub UnwrittenIsAFailedWrite : Type 0
+UnwrittenIsAFailedWrite = (out out' err' : PrinterState) (status : Status) → out.failed ≡ false
     → HeedsRefusal printing out out' err' status
-    → (out'.failed ≡ true → status ≡ 7) × (status ≡ 7 → HasOneFailed out' err')
+    → (out'.failed ≡ true → status ≡ exit.Unwritten)
+    × (status ≡ exit.Unwritten → HasOneFailed out' err')

@@ -15,6 +15,8 @@ use Rattle.command_words.specs.declared.telling.Obstacle.TheVariants.{Unwritten}
 use Rattle.command_words.specs.rules.Printers.{PrinterState, HeedsBoth}
 use Rattle.command_words.specs.rules.Reports.{SaysLine, obstacle_words}
 use Rattle.command_words.specs.rules.Preparations.{disk_sectors}
+use Rattle.command_words.specs.declared.status.Status.{Status}
+use Rattle.command_words.specs.declared.status.Status.TheVariants as exit
 
 -- the line that a creation prints
 abbrev pub created_line : ℕ → List ℕ
@@ -40,23 +42,27 @@ abbrev pub HasDiskFailed : List ℕ → Settings → Medium → Medium → Type 
 HasDiskFailed bytes config old new = (spare old ≡ 0)
     ⊎ (old.room < most_unsynced (places_for config bytes)) ⊎ (old.faults < new.faults)
 
--- 0: the worker is created. 3: it is refused. 4: the disk failed. 5: there is no memory. A refused
--- worker and out of memory leave the disk as it was. 7: a write of a printer has failed, and
--- whether the worker was created isn't known. Whatever the status, nothing that was promised of a
--- disk without a worker is lost, and a cut at any moment leaves no worker on it, or this one. The
--- disk takes the calls of a creation and no other, in their order: the super comes last. Where the
--- output can't be written, that is told on the error output.
+-- `Done`: the worker is created. `Refused`: it is refused. `IoError`: the disk failed.
+-- `OutOfMemory`: there is no memory. A refused worker and out of memory leave the disk as it was.
+-- `Unwritten`: a write of a printer has failed, and whether the worker was created isn't known.
+-- Whatever the status, nothing that was promised of a disk without a worker is lost, and a cut at
+-- any moment leaves no worker on it, or this one. The disk takes the calls of a creation and no
+-- other, in their order: the super comes last. Where the output can't be written, that is told on
+-- the error output.
 pub record CreatesOn {D : Type 0} (medium : D → Medium) (bytes : List ℕ) (config : Settings)
-    (old new : D) (out out' err err' : PrinterState) (status : ℕ) : Type 0 where
+    (old new : D) (out out' err err' : PrinterState) (status : Status) : Type 0 where
   pub answer : Result DurableValue WorkFault
   pub keeps : CreationKeeps bytes config answer (medium old) (medium new)
   pub calls : CreationCalls bytes config answer (medium old) (medium new)
-  pub made : status ≡ 0
+  pub made : status ≡ exit.Done
       → IsCreatedAndPrinted bytes config answer (medium new) out.contents out'.contents
-  pub refused : status ≡ 3 → IsCreationRefused bytes config (medium old) × (new ≡ old)
+  pub refused : status ≡ exit.Refused → IsCreationRefused bytes config (medium old) × (new ≡ old)
       × (out' ≡ out)
-  pub failed : status ≡ 4 → HasDiskFailed bytes config (medium old) (medium new) × (out' ≡ out)
-  pub starved : status ≡ 5 → (new ≡ old) × (out' ≡ out)
-  pub unwritten : status ≡ 7 → SaysLine (obstacle_words Unwritten) 7 err status err'
+  pub failed : status ≡ exit.IoError → HasDiskFailed bytes config (medium old) (medium new)
+      × (out' ≡ out)
+  pub starved : status ≡ exit.OutOfMemory → (new ≡ old) × (out' ≡ out)
+  pub unwritten : status ≡ exit.Unwritten
+      → SaysLine (obstacle_words Unwritten) exit.Unwritten err status err'
   pub heeded : HeedsBoth out out' err err' status
-  pub known : (status ≡ 0) ⊎ (status ≡ 3) ⊎ (status ≡ 4) ⊎ (status ≡ 5) ⊎ (status ≡ 7)
+  pub known : (status ≡ exit.Done) ⊎ (status ≡ exit.Refused) ⊎ (status ≡ exit.IoError)
+      ⊎ (status ≡ exit.OutOfMemory) ⊎ (status ≡ exit.Unwritten)

@@ -1,6 +1,6 @@
 -- What is told of a worker on its disk that isn't opened, or that fails, and the exit status that
 -- says it (this project's own).
-use Rattle.std.specs.Prelude.{◌≡◌, ◌⊎◌, ℕ, Option, Some, None, if◌then◌else◌}
+use Rattle.std.specs.Prelude.{◌≡◌, ◌⊎◌, Option, Some, None, if◌then◌else◌}
 use Rattle.sector_disk.specs.declared.fault.DiskFault.{DiskFault}
 use Rattle.sector_disk.specs.declared.fault.DiskFault.TheVariants as disk
 use Rattle.record_replay.specs.declared.fault.ReplayFault.TheVariants as replay
@@ -12,6 +12,8 @@ use Rattle.worker.specs.declared.recover_fault.RecoverFault.TheVariants as recov
 use Rattle.worker.specs.rules.RecoverFaults.{wants_memory}
 use Rattle.command_words.specs.declared.lines.fault.LineFault.{LineFault}
 use Rattle.command_words.specs.rules.Statuses.{status_of_line}
+use Rattle.command_words.specs.declared.status.Status.{Status}
+use Rattle.command_words.specs.declared.status.Status.TheVariants as exit
 use Rattle.disk_commands.specs.declared.on_disk.fault.OnDiskFault.{OnDiskFault}
 use Rattle.disk_commands.specs.declared.on_disk.fault.OnDiskFault.TheVariants as told
 use Rattle.record_replay.specs.declared.slices.fault.SliceFault.{SliceFault}
@@ -37,37 +39,37 @@ IsReportedOnDisk why found is =
 -- ---- exit statuses
 
 -- a disk that failed before the worker was open
-abbrev pub status_of_disk : DiskFault → ℕ
-status_of_disk disk.Memory = 5
-status_of_disk other = 4
+abbrev pub status_of_disk : DiskFault → Status
+status_of_disk disk.Memory = exit.OutOfMemory
+status_of_disk other = exit.IoError
 
 -- the exit status of what a worker's call says
-abbrev pub status_of_work : SliceFault → ℕ
-status_of_work slice.Source = 4
-status_of_work slice.Outlet = 7
-status_of_work slice.Memory = 5
-status_of_work slice.Failed = 4
-status_of_work (slice.Refused why) = 3
+abbrev pub status_of_work : SliceFault → Status
+status_of_work slice.Source = exit.IoError
+status_of_work slice.Outlet = exit.Unwritten
+status_of_work slice.Memory = exit.OutOfMemory
+status_of_work slice.Failed = exit.IoError
+status_of_work (slice.Refused why) = exit.Refused
 
 -- What a call of a worker on its disk says. What a store refuses is neither out of memory nor a
 -- fault of the disk. An upgrade may be refused before anything is asked of the disk.
-abbrev pub status_of_call : WorkFault → ℕ
+abbrev pub status_of_call : WorkFault → Status
 status_of_call (work.Work fault) = status_of_work fault
-status_of_call (work.Disk fault) = 4
-status_of_call (work.Store fault) = 3
-status_of_call (work.Upgrade fault) = 3
+status_of_call (work.Disk fault) = exit.IoError
+status_of_call (work.Store fault) = exit.Refused
+status_of_call (work.Upgrade fault) = exit.Refused
 
 -- A recovery that fails, but for a fault of the disk. What is on the disk is refused, or a layer
 -- wants memory, or the outlet has refused a line that is told once more.
-abbrev pub status_of_recovery : RecoverFault → ℕ
+abbrev pub status_of_recovery : RecoverFault → Status
 status_of_recovery (recover.Worker fault) = status_of_call fault
-status_of_recovery (recover.Replay replay.Diverged) = 3
-status_of_recovery (recover.Replay replay.Memory) = 5
-status_of_recovery (recover.Replay replay.Outlet) = 7
-status_of_recovery other = if wants_memory other then 5 else 3
+status_of_recovery (recover.Replay replay.Diverged) = exit.Refused
+status_of_recovery (recover.Replay replay.Memory) = exit.OutOfMemory
+status_of_recovery (recover.Replay replay.Outlet) = exit.Unwritten
+status_of_recovery other = if wants_memory other then exit.OutOfMemory else exit.Refused
 
 -- all that is told, where that is printed
-abbrev pub status_on_disk : OnDiskFault → ℕ
+abbrev pub status_on_disk : OnDiskFault → Status
 status_on_disk (told.Disk fault) = status_of_disk fault
 status_on_disk (told.Recovery fault) = status_of_recovery fault
 status_on_disk (told.Call fault) = status_of_call fault

@@ -12,6 +12,7 @@ use Rattle.worker.specs.declared.recover_fault.RecoverFault.{RecoverFault}
 use Rattle.worker.specs.rules.Inspections.{Inspects}
 use Rattle.command_words.specs.rules.Printers.{PrinterState}
 use Rattle.command_words.specs.rules.Records.{answer_words, record_line}
+use Rattle.command_words.specs.declared.status.Status.{Status}
 use Rattle.disk_commands.specs.rules.Inspectings.{SaysOrWants, SaysRefusal}
 
 -- Records, each on a line, where so many requests were taken before them. So the first request
@@ -48,14 +49,14 @@ history_text as_story told =
 
 -- what is said of a disk that was inspected
 abbrev pub SaysHistory : Bool → Result Inspection RecoverFault → PrinterState → PrinterState
-    → PrinterState → PrinterState → ℕ → Type 0
+    → PrinterState → PrinterState → Status → Type 0
 SaysHistory as_story (Ok told) out out' err err' status =
     SaysOrWants (history_text as_story told) out out' err err' status
 SaysHistory as_story (Err why) out out' err err' status = SaysRefusal why out out' err err' status
 
 -- The disk was inspected, and the records that it holds are said.
 pub record TellsHistory (as_story : Bool) (disk disk' : Medium) (out out' err err' : PrinterState)
-    (status : ℕ) : Type 0 where
+    (status : Status) : Type 0 where
   pub result : Result Inspection RecoverFault
   pub inspects : Inspects result disk disk'
   pub says : SaysHistory as_story result out out' err err' status

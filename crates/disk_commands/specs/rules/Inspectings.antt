@@ -14,6 +14,8 @@ use Rattle.worker.specs.declared.inspection.Inspection.{Inspection}
 use Rattle.worker.specs.declared.recover_fault.RecoverFault.{RecoverFault}
 use Rattle.worker.specs.rules.Inspections.{Inspects}
 use Rattle.command_words.specs.rules.Printers.{PrinterState, IsSaid, SaysText}
+use Rattle.command_words.specs.declared.status.Status.{Status}
+use Rattle.command_words.specs.declared.status.Status.TheVariants as exit
 use Rattle.disk_commands.specs.rules.DiskStatuses.{opening_fault, status_on_disk}
 use Rattle.disk_commands.specs.rules.Facts.{facts_words}
 use Rattle.disk_commands.specs.rules.DiskFacts.{disk_facts}
@@ -38,28 +40,29 @@ listed_path (byte ∷ path) = if byte == 47 then path else byte ∷ path
 
 -- The text is printed, and nothing on the error output. Or there is no memory for it: that is told
 -- there, and nothing is printed.
-abbrev pub SaysOrWants : List ℕ → PrinterState → PrinterState → PrinterState → PrinterState → ℕ
+abbrev pub SaysOrWants : List ℕ → PrinterState → PrinterState → PrinterState → PrinterState → Status
     → Type 0
 SaysOrWants text out out' err err' status =
-    (SaysText text 0 out status out' × (err' ≡ err)) ⊎ (IsSaid 5 err status err' × (out' ≡ out))
+    (SaysText text exit.Done out status out' × (err' ≡ err))
+    ⊎ (IsSaid exit.OutOfMemory err status err' × (out' ≡ out))
 
 -- 3 for a path that isn't that of a file, and 5 for out of memory
-abbrev pub status_of_path : PathFault → ℕ
-status_of_path fault.Memory = 5
-status_of_path other = 3
+abbrev pub status_of_path : PathFault → Status
+status_of_path fault.Memory = exit.OutOfMemory
+status_of_path other = exit.Refused
 
 -- The bytes of the file are written, and nothing on the error output. Or it is told there why none
 -- are.
 abbrev pub SaysFile : Result (Vec ℕ Global) PathFault → PrinterState → PrinterState → PrinterState
-    → PrinterState → ℕ → Type 0
+    → PrinterState → Status → Type 0
 SaysFile (Ok bytes) out out' err err' status =
-    SaysText bytes.items 0 out status out' × (err' ≡ err)
+    SaysText bytes.items exit.Done out status out' × (err' ≡ err)
 SaysFile (Err why) out out' err err' status =
     IsSaid (status_of_path why) err status err' × (out' ≡ out)
 
 -- all files are listed, or the one at this path is written, which may have a `/` in front
 abbrev pub SaysFiles : Files → Option (List ℕ) → PrinterState → PrinterState → PrinterState
-    → PrinterState → ℕ → Type 0
+    → PrinterState → Status → Type 0
 SaysFiles fs None out out' err err' status = SaysOrWants (listing_text fs) out out' err err' status
 SaysFiles fs (Some path) out out' err err' status =
     (read : Result (Vec ℕ Global) PathFault) × ReadsPath fs (listed_path path) read
@@ -67,34 +70,34 @@ SaysFiles fs (Some path) out out' err err' status =
 
 -- Of a fault of the disk the status is told on the error output, and nothing is printed.
 abbrev pub SaysRefusal : RecoverFault → PrinterState → PrinterState → PrinterState → PrinterState
-    → ℕ → Type 0
+    → Status → Type 0
 SaysRefusal why out out' err err' status =
     IsSaid (status_on_disk (opening_fault why)) err status err' × (out' ≡ out)
 
 -- what is said of a disk that was inspected
 abbrev pub SaysInspected : Bool → Result Inspection RecoverFault → PrinterState → PrinterState
-    → PrinterState → PrinterState → ℕ → Type 0
+    → PrinterState → PrinterState → Status → Type 0
 SaysInspected as_json (Ok told) out out' err err' status =
     SaysOrWants (facts_words as_json (disk_facts told)) out out' err err' status
 SaysInspected as_json (Err why) out out' err err' status = SaysRefusal why out out' err err' status
 
 -- what is said of its files
 abbrev pub SaysListed : Option (List ℕ) → Result Inspection RecoverFault → PrinterState
-    → PrinterState → PrinterState → PrinterState → ℕ → Type 0
+    → PrinterState → PrinterState → PrinterState → Status → Type 0
 SaysListed path (Ok told) out out' err err' status =
     SaysFiles told.process.host.host.files path out out' err err' status
 SaysListed path (Err why) out out' err err' status = SaysRefusal why out out' err err' status
 
 -- The disk was inspected, and the facts that it holds are said.
 pub record TellsDisk (as_json : Bool) (disk disk' : Medium) (out out' err err' : PrinterState)
-    (status : ℕ) : Type 0 where
+    (status : Status) : Type 0 where
   pub result : Result Inspection RecoverFault
   pub inspects : Inspects result disk disk'
   pub says : SaysInspected as_json result out out' err err' status
 
 -- The disk was inspected, and the files of the saved process are said.
 pub record TellsFiles (path : Option (List ℕ)) (disk disk' : Medium)
-    (out out' err err' : PrinterState) (status : ℕ) : Type 0 where
+    (out out' err err' : PrinterState) (status : Status) : Type 0 where
   pub result : Result Inspection RecoverFault
   pub inspects : Inspects result disk disk'
   pub says : SaysListed path result out out' err err' status

@@ -1,12 +1,16 @@
 -- The last words of a run: how its worker has ended, or that it waits (this project's own).
-use Rattle.std.specs.Prelude.{ℕ, ◌+◌, Bool, true, false, List, [], ◌++◌, Option, Some, None, codes}
+use Rattle.std.specs.Prelude.{◌≡◌, ◌⊎◌, ℕ, ◌+◌, Bool, true, false, List, [], ◌++◌, Option, Some}
+use Rattle.std.specs.Prelude.{None, codes}
 use Rattle.std.specs.Fmt.{decimal}
 use Rattle.process_rules.specs.Processes.{Ending, Exited, Trapped}
 use Rattle.process.specs.rules.Values.{ending_of}
 use Rattle.record_replay.specs.declared.slices.now.Now.{Now}
 use Rattle.record_replay.specs.declared.slices.now.Now.TheVariants as now
-use Rattle.command_words.specs.rules.Texts.{named_number}
-use Rattle.command_words.specs.rules.Texts.{trap_text}
+use Rattle.command_words.specs.rules.Printers.{PrinterState, IsPrinted}
+use Rattle.command_words.specs.rules.Texts.{named_number, trap_text}
+use Rattle.command_words.specs.declared.status.Status.{Status}
+use Rattle.command_words.specs.declared.status.Status.TheVariants as exit
+use Rattle.disk_commands.specs.rules.TrapFrames.{TellsFrames}
 
 -- how a worker that is over has ended, if it has
 abbrev pub ended_by : Now → Option Ending
@@ -30,6 +34,17 @@ next_line true None taken = request_words (taken + 1)
 next_line true (Some how) taken = []
 next_line false how taken = []
 
--- the last words, with that line
-abbrev pub over_words : Bool → Option Ending → ℕ → List ℕ
-over_words heard how taken = last_words how ++ next_line heard how taken
+-- the last words, the lines of frames, and that line
+abbrev pub over_words : Bool → Option Ending → List ℕ → ℕ → List ℕ
+over_words heard how frames taken = last_words how ++ frames ++ next_line heard how taken
+
+-- These are printed.
+abbrev pub PrintsOver : Bool → Option Ending → ℕ → PrinterState → PrinterState → Type 0
+PrintsOver heard how taken old new = (frames : List ℕ) × TellsFrames how frames
+    × IsPrinted old new (over_words heard how frames taken)
+
+-- The status is `Done`, and they are printed; or it is `Unwritten`, and a write has failed.
+abbrev pub SaysOver : Bool → Option Ending → ℕ → PrinterState → Status → PrinterState → Type 0
+SaysOver heard how taken old status new =
+    ((status ≡ exit.Done) × PrintsOver heard how taken old new)
+    ⊎ ((status ≡ exit.Unwritten) × (new.failed ≡ true))

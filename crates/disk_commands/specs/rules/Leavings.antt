@@ -8,6 +8,8 @@ use Rattle.command_words.specs.rules.Later.{CountsLater}
 use Rattle.command_words.specs.rules.Pieces.{lines_of}
 use Rattle.command_words.specs.rules.Printers.{PrinterState, SaysText, TellsPerson}
 use Rattle.command_words.specs.rules.Texts.{named_number}
+use Rattle.command_words.specs.declared.status.Status.{Status}
+use Rattle.command_words.specs.declared.status.Status.TheVariants as exit
 
 -- where the refused line is
 abbrev pub place_line : ℕ → List ℕ
@@ -28,20 +30,20 @@ untaken_line count = named_number (codes "requests not taken: ") count ++ codes 
 
 -- The requests among the bytes that were read ahead are counted, but for those that were taken
 -- before. A text has so many bytes at most. Their number is said, where there are any.
-abbrev pub SaysUntaken : ℕ → ℕ → List ℕ → PrinterState → ℕ → PrinterState → Type 0
+abbrev pub SaysUntaken : ℕ → ℕ → List ℕ → PrinterState → Status → PrinterState → Type 0
 SaysUntaken limit taken ahead old answered new =
     (count : ℕ) × CountsLater limit taken (lines_of ahead) count
-    × (((count ≡ 0) × (answered ≡ 0) × (new ≡ old))
-    ⊎ ((0 < count) × SaysText (untaken_line count) 0 old answered new))
+    × (((count ≡ 0) × (answered ≡ exit.Done) × (new ≡ old))
+    ⊎ ((0 < count) × SaysText (untaken_line count) exit.Done old answered new))
 
--- 6: a line was refused, and its number is told, and what is wrong with it, if something is. 0: the
--- worker is over or waits. Lines that were passed over are counted, and so are the requests that are
--- left. Of another status nothing more is said.
+-- `BadLine`: a line was refused, and its number is told, and what is wrong with it, if something
+-- is. `Done`: the worker is over or waits. Lines that were passed over are counted, and so are the
+-- requests that are left. Of another status nothing more is said.
 pub record SaysOfInput (version : Version) (taken : ℕ) (ahead : List ℕ) (line skipped : ℕ)
-    (flaw : Option LineFlaw) (status : ℕ) (old : PrinterState) (answered : ℕ) (new : PrinterState)
-    : Type 0 where
-  pub refused : status ≡ 6
-      → SaysText (place_line line ++ flaw_line version flaw) 6 old answered new
-  pub over : status ≡ 0 → (between : PrinterState) × TellsSkipped skipped old between
+    (flaw : Option LineFlaw) (status : Status) (old : PrinterState) (answered : Status)
+    (new : PrinterState) : Type 0 where
+  pub refused : status ≡ exit.BadLine
+      → SaysText (place_line line ++ flaw_line version flaw) exit.BadLine old answered new
+  pub over : status ≡ exit.Done → (between : PrinterState) × TellsSkipped skipped old between
       × SaysUntaken (text_limit version) taken ahead between answered new
-  pub others : status ≢ 6 → status ≢ 0 → (answered ≡ status) × (new ≡ old)
+  pub others : status ≢ exit.BadLine → status ≢ exit.Done → (answered ≡ status) × (new ≡ old)

@@ -22,37 +22,39 @@ use Rattle.command_words.specs.rules.ModuleLimits.{SaysLimit}
 use Rattle.command_words.specs.rules.Printers.{PrinterState, IsSaid, SaysText}
 use Rattle.command_words.specs.rules.Reports.{SaysLine}
 use Rattle.command_words.specs.rules.Verdicts.{SaysMore}
+use Rattle.command_words.specs.declared.status.Status.{Status}
+use Rattle.command_words.specs.declared.status.Status.TheVariants as exit
 use Rattle.disk_commands.specs.rules.Creations.{CreatesOn}
 use Rattle.disk_commands.specs.rules.Openings.{open_words}
 use Rattle.disk_commands.specs.rules.SuccessorDisks.{SucceedsDisk}
 
 module _ {F : Type 0} (handles : KnownHandles F) (files : KnownFiles F) where
   -- The disk was made in a new file at this path, of as many sectors as are needed, the worker was
-  -- created on it, and it was closed. Its file is left there where the status is 0, and else it was
-  -- to be removed.
+  -- created on it, and it was closed. Its file is left there where the status is `Done`, and else
+  -- it was to be removed.
   pub record IsCreatedInFile (path bytes : List ℕ) (prepared : Prepared)
-      (out out' err err' : PrinterState) (status : ℕ) : Type 0 where
+      (out out' err err' : PrinterState) (status : Status) : Type 0 where
     pub disk : FileDisk F
     pub disk' : FileDisk F
     pub made : IsMadeAt handles files path prepared.sectors disk
     pub closed : IsTrue (files.closed disk')
     pub creates : CreatesOn file_medium bytes prepared.config disk disk' out out' err err' status
-    pub keeps : status ≡ 0 → IsTrue (files.kept path)
-    pub removes : status ≢ 0 → IsTrue (files.removed path)
+    pub keeps : status ≡ exit.Done → IsTrue (files.kept path)
+    pub removes : status ≢ exit.Done → IsTrue (files.removed path)
 
   -- No file is made at this path, or none is left, and it is said why. Or one is made, and the
   -- worker created on it.
   abbrev pub CreatesFile : List ℕ → List ℕ → Prepared → PrinterState → PrinterState
-      → PrinterState → PrinterState → ℕ → Type 0
+      → PrinterState → PrinterState → Status → Type 0
   CreatesFile path bytes prepared out out' err err' status =
       ((why : OpenFault) × IsUnmade handles files path prepared.sectors why
-      × SaysLine (open_words path why) 4 err status err' × (out' ≡ out))
+      × SaysLine (open_words path why) exit.IoError err status err' × (out' ≡ out))
       ⊎ IsCreatedInFile path bytes prepared out out' err err' status
 
   -- The disk is on the block device at this path, of as many sectors as are needed, the worker was
   -- created on it, and it was closed.
   pub record IsCreatedOnDevice (path bytes : List ℕ) (prepared : Prepared)
-      (out out' err err' : PrinterState) (status : ℕ) : Type 0 where
+      (out out' err err' : PrinterState) (status : Status) : Type 0 where
     pub disk : FileDisk F
     pub disk' : FileDisk F
     pub taken : IsTakenAt handles files path prepared.sectors disk
@@ -61,10 +63,10 @@ module _ {F : Type 0} (handles : KnownHandles F) (files : KnownFiles F) where
 
   -- It is said why the path can't be taken. Or the worker is created on the device that it names.
   abbrev pub CreatesOnDevice : List ℕ → List ℕ → Prepared → PrinterState → PrinterState
-      → PrinterState → PrinterState → ℕ → Type 0
+      → PrinterState → PrinterState → Status → Type 0
   CreatesOnDevice path bytes prepared out out' err err' status =
       ((why : OpenFault) × IsUntaken handles files path prepared.sectors why
-      × SaysLine (open_words path why) 4 err status err' × (out' ≡ out))
+      × SaysLine (open_words path why) exit.IoError err status err' × (out' ≡ out))
       ⊎ IsCreatedOnDevice path bytes prepared out out' err err' status
 
 -- ---- as the words say
@@ -78,21 +80,21 @@ settings_said said = config_as
 -- It is said why no worker of these bytes is created: by the bounds of what is out of them, by
 -- the entry that has no name, by a limit that the module passes, by what else is known of it, or
 -- else by the status.
-pub record SaysUnprepared (bytes : List ℕ) (why : Unprepared) (old : PrinterState) (answered : ℕ)
-    (new : PrinterState) : Type 0 where
+pub record SaysUnprepared (bytes : List ℕ) (why : Unprepared) (old : PrinterState)
+    (answered : Status) (new : PrinterState) : Type 0 where
   pub range : (bound : Bound) → why ≡ unprepared.Range bound
-      → SaysLine (range_words bound) 3 old answered new
+      → SaysLine (range_words bound) exit.Refused old answered new
   pub entry : (number : ℕ) → why ≡ unprepared.Text (Some number)
-      → SaysText (entry_text number) 3 old answered new
+      → SaysText (entry_text number) exit.Refused old answered new
   pub limit : (passed : PassedLimit) → passed_by why ≡ Some passed
-      → SaysLimit bytes (codes "failed") passed 3 old answered new
+      → SaysLimit bytes (codes "failed") passed exit.Refused old answered new
   pub more : (fault : ModuleFault) → why ≡ unprepared.Module fault → SaysMore bytes fault new
   pub status : IsSaid (status_unprepared why) old answered new
 
 module _ {F : Type 0} (handles : KnownHandles F) (files : KnownFiles F) where
   -- The disk is a device that is there, where the words ask for one, and a new file where not.
   abbrev pub MakesDisk : Bool → List ℕ → List ℕ → Prepared → PrinterState → PrinterState
-      → PrinterState → PrinterState → ℕ → Type 0
+      → PrinterState → PrinterState → Status → Type 0
   MakesDisk true path bytes prepared out out' err err' status =
       CreatesOnDevice handles files path bytes prepared out out' err err' status
   MakesDisk false path bytes prepared out out' err err' status =
@@ -100,7 +102,7 @@ module _ {F : Type 0} (handles : KnownHandles F) (files : KnownFiles F) where
 
   -- The worker is fresh, or succeeds the one on the disk at this path.
   abbrev pub MakesOrdered : Option (List ℕ) → Bool → List ℕ → List ℕ → Prepared → PrinterState
-      → PrinterState → PrinterState → PrinterState → ℕ → Type 0
+      → PrinterState → PrinterState → PrinterState → Status → Type 0
   MakesOrdered None on_device path bytes prepared out out' err err' status =
       MakesDisk on_device path bytes prepared out out' err err' status
   MakesOrdered (Some from) on_device path bytes prepared out out' err err' status =
@@ -109,7 +111,7 @@ module _ {F : Type 0} (handles : KnownHandles F) (files : KnownFiles F) where
   -- It is said why the settings or the module keep a worker from being created, and nothing is
   -- made. Or a worker of these settings is created on the disk of the words.
   abbrev pub CreatesDisk : CreateMeaning → List ℕ → PrinterState → PrinterState → PrinterState
-      → PrinterState → ℕ → Type 0
+      → PrinterState → Status → Type 0
   CreatesDisk said bytes out out' err err' status =
       ((why : Unprepared) × IsUnprepared (settings_said said) bytes why
       × SaysUnprepared bytes why err status err' × (out' ≡ out))

@@ -6,8 +6,8 @@ use Rattle.std.specs.Fmt.{decimal}
 use Rattle.process.specs.declared.stop.ProcessEnd.TheVariants as end
 use Rattle.worker.specs.declared.position.Position.{Position}
 use Rattle.disk_commands.specs.declared.on_disk.sighting.Sighting.{Sighting}
-use Rattle.disk_commands.specs.declared.on_disk.sighting.State.{State}
-use Rattle.disk_commands.specs.declared.on_disk.sighting.State.TheVariants as state
+use Rattle.disk_commands.specs.declared.on_disk.sighting.WatchedState.{WatchedState}
+use Rattle.disk_commands.specs.declared.on_disk.sighting.WatchedState.TheVariants as state
 
 -- ---- a label
 
@@ -63,18 +63,18 @@ numbers_text label s =
 -- ---- what it is
 
 -- the code of a worker that has exited, and else 0
-abbrev pub exit_code : State → ℕ
+abbrev pub exit_code : WatchedState → ℕ
 exit_code (state.Ended (end.Exited code)) = code
 exit_code other = 0
 
 -- the metric of that code
-abbrev pub exit_metric : List ℕ → State → List ℕ
+abbrev pub exit_metric : List ℕ → WatchedState → List ℕ
 exit_metric label is =
     metric (codes "wasmhost_exit_code") (codes "Code that it has exited with, or 0.")
     (codes "gauge") label (exit_code is)
 
 -- the place of a state among the samples
-abbrev pub state_place : State → ℕ
+abbrev pub state_place : WatchedState → ℕ
 state_place state.Running = 0
 state_place state.Waiting = 1
 state_place state.Parked = 2
@@ -82,12 +82,12 @@ state_place (state.Ended (end.Exited code)) = 3
 state_place (state.Ended (end.Trapped why)) = 4
 
 -- the sample of a state: 1 where it is the worker's, and else 0
-abbrev pub flag : List ℕ → List ℕ → State → ℕ → List ℕ
+abbrev pub flag : List ℕ → List ℕ → WatchedState → ℕ → List ℕ
 flag label close is place = metric_sample (codes "wasmhost_state") label close
     (if nat_eq (state_place is) place then 1 else 0)
 
 -- its exit code, and what it is
-abbrev pub state_text : List ℕ → State → List ℕ
+abbrev pub state_text : List ℕ → WatchedState → List ℕ
 state_text label is =
     exit_metric label is
     ++ comment (codes "wasmhost_state") (codes "Whether the worker is in this state.")

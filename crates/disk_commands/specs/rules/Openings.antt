@@ -18,6 +18,8 @@ use Rattle.sector_disk.specs.rules.Rewrite.{AddsNothing}
 use Rattle.command_words.specs.rules.Printers.{PrinterState}
 use Rattle.command_words.specs.rules.Reports.{SaysLine, obstacle_words}
 use Rattle.command_words.specs.declared.telling.Obstacle.TheVariants.{Memory, Unread}
+use Rattle.command_words.specs.declared.status.Status.{Status}
+use Rattle.command_words.specs.declared.status.Status.TheVariants as exit
 
 -- what the operating system says of a path, in the words of its library
 abbrev pub cause_words : OpenCause → List ℕ
@@ -45,11 +47,11 @@ open_words path (opening.Io cause) =
 
 -- A file can't be read, for an error of this kind. Want of memory is told as that, and any other
 -- error by the path and the cause.
-abbrev pub SaysUnread : List ℕ → ErrorKind → PrinterState → ℕ → PrinterState → Type 0
+abbrev pub SaysUnread : List ℕ → ErrorKind → PrinterState → Status → PrinterState → Type 0
 SaysUnread path kind old status new =
-    ((kind ≡ OutOfMemory) × SaysLine (obstacle_words Memory) 5 old status new)
+    ((kind ≡ OutOfMemory) × SaysLine (obstacle_words Memory) exit.OutOfMemory old status new)
     ⊎ ((kind ≢ OutOfMemory)
-    × SaysLine (open_words path (opening.Io (open_cause kind))) 4 old status new)
+    × SaysLine (open_words path (opening.Io (open_cause kind))) exit.IoError old status new)
 
 -- ---- the disk of a command
 
@@ -68,19 +70,19 @@ module _ {F : Type 0} (handles : KnownHandles F) (files : KnownFiles F) where
   IsOpenedFor false path disk = IsOpenedAt handles files path disk
 
   -- The disk that was opened at this path has failed while it was written back. That is said.
-  pub record SaysUnrewritten (path : List ℕ) (old : PrinterState) (status : ℕ) (new : PrinterState)
-      : Type 0 where
+  pub record SaysUnrewritten (path : List ℕ) (old : PrinterState) (status : Status)
+      (new : PrinterState) : Type 0 where
     pub opened : FileDisk F
     pub disk : FileDisk F
     pub at : IsOpenedAt handles files path opened
     pub fails : (file_medium opened).faults < (file_medium disk).faults
     pub closed : IsTrue (files.closed disk)
-    pub says : SaysLine (obstacle_words Unread) 4 old status new
+    pub says : SaysLine (obstacle_words Unread) exit.IoError old status new
 
   -- It is said why no disk is opened at this path, or, where it was to be written back, that this
-  -- has failed. The status is 4, or 7 where a write has failed.
-  abbrev pub SaysUnopened : Bool → List ℕ → PrinterState → ℕ → PrinterState → Type 0
+  -- has failed. The status is `IoError`, or `Unwritten` where a write has failed.
+  abbrev pub SaysUnopened : Bool → List ℕ → PrinterState → Status → PrinterState → Type 0
   SaysUnopened rewrites path old status new =
       ((why : OpenFault) × IsUnopenedAt handles files path why
-      × SaysLine (open_words path why) 4 old status new)
+      × SaysLine (open_words path why) exit.IoError old status new)
       ⊎ ((rewrites ≡ true) × SaysUnrewritten path old status new)

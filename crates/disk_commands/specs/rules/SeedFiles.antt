@@ -7,6 +7,8 @@ use Rattle.hex.specs.Hex.{decode_of, is_hex_digit}
 use Rattle.command_words.specs.declared.telling.Obstacle.TheVariants as obstacle
 use Rattle.command_words.specs.rules.Printers.{PrinterState}
 use Rattle.command_words.specs.rules.Reports.{SaysLine, obstacle_words}
+use Rattle.command_words.specs.declared.status.Status.{Status}
+use Rattle.command_words.specs.declared.status.Status.TheVariants as exit
 use Rattle.disk_commands.specs.rules.Openings.{SaysUnread}
 
 -- the bytes that the digits of a seed spell, or zeros where there are no digits
@@ -34,17 +36,17 @@ abbrev pub seedless_words : List ℕ → List ℕ
 seedless_words file = codes "failed C2 Text\n" ++ file ++ codes ": isn't 64 hexadecimal digits"
 
 -- It is said that a file can't be read, or that it has no seed.
-abbrev pub SaysSeedlessFile : List ℕ → PrinterState → ℕ → PrinterState → Type 0
+abbrev pub SaysSeedlessFile : List ℕ → PrinterState → Status → PrinterState → Type 0
 SaysSeedlessFile file err status err' =
     ((kind : ErrorKind) × SaysUnread file kind err status err')
-    ⊎ SaysLine (seedless_words file) 3 err status err'
+    ⊎ SaysLine (seedless_words file) exit.Refused err status err'
 
 -- It is said why there is no seed: the digits aren't those of one. Where a file is named, there are
 -- digits beside it, or the file gives none.
-abbrev pub SaysSeedless : Option (List ℕ) → Option (List ℕ) → PrinterState → ℕ → PrinterState
+abbrev pub SaysSeedless : Option (List ℕ) → Option (List ℕ) → PrinterState → Status → PrinterState
     → Type 0
 SaysSeedless None digits err status err' =
-    IsNoSeed digits × SaysLine (obstacle_words obstacle.NoSeed) 2 err status err'
+    IsNoSeed digits × SaysLine (obstacle_words obstacle.NoSeed) exit.Usage err status err'
 SaysSeedless (Some file) digits err status err' =
-    (IsSome digits × SaysLine (obstacle_words obstacle.TwoSeeds) 2 err status err')
+    (IsSome digits × SaysLine (obstacle_words obstacle.TwoSeeds) exit.Usage err status err')
     ⊎ SaysSeedlessFile file err status err'

@@ -13,6 +13,8 @@ use Rattle.command_words.specs.rules.Commands.{RunMeaning}
 use Rattle.command_words.specs.rules.Printers.{PrinterState, read_along}
 use Rattle.command_words.specs.rules.Prints.{printing}
 use Rattle.command_words.specs.rules.Reports.{SaysOnOutput}
+use Rattle.command_words.specs.declared.status.Status.{Status}
+use Rattle.command_words.specs.declared.status.Status.TheVariants as exit
 use Rattle.disk_commands.specs.declared.on_disk.found_file.FoundFile.{FoundFile}
 use Rattle.disk_commands.specs.declared.on_disk.running.RunJob.{RunJob}
 use Rattle.disk_commands.specs.declared.on_disk.upgrading.Upgraded.{Upgraded}
@@ -55,12 +57,12 @@ job_given job lines failed = disk_job (non_zero_u64_get job.pace.fuel)
     (non_zero_u64_get job.pace.every) (non_zero_u64_get job.pace.batch) lines job.outside failed
 
 module _ {D O : Type 0} (medium : D → Medium) (takes : Taking O) (before : RunStart D O)
-    (disk' : D) (outlet' : O) (err' : PrinterState) (status : ℕ) where
+    (disk' : D) (outlet' : O) (err' : PrinterState) (status : Status) where
   -- The worker is served. Then it is said what is left of the input.
   pub record ServesToEnd : Type 0 where
     pub failed' : Bool
     pub between : PrinterState
-    pub served : ℕ
+    pub served : Status
     pub serves : ServesOnDisk medium takes before (run_end disk' outlet' between failed') served
     pub heeds : HeedsRefusal takes before.outlet outlet' between served
     pub version : Version
@@ -73,7 +75,7 @@ module _ {D O : Type 0} (medium : D → Medium) (takes : Taking O) (before : Run
 
 -- It is said why there is no file at one of these paths, of those that are named: by what was found
 -- there or beside it, or by an error of the system.
-abbrev pub SaysNoStatusFile : Option (List ℕ) → Option (List ℕ) → PrinterState → ℕ
+abbrev pub SaysNoStatusFile : Option (List ℕ) → Option (List ℕ) → PrinterState → Status
     → PrinterState → Type 0
 SaysNoStatusFile path metrics err status err' =
     (has_found : List ℕ → FoundFile → Bool)
@@ -81,7 +83,7 @@ SaysNoStatusFile path metrics err status err' =
 
 -- It is said why there is no such file, and nothing else is done. Or the worker is served.
 abbrev pub RunsJob : {D O : Type 0} → (D → Medium) → Taking O → Option (List ℕ)
-    → Option (List ℕ) → RunStart D O → D → O → PrinterState → ℕ → Type 0
+    → Option (List ℕ) → RunStart D O → D → O → PrinterState → Status → Type 0
 RunsJob medium takes path metrics before disk' outlet' err' status =
     (SaysNoStatusFile path metrics before.err status err' × (disk' ≡ before.disk)
     × (outlet' ≡ before.outlet))
@@ -92,7 +94,7 @@ RunsJob medium takes path metrics before disk' outlet' err' status =
 -- the error output is told what a person is told.
 pub data RunsFile {F O : Type 0} (handles : KnownHandles F) (files : KnownFiles F)
     (takes : Taking O) (said : RunMeaning) (lines : Option (List ℕ)) (failed : Bool)
-    (outlet outlet' : O) (err err' : PrinterState) (status : ℕ) : Type 0 where
+    (outlet outlet' : O) (err err' : PrinterState) (status : Status) : Type 0 where
   seedless : SaysSeedless said.seed_file said.seed err status err' → outlet' ≡ outlet
       → RunsFile handles files takes said lines failed outlet outlet' err err' status
   unopened : SaysUnopened handles files said.rewrites said.disk err status err'
@@ -109,23 +111,23 @@ pub data RunsFile {F O : Type 0} (handles : KnownHandles F) (files : KnownFiles 
 
 -- Of a worker that is of version 2 that is said on the output. Else the status is that of the
 -- error, and nothing more is said.
-abbrev pub SaysUpgraded : Result Upgraded ℕ → PrinterState → PrinterState → PrinterState
-    → PrinterState → ℕ → Type 0
+abbrev pub SaysUpgraded : Result Upgraded Status → PrinterState → PrinterState → PrinterState
+    → PrinterState → Status → Type 0
 SaysUpgraded (Ok upgraded) out out' err err' status =
-    SaysOnOutput (upgraded_words upgraded) 0 out out' err err' status
+    SaysOnOutput (upgraded_words upgraded) exit.Done out out' err err' status
 SaysUpgraded (Err fault) out out' err err' status =
     (status ≡ fault) × (out' ≡ out) × (err' ≡ err)
 
 module _ {F : Type 0} (handles : KnownHandles F) (files : KnownFiles F) where
   -- The disk was opened at this path, and not written back. Its worker was brought to version 2,
   -- with its lines on the output, or that has failed. Then it was closed, and the result is said.
-  pub record UpgradesOpened (path : List ℕ) (out out' err err' : PrinterState) (status : ℕ)
+  pub record UpgradesOpened (path : List ℕ) (out out' err err' : PrinterState) (status : Status)
       : Type 0 where
     pub disk : FileDisk F
     pub disk' : FileDisk F
     pub at : IsOpenedAt handles files path disk
     pub closed : IsTrue (files.closed disk')
-    pub upgraded : Result Upgraded ℕ
+    pub upgraded : Result Upgraded Status
     pub told : PrinterState
     pub between : PrinterState
     pub upgrades : UpgradesOnDisk file_medium printing upgraded disk disk' out told err between
@@ -134,7 +136,7 @@ module _ {F : Type 0} (handles : KnownHandles F) (files : KnownFiles F) where
 
   -- So it was. Or it is said why none was opened.
   abbrev pub UpgradesFile : List ℕ → PrinterState → PrinterState → PrinterState → PrinterState
-      → ℕ → Type 0
+      → Status → Type 0
   UpgradesFile path out out' err err' status =
       UpgradesOpened path out out' err err' status
       ⊎ (SaysUnopened handles files false path err status err' × (out' ≡ out))

@@ -20,8 +20,9 @@ use Rattle.worker.specs.rules.Recoveries.{IsNoWorker, IsJustSynced}
 use Rattle.worker.specs.rules.OneLife.{IsOneLife}
 use Rattle.command_words.specs.declared.lines.outside.Outside.{Outside}
 use Rattle.command_words.specs.Lines.Answers.{SourceState, source_state, HandsNext}
-use Rattle.command_words.specs.rules.Printers.{PrinterState, IsSaid, SaysText, TellsPerson}
+use Rattle.command_words.specs.rules.Printers.{PrinterState, IsSaid, TellsPerson}
 use Rattle.command_words.specs.rules.Texts.{named_number}
+use Rattle.command_words.specs.declared.status.Status.{Status}
 use Rattle.disk_commands.specs.declared.on_disk.fault.OnDiskFault.{OnDiskFault}
 use Rattle.disk_commands.specs.rules.BrokenLives.{BreaksOffFrom, steps_among}
 use Rattle.disk_commands.specs.rules.DiskStatuses.{IsReportedOnDisk, opening_fault}
@@ -29,7 +30,7 @@ use Rattle.disk_commands.specs.rules.DiskStatuses.{status_on_disk}
 use Rattle.worker.specs.rules.Outcomes.{life_outcome}
 use Rattle.disk_commands.specs.rules.Hearings.{AsksUnless, MayRefuse}
 use Rattle.disk_commands.specs.rules.Paces.{act_at, IsPaced}
-use Rattle.disk_commands.specs.rules.LastWords.{ended_by, over_words}
+use Rattle.disk_commands.specs.rules.LastWords.{SaysOver, ended_by}
 
 -- What such a run is given: the steps of a slice, the slices between two checkpoints, how many
 -- lines one sync may serve, the lines of a reader, where times and random bytes come from, and
@@ -181,7 +182,7 @@ recovered_line w =
 -- fault of the source is told as that of a request line, where there is one. Lines wait then only
 -- where that call's own clause says so.
 pub data ServesOnDisk {D O : Type 0} (medium : D → Medium) (takes : Taking O)
-    (before : RunStart D O) (after : RunEnd D O) (status : ℕ) : Type 0 where
+    (before : RunStart D O) (after : RunEnd D O) (status : Status) : Type 0 where
   unopened : (why : RecoverFault)
       → IsUnopenedRun medium takes why before.disk after.disk before.outlet after.outlet
       → after.failed ≡ before.given.failed
@@ -191,8 +192,7 @@ pub data ServesOnDisk {D O : Type 0} (medium : D → Medium) (takes : Taking O)
       → (lives : LivesOnDisk medium takes (Ok []) before after source')
       → HasOutcome lives now → source'.failed ≡ after.failed
       → TellsPerson (recovered_line lives.worker) before.err between
-      → SaysText (over_words before.err.on_terminal (ended_by now) source'.taken) 0 between status
-      after.err
+      → SaysOver before.err.on_terminal (ended_by now) source'.taken between status after.err
       → ServesOnDisk medium takes before after status
   broken : (why : WorkFault) (told : OnDiskFault) (source' : SourceState) (between : PrinterState)
       → (lives : LivesOnDisk medium takes (Err (recover.Worker why)) before after source')

@@ -7,6 +7,8 @@ use Rattle.worker.specs.declared.surveyed.Survey.{Survey}
 use Rattle.worker.specs.rules.Surveys.{Surveys}
 use Rattle.command_words.specs.rules.Printers.{PrinterState, IsSaid, SaysText}
 use Rattle.command_words.specs.rules.Texts.{named_number}
+use Rattle.command_words.specs.declared.status.Status.{Status}
+use Rattle.command_words.specs.declared.status.Status.TheVariants as exit
 use Rattle.disk_commands.specs.rules.DiskStatuses.{opening_fault, status_on_disk}
 
 -- the line of a survey
@@ -19,21 +21,21 @@ survey_line survey =
     ++ named_number (codes " records ") survey.records
     ++ named_number (codes " version ") (version_number survey.version) ++ codes "\n"
 
--- the line is printed, and the status is 0; or a write has failed, and it is 7
-abbrev pub SaysSurvey : Survey → PrinterState → ℕ → PrinterState → Type 0
-SaysSurvey survey old status new = SaysText (survey_line survey) 0 old status new
+-- the line is printed, and the status is `Done`; or a write has failed, and it is `Unwritten`
+abbrev pub SaysSurvey : Survey → PrinterState → Status → PrinterState → Type 0
+SaysSurvey survey old status new = SaysText (survey_line survey) exit.Done old status new
 
--- A survey is said, and nothing on the error output. Of a fault the status is told there, or 7
--- where a write has failed, and nothing is printed on the output.
+-- A survey is said, and nothing on the error output. Of a fault the status is told there, or
+-- `Unwritten` where a write has failed, and nothing is printed on the output.
 abbrev pub SaysResult : Result Survey RecoverFault → PrinterState → PrinterState → PrinterState
-    → PrinterState → ℕ → Type 0
+    → PrinterState → Status → Type 0
 SaysResult (Ok survey) out out' err err' status =
     SaysSurvey survey out status out' × (err' ≡ err)
 SaysResult (Err why) out out' err err' status =
     IsSaid (status_on_disk (opening_fault why)) err status err' × (out' ≡ out)
 
 -- The disk was surveyed, and the result is said.
-pub record ShowsDisk (disk disk' : Medium) (out out' err err' : PrinterState) (status : ℕ)
+pub record ShowsDisk (disk disk' : Medium) (out out' err err' : PrinterState) (status : Status)
     : Type 0 where
   pub result : Result Survey RecoverFault
   pub surveys : Surveys result disk disk'
@@ -41,8 +43,8 @@ pub record ShowsDisk (disk disk' : Medium) (out out' err err' : PrinterState) (s
 
 -- It has this survey. Then its line is printed (0) or a write of it has failed (7), or the disk has
 -- failed (4), or memory was refused (5), or a write of what is told of these has failed (7).
-abbrev pub ShowsSurvey : Medium → Medium → PrinterState → PrinterState → PrinterState → ℕ → Survey
-    → Type 0
+abbrev pub ShowsSurvey : Medium → Medium → PrinterState → PrinterState → PrinterState → Status
+    → Survey → Type 0
 ShowsSurvey disk disk' out out' err' status survey =
-    SaysSurvey survey out status out' ⊎ ((status ≡ 4) × (disk.faults < disk'.faults))
-    ⊎ (status ≡ 5) ⊎ ((status ≡ 7) × (err'.failed ≡ true))
+    SaysSurvey survey out status out' ⊎ ((status ≡ exit.IoError) × (disk.faults < disk'.faults))
+    ⊎ (status ≡ exit.OutOfMemory) ⊎ ((status ≡ exit.Unwritten) × (err'.failed ≡ true))

@@ -5,6 +5,8 @@ use Rattle.std.specs.Borrow.{Bor}
 use Rattle.std.specs.declared.io.ErrorKind.{ErrorKind}
 use Rattle.command_words.specs.rules.Printers.{PrinterState}
 use Rattle.command_words.specs.rules.Reports.{SaysLine}
+use Rattle.command_words.specs.declared.status.Status.{Status}
+use Rattle.command_words.specs.declared.status.Status.TheVariants as exit
 use Rattle.disk_commands.specs.declared.on_disk.found_file.FoundFile.{FoundFile}
 use Rattle.disk_commands.specs.declared.on_disk.found_file.FoundFile.TheVariants as found
 use Rattle.disk_commands.specs.rules.Metrics.{BeginsAsMetrics}
@@ -49,11 +51,11 @@ HasFoundFree has_found = (here : FoundFile) × IsTrue (has_found here) × IsFree
 
 -- It is said why a status file can't have this path: by what was found there, or by an error of the
 -- system.
-abbrev pub SaysTaken : (FoundFile → Bool) → List ℕ → PrinterState → ℕ → PrinterState → Type 0
+abbrev pub SaysTaken : (FoundFile → Bool) → List ℕ → PrinterState → Status → PrinterState → Type 0
 SaysTaken has_found path old status new =
     ((here : FoundFile) × IsTrue (has_found here) × (IsFreePath here → ⊥)
-    × SaysLine (codes "failed K2 Io\n" ++ path ++ codes ": " ++ found_words here) 4 old status new)
-    ⊎ ((kind : ErrorKind) × SaysUnread path kind old status new)
+    × SaysLine (codes "failed K2 Io\n" ++ path ++ codes ": " ++ found_words here) exit.IoError old
+    status new) ⊎ ((kind : ErrorKind) × SaysUnread path kind old status new)
 
 -- where a line is written before it gets its path
 abbrev pub beside : List ℕ → List ℕ
@@ -66,7 +68,7 @@ IsWatchable has_found removed path =
     × IsTrue (removed (beside path))
 
 -- It is said of one of them why it can't be had.
-abbrev pub SaysUnwatched : (List ℕ → FoundFile → Bool) → List ℕ → PrinterState → ℕ
+abbrev pub SaysUnwatched : (List ℕ → FoundFile → Bool) → List ℕ → PrinterState → Status
     → PrinterState → Type 0
 SaysUnwatched has_found path old status new =
     SaysTaken (has_found path) path old status new
@@ -80,7 +82,7 @@ path_named path = option_map (λ text. text.now) path
 
 -- It is said of one of two files that are named why it can't be had.
 abbrev pub SaysUnwatchable : (List ℕ → FoundFile → Bool) → Option (List ℕ) → Option (List ℕ)
-    → PrinterState → ℕ → PrinterState → Type 0
+    → PrinterState → Status → PrinterState → Type 0
 SaysUnwatchable has_found status metrics old answered new =
     (path : List ℕ) × ((status ≡ Some path) ⊎ (metrics ≡ Some path))
     × SaysUnwatched has_found path old answered new

@@ -27,6 +27,8 @@ use Rattle.command_words.specs.rules.Preparations.{disk_sectors}
 use Rattle.command_words.specs.rules.Printers.{PrinterState, HeedsBoth, IsSaid}
 use Rattle.command_words.specs.rules.Reports.{SaysLine, obstacle_words}
 use Rattle.command_words.specs.rules.Texts.{named_number}
+use Rattle.command_words.specs.declared.status.Status.{Status}
+use Rattle.command_words.specs.declared.status.Status.TheVariants as exit
 use Rattle.disk_commands.specs.rules.Creations.{HasDiskFailed, IsCreationRefused, created_line}
 use Rattle.disk_commands.specs.rules.DiskStatuses.{opening_fault, status_on_disk}
 use Rattle.disk_commands.specs.rules.Openings.{SaysUnopened, open_words}
@@ -70,26 +72,30 @@ abbrev pub IsSuccessorRefused : List ℕ → Settings → LegacyValue → Medium
 IsSuccessorRefused bytes config left disk = IsCreationRefused bytes config disk
     ⊎ (TakesRecords left.version config.journal → ⊥)
 
--- 0: the worker is created. 3: it is refused. 4: the disk failed. 5: there is no memory. A refused
--- worker and out of memory leave the disk as it was. 7: a write of a printer has failed, and
--- whether the worker was created isn't known. Whatever the status, a cut at any moment leaves no
--- worker on a disk that had none, or this one. It keeps what is promised of a worker that goes on
--- from what was handed over. The disk takes the calls of a creation and no other, in their order.
+-- `Done`: the worker is created. `Refused`: it is refused. `IoError`: the disk failed.
+-- `OutOfMemory`: there is no memory. A refused worker and out of memory leave the disk as it was.
+-- `Unwritten`: a write of a printer has failed, and whether the worker was created isn't known.
+-- Whatever the status, a cut at any moment leaves no worker on a disk that had none, or this one.
+-- It keeps what is promised of a worker that goes on from what was handed over. The disk takes the
+-- calls of a creation and no other, in their order.
 pub record SucceedsOn {D : Type 0} (medium : D → Medium) (bytes : List ℕ) (config : Settings)
-    (left : Handover) (old new : D) (out out' err err' : PrinterState) (status : ℕ)
+    (left : Handover) (old new : D) (out out' err err' : PrinterState) (status : Status)
     : Type 0 where
   pub answer : Result (Unit {0}) WorkFault
   pub keeps : SuccessionKeeps bytes config left.legacy answer (medium old) (medium new)
   pub calls : SuccessionCalls bytes config answer (medium old) (medium new)
-  pub made : status ≡ 0
+  pub made : status ≡ exit.Done
       → IsSuccessorPrinted bytes config left answer (medium new) out.contents out'.contents
-  pub refused : status ≡ 3 → IsSuccessorRefused bytes config left.legacy (medium old)
+  pub refused : status ≡ exit.Refused → IsSuccessorRefused bytes config left.legacy (medium old)
       × (new ≡ old) × (out' ≡ out)
-  pub failed : status ≡ 4 → HasDiskFailed bytes config (medium old) (medium new) × (out' ≡ out)
-  pub starved : status ≡ 5 → (new ≡ old) × (out' ≡ out)
-  pub unwritten : status ≡ 7 → SaysLine (obstacle_words Unwritten) 7 err status err'
+  pub failed : status ≡ exit.IoError → HasDiskFailed bytes config (medium old) (medium new)
+      × (out' ≡ out)
+  pub starved : status ≡ exit.OutOfMemory → (new ≡ old) × (out' ≡ out)
+  pub unwritten : status ≡ exit.Unwritten
+      → SaysLine (obstacle_words Unwritten) exit.Unwritten err status err'
   pub heeded : HeedsBoth out out' err err' status
-  pub known : (status ≡ 0) ⊎ (status ≡ 3) ⊎ (status ≡ 4) ⊎ (status ≡ 5) ⊎ (status ≡ 7)
+  pub known : (status ≡ exit.Done) ⊎ (status ≡ exit.Refused) ⊎ (status ≡ exit.IoError)
+      ⊎ (status ≡ exit.OutOfMemory) ⊎ (status ≡ exit.Unwritten)
 
 -- ---- what the old disk shows
 
@@ -100,10 +106,11 @@ restless_words path = codes "failed N9 NotParked\n" ++ path
 
 -- Why a worker on the disk of this path leaves nothing. What is found by a recovery is told as
 -- `show` tells it.
-abbrev pub SaysUnleft : List ℕ → LeaveFault → PrinterState → ℕ → PrinterState → Type 0
-SaysUnleft path leave.NotParked old status new = SaysLine (restless_words path) 3 old status new
+abbrev pub SaysUnleft : List ℕ → LeaveFault → PrinterState → Status → PrinterState → Type 0
+SaysUnleft path leave.NotParked old status new =
+    SaysLine (restless_words path) exit.Refused old status new
 SaysUnleft path leave.StepsSpent old status new =
-    SaysLine (codes "failed P3 StepsSpent") 3 old status new
+    SaysLine (codes "failed P3 StepsSpent") exit.Refused old status new
 SaysUnleft path (leave.Recover why) old status new =
     IsSaid (status_on_disk (opening_fault why)) old status new
 
@@ -127,43 +134,44 @@ pub record HasRoomFor (config : Settings) (left : LegacyValue) : Type 0 where
   pub records : TakesRecords left.version config.journal
 
 -- It is said which of these it lacks, the room for files first.
-abbrev pub SaysRoomless : Settings → LegacyValue → PrinterState → ℕ → PrinterState → Type 0
+abbrev pub SaysRoomless : Settings → LegacyValue → PrinterState → Status → PrinterState → Type 0
 SaysRoomless config left old status new =
     ((config.files * UNIT_BYTES < used left.files)
-    × SaysLine (crowded_words (units_for (used left.files))) 3 old status new)
+    × SaysLine (crowded_words (units_for (used left.files))) exit.Refused old status new)
     ⊎ ((used left.files ≤ config.files * UNIT_BYTES)
-    × (TakesRecords left.version config.journal → ⊥) × SaysLine short_words 3 old status new)
+    × (TakesRecords left.version config.journal → ⊥)
+    × SaysLine short_words exit.Refused old status new)
 
 -- ---- the new disk in a file, or on a device
 
 module _ {F : Type 0} (handles : KnownHandles F) (files : KnownFiles F) where
   -- The disk was made in a new file at this path, of as many sectors as are needed, the worker was
-  -- created on it, and it was closed. Its file is left there where the status is 0, and else it was
-  -- to be removed.
+  -- created on it, and it was closed. Its file is left there where the status is `Done`, and else
+  -- it was to be removed.
   pub record IsSuccessorInFile (path bytes : List ℕ) (prepared : Prepared) (left : Handover)
-      (out out' err err' : PrinterState) (status : ℕ) : Type 0 where
+      (out out' err err' : PrinterState) (status : Status) : Type 0 where
     pub disk : FileDisk F
     pub disk' : FileDisk F
     pub made : IsMadeAt handles files path prepared.sectors disk
     pub closed : IsTrue (files.closed disk')
     pub succeeds :
         SucceedsOn file_medium bytes prepared.config left disk disk' out out' err err' status
-    pub keeps : status ≡ 0 → IsTrue (files.kept path)
-    pub removes : status ≢ 0 → IsTrue (files.removed path)
+    pub keeps : status ≡ exit.Done → IsTrue (files.kept path)
+    pub removes : status ≢ exit.Done → IsTrue (files.removed path)
 
   -- No file is made at this path, or none is left, and it is said why. Or one is made, and the
   -- worker created on it.
   abbrev pub SucceedsInFile : List ℕ → List ℕ → Prepared → Handover → PrinterState → PrinterState
-      → PrinterState → PrinterState → ℕ → Type 0
+      → PrinterState → PrinterState → Status → Type 0
   SucceedsInFile path bytes prepared left out out' err err' status =
       ((why : OpenFault) × IsUnmade handles files path prepared.sectors why
-      × SaysLine (open_words path why) 4 err status err' × (out' ≡ out))
+      × SaysLine (open_words path why) exit.IoError err status err' × (out' ≡ out))
       ⊎ IsSuccessorInFile path bytes prepared left out out' err err' status
 
   -- The disk is on the block device at this path, of as many sectors as are needed, the worker was
   -- created on it, and it was closed.
   pub record IsSuccessorOnDevice (path bytes : List ℕ) (prepared : Prepared) (left : Handover)
-      (out out' err err' : PrinterState) (status : ℕ) : Type 0 where
+      (out out' err err' : PrinterState) (status : Status) : Type 0 where
     pub disk : FileDisk F
     pub disk' : FileDisk F
     pub taken : IsTakenAt handles files path prepared.sectors disk
@@ -173,15 +181,15 @@ module _ {F : Type 0} (handles : KnownHandles F) (files : KnownFiles F) where
 
   -- It is said why the path can't be taken. Or the worker is created on the device that it names.
   abbrev pub SucceedsOnDevice : List ℕ → List ℕ → Prepared → Handover → PrinterState
-      → PrinterState → PrinterState → PrinterState → ℕ → Type 0
+      → PrinterState → PrinterState → PrinterState → Status → Type 0
   SucceedsOnDevice path bytes prepared left out out' err err' status =
       ((why : OpenFault) × IsUntaken handles files path prepared.sectors why
-      × SaysLine (open_words path why) 4 err status err' × (out' ≡ out))
+      × SaysLine (open_words path why) exit.IoError err status err' × (out' ≡ out))
       ⊎ IsSuccessorOnDevice path bytes prepared left out out' err err' status
 
   -- on a device that is there, where that is asked for, and in a new file where not
   abbrev pub MakesSuccessor : Bool → List ℕ → List ℕ → Prepared → Handover → PrinterState
-      → PrinterState → PrinterState → PrinterState → ℕ → Type 0
+      → PrinterState → PrinterState → PrinterState → Status → Type 0
   MakesSuccessor true path bytes prepared left out out' err err' status =
       SucceedsOnDevice path bytes prepared left out out' err err' status
   MakesSuccessor false path bytes prepared left out out' err err' status =
@@ -193,7 +201,7 @@ module _ {F : Type 0} (handles : KnownHandles F) (files : KnownFiles F) where
   -- goes on from it.
   abbrev pub SucceedsAsLeft : List ℕ → Bool → List ℕ → List ℕ → Prepared
       → Result Handover LeaveFault → PrinterState → PrinterState → PrinterState → PrinterState
-      → ℕ → Type 0
+      → Status → Type 0
   SucceedsAsLeft from on_device path bytes prepared (Err why) out out' err err' status =
       SaysUnleft from why err status err' × (out' ≡ out)
   SucceedsAsLeft from on_device path bytes prepared (Ok left) out out' err err' status =
@@ -203,7 +211,7 @@ module _ {F : Type 0} (handles : KnownHandles F) (files : KnownFiles F) where
 
   -- The old disk was opened at its path, only synced and read, and closed.
   pub record SucceedsFrom (from : List ℕ) (on_device : Bool) (path bytes : List ℕ)
-      (prepared : Prepared) (out out' err err' : PrinterState) (status : ℕ) : Type 0 where
+      (prepared : Prepared) (out out' err err' : PrinterState) (status : Status) : Type 0 where
     pub old : FileDisk F
     pub old' : FileDisk F
     pub opened : IsOpenedAt handles files from old
@@ -214,7 +222,7 @@ module _ {F : Type 0} (handles : KnownHandles F) (files : KnownFiles F) where
 
   -- It is said why the old disk isn't opened. Or it is, and the new worker succeeds the one on it.
   abbrev pub SucceedsDisk : List ℕ → Bool → List ℕ → List ℕ → Prepared → PrinterState
-      → PrinterState → PrinterState → PrinterState → ℕ → Type 0
+      → PrinterState → PrinterState → PrinterState → Status → Type 0
   SucceedsDisk from on_device path bytes prepared out out' err err' status =
       (SaysUnopened handles files false from err status err' × (out' ≡ out))
       ⊎ SucceedsFrom from on_device path bytes prepared out out' err err' status

@@ -21,6 +21,8 @@ use Rattle.worker.specs.rules.Effects.{RecoversWorker}
 use Rattle.worker.specs.rules.OneLife.{IsOneLife}
 use Rattle.worker.specs.rules.Outcomes.{life_outcome}
 use Rattle.command_words.specs.rules.Printers.{PrinterState, IsSaid, TellsPerson}
+use Rattle.command_words.specs.declared.status.Status.{Status}
+use Rattle.command_words.specs.declared.status.Status.TheVariants as exit
 use Rattle.disk_commands.specs.declared.on_disk.upgrading.Upgraded.{Upgraded}
 use Rattle.disk_commands.specs.declared.on_disk.upgrading.Upgraded.TheVariants.{Now, Before}
 use Rattle.disk_commands.specs.rules.BrokenLives.{BreaksInSliceFrom, steps_among}
@@ -60,9 +62,9 @@ IsOfUpgrade other = ⊤
 abbrev pub IsOfCaughtUp : WorkFault → Type 0
 IsOfCaughtUp why = why ≢ work.Upgrade NotCaughtUp
 
--- the exit status so far, which is 0 where there was no error
-abbrev pub status_so_far : {T : Type 0} → Result T ℕ → ℕ
-status_so_far (Ok done) = 0
+-- the exit status so far, which is done where there was no error
+abbrev pub status_so_far : {T : Type 0} → Result T Status → Status
+status_so_far (Ok done) = exit.Done
 status_so_far (Err status) = status
 
 -- The worker was recovered, and was of version 1. Then this disk and this outlet were left, to
@@ -116,8 +118,8 @@ pub record IsOfTwoBefore {D O : Type 0} (medium : D → Medium) (takes : Taking 
 -- A worker of version 1 has run on, and was upgraded, or it was of version 2 before: a person is
 -- told that it was recovered, where one reads along. Or it isn't opened, or a call of its life has
 -- failed. Then the status says why. It is never that the worker hadn't caught up.
-abbrev pub UpgradesOnDisk : {D O : Type 0} → (D → Medium) → Taking O → Result Upgraded ℕ → D → D
-    → O → O → PrinterState → PrinterState → Type 0
+abbrev pub UpgradesOnDisk : {D O : Type 0} → (D → Medium) → Taking O → Result Upgraded Status → D
+    → D → O → O → PrinterState → PrinterState → Type 0
 UpgradesOnDisk medium takes (Ok Now) found last outlet outlet' err err' =
     (lives : LivesToUpgrade medium takes (Ok []) found last outlet outlet') × HasRunOn lives
     × TellsPerson (recovered_line lives.worker) err err'

@@ -8,23 +8,25 @@ use Rattle.record_replay.specs.declared.slices.now.Now.TheVariants as now
 use Rattle.worker.specs.declared.position.Position.{Position}
 use Rattle.worker.specs.rules.DurableValues.{DurableValue}
 use Rattle.worker.specs.rules.Positions.{position_of}
-use Rattle.command_words.specs.rules.Printers.{PrinterState, SaysText}
+use Rattle.command_words.specs.rules.Printers.{PrinterState}
 use Rattle.command_words.specs.rules.Texts.{named_number}
+use Rattle.command_words.specs.declared.status.Status.{Status}
+use Rattle.command_words.specs.declared.status.Status.TheVariants as exit
 use Rattle.disk_commands.specs.declared.on_disk.sighting.Sighting.{Sighting}
-use Rattle.disk_commands.specs.declared.on_disk.sighting.State.{State}
-use Rattle.disk_commands.specs.declared.on_disk.sighting.State.TheVariants as state
-use Rattle.disk_commands.specs.rules.LastWords.{ended_by, last_words, over_words}
+use Rattle.disk_commands.specs.declared.on_disk.sighting.WatchedState.{WatchedState}
+use Rattle.disk_commands.specs.declared.on_disk.sighting.WatchedState.TheVariants as state
+use Rattle.disk_commands.specs.rules.LastWords.{SaysOver, ended_by, last_words}
 
 -- ---- where it is
 
 -- what a worker is whose slice has answered this
-abbrev pub state_after : Now → State
+abbrev pub state_after : Now → WatchedState
 state_after now.Spent = state.Running
 state_after now.Waiting = state.Parked
 state_after (now.Ended how) = state.Ended how
 
 -- these numbers, and what it is
-abbrev pub sighting : Position → State → Sighting
+abbrev pub sighting : Position → WatchedState → Sighting
 sighting position is = record { position = position; state = is }
 
 -- A worker whose last slice has answered this. Its numbers are those of the process as it is then,
@@ -35,26 +37,26 @@ sighting_of w said = sighting (position_of w) (state_after said)
 -- ---- its line
 
 -- a worker that runs on or waits, or the last words of one that is over
-abbrev pub watch_words : State → List ℕ
+abbrev pub watch_words : WatchedState → List ℕ
 watch_words state.Running = codes "running\n"
 watch_words state.Waiting = codes "waits for a request\n"
 watch_words state.Parked = last_words None
 watch_words (state.Ended how) = last_words (Some (ending_of how))
 
 -- how many sectors of its journal are left, and these words; old programs leave the number out
-abbrev pub left_words : Option ℕ → State → List ℕ
+abbrev pub left_words : Option ℕ → WatchedState → List ℕ
 left_words (Some left) is =
     named_number (codes "journal_left ") left ++ codes " " ++ watch_words is
 left_words None is = watch_words is
 
 -- how many requests it has taken, and those words; older programs leave out this number, too
-abbrev pub state_words : Option ℕ → Option ℕ → State → List ℕ
+abbrev pub state_words : Option ℕ → Option ℕ → WatchedState → List ℕ
 state_words (Some requests) left is =
     named_number (codes "requests ") requests ++ codes " " ++ left_words left is
 state_words None left is = watch_words is
 
 -- the line over its numbers, and what the worker is
-abbrev pub status_line : ℕ → ℕ → ℕ → ℕ → Option ℕ → Option ℕ → State → List ℕ
+abbrev pub status_line : ℕ → ℕ → ℕ → ℕ → Option ℕ → Option ℕ → WatchedState → List ℕ
 status_line generation steps answers lines requests left is =
     named_number (codes "generation ") generation ++ named_number (codes " steps ") steps
     ++ named_number (codes " answers ") answers ++ named_number (codes " lines ") lines
@@ -66,7 +68,7 @@ watch_line seen = status_line seen.position.generation seen.position.steps seen.
     seen.position.lines (Some seen.position.requests) (Some seen.position.journal_left) seen.state
 
 -- an exit code has 32 bits
-abbrev pub HasCodeInRange : State → Type 0
+abbrev pub HasCodeInRange : WatchedState → Type 0
 HasCodeInRange state.Running = Unit {0}
 HasCodeInRange state.Waiting = Unit {0}
 HasCodeInRange state.Parked = Unit {0}
@@ -81,7 +83,7 @@ pub record IsStatusLine (bytes : List ℕ) : Type 0 where
   pub lines : ℕ
   pub requests : Option ℕ
   pub left : Option ℕ
-  pub is : State
+  pub is : WatchedState
   pub numbers_fit : (generation < 2 ^ 64) × (steps < 2 ^ 64) × (answers < 2 ^ 64) × (lines < 2 ^ 64)
   pub requests_fit : IfSome requests (λ n. n < 2 ^ 64)
   pub left_fits : IfSome left (λ n. n < 2 ^ 64)
@@ -90,10 +92,10 @@ pub record IsStatusLine (bytes : List ℕ) : Type 0 where
 
 -- ---- at the end
 
--- Where the status is 0, a worker that is over was told to the watcher. The last words are of the
--- same end.
-abbrev pub WatchesEnd : (DurableValue → Now → Bool) → PrinterState → ℕ → Type 0
-WatchesEnd is_notified err' status = status ≡ 0
+-- Where the status is `Done`, a worker that is over was told to the watcher. The last words are of
+-- the same end.
+abbrev pub WatchesEnd : (DurableValue → Now → Bool) → PrinterState → Status → Type 0
+WatchesEnd is_notified err' status = status ≡ exit.Done
     → (w : DurableValue) × (said : Now) × (between : PrinterState) × (heard : Bool) × (taken : ℕ)
     × (said ≢ now.Spent) × IsTrue (is_notified w said)
-    × SaysText (over_words heard (ended_by said) taken) 0 between status err'
+    × SaysOver heard (ended_by said) taken between status err'

@@ -1,6 +1,6 @@
 //! `wasmhost files`.
 
-ghost use Rattle.std.specs.Prelude.{◌≡◌, ◌≤◌, IfOk, OnOk, Some, None, Ok, Err, option_map};
+ghost use Rattle.std.specs.Prelude.{◌≡◌, IfOk, OnOk, Some, None, Ok, Err, option_map};
 ghost use Rattle.std.specs.List.{flat_map};
 ghost use Rattle.std.specs.Io.KnownBytes.{Appends};
 ghost use Rattle.command_words.specs.rules.Printers.{IsSaid};
@@ -9,8 +9,7 @@ ghost use Rattle.disk_commands.specs.rules.Inspectings.{listed_path, listing_tex
 ghost use Rattle.disk_commands.specs.rules.Inspectings.{status_of_path};
 
 use crate::on_disk::{OnDiskFault, say_disk_fault};
-use command_words::status::{NO_MEMORY, REFUSED, UNWRITTEN};
-use command_words::{Obstacle, Printer, report, say_text};
+use command_words::{Obstacle, Printer, Status, report, say_text};
 use file_listing::{ListedNode, PathFault, list_nodes, read_path};
 use file_tree::Tree;
 use sector_disk::Disk;
@@ -59,9 +58,8 @@ fn say_list<W: Write + Drop, E: Write + Drop>(
     tree: &Tree,
     out: &mut Printer<W>,
     err: &mut Printer<E>,
-) -> u8
-    ensures says { SaysFiles tree.now None out.old out.new err.old err.new result }
-    ensures known { result ≤ 7 }
+) -> Status
+    ensures { SaysFiles tree.now None out.old out.new err.old err.new result }
 {
     match text_of(alloc, tree) {
         Ok(text) => say_text(out, text.as_slice()),
@@ -70,23 +68,22 @@ fn say_list<W: Write + Drop, E: Write + Drop>(
 }
 
 /// The exit status of a path that isn't that of a file.
-fn status_of_path(fault: PathFault) -> u8
+fn status_of_path(fault: PathFault) -> Status
     ensures { result ≡ status_of_path fault }
 {
     match fault {
-        PathFault::Memory => NO_MEMORY,
-        PathFault::Missing | PathFault::Directory => REFUSED,
+        PathFault::Memory => Status::OutOfMemory,
+        PathFault::Missing | PathFault::Directory => Status::Refused,
     }
 }
 
 /// Says why there are no bytes under a path. Answers the exit status.
-fn say_path_fault<E: Write + Drop>(err: &mut Printer<E>, fault: PathFault) -> u8
-    ensures said { IsSaid (status_of_path fault) err.old result err.new }
-    ensures known { result ≤ 7 }
+fn say_path_fault<E: Write + Drop>(err: &mut Printer<E>, fault: PathFault) -> Status
+    ensures { IsSaid (status_of_path fault) err.old result err.new }
 {
     match writeln!(err, "failed {fault}") {
         Ok(()) => status_of_path(fault),
-        Err(_) => UNWRITTEN,
+        Err(_) => Status::Unwritten,
     }
 }
 
@@ -107,9 +104,8 @@ fn say_file<W: Write + Drop, E: Write + Drop>(
     path: &[u8],
     out: &mut Printer<W>,
     err: &mut Printer<E>,
-) -> u8
-    ensures says { SaysFiles tree.now (Some path.now) out.old out.new err.old err.new result }
-    ensures known { result ≤ 7 }
+) -> Status
+    ensures { SaysFiles tree.now (Some path.now) out.old out.new err.old err.new result }
 {
     match read_path(alloc, tree, listed_path(path)) {
         Ok(bytes) => say_text(out, bytes.as_slice()),
@@ -124,10 +120,9 @@ fn say_files<W: Write + Drop, E: Write + Drop>(
     path: Option<&str>,
     out: &mut Printer<W>,
     err: &mut Printer<E>,
-) -> u8
-    ensures says { SaysFiles tree.now (option_map (λ text. text.now) path.entry) out.old out.new
+) -> Status
+    ensures { SaysFiles tree.now (option_map (λ text. text.now) path.entry) out.old out.new
         err.old err.new result }
-    ensures known { result ≤ 7 }
 {
     match path {
         Some(path) => say_file(alloc, tree, path.as_bytes(), out, err),
@@ -136,19 +131,19 @@ fn say_files<W: Write + Drop, E: Write + Drop>(
 }
 
 /// Lists the files of the process that was saved last on a worker's disk, or writes the one under a
-/// path. Nothing is changed on the disk, but that it is synced. Answers the exit status: 0 where
-/// they are listed or written, 3 for a disk that is refused or a path that isn't that of a file, 4
-/// where the disk fails, 5 for out of memory, 7 where a write of a printer has failed.
+/// path. Nothing is changed on the disk, but that it is synced. Answers the exit status: `Done`
+/// where they are listed or written, `Refused` for a disk that is refused or a path that isn't that
+/// of a file, `IoError` where the disk fails, `OutOfMemory`, `Unwritten` where a write of a printer
+/// has failed.
 pub fn list_files<D: Disk, W: Write + Drop, E: Write + Drop>(
     alloc: Global,
     disk: &mut D,
     path: Option<&str>,
     out: &mut Printer<W>,
     err: &mut Printer<E>,
-) -> u8
-    ensures tells { TellsFiles (option_map (λ text. text.now) path.entry) (D.medium disk.old)
+) -> Status
+    ensures { TellsFiles (option_map (λ text. text.now) path.entry) (D.medium disk.old)
         (D.medium disk.new) out.old out.new err.old err.new result }
-    ensures known { result ≤ 7 }
 {
     match inspect(alloc, disk) {
         Ok(told) => {

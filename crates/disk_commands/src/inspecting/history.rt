@@ -9,7 +9,7 @@ ghost use Rattle.disk_commands.specs.rules.Histories.{history_text, step_of_last
 ghost use Rattle.disk_commands.specs.rules.Histories.{records_text};
 
 use crate::on_disk::{OnDiskFault, say_disk_fault};
-use command_words::{Obstacle, Printer, report, say_text, spell_answer, spell_record};
+use command_words::{Obstacle, Printer, Status, report, say_text, spell_answer, spell_record};
 use disk_layout::Record;
 use sector_disk::Disk;
 use std::alloc::Global;
@@ -120,9 +120,8 @@ fn say_history<W: Write + Drop, E: Write + Drop>(
     as_story: bool,
     out: &mut Printer<W>,
     err: &mut Printer<E>,
-) -> u8
-    ensures says { SaysHistory as_story (Ok told.now) out.old out.new err.old err.new result }
-    ensures known { result ≤ 7 }
+) -> Status
+    ensures { SaysHistory as_story (Ok told.now) out.old out.new err.old err.new result }
 {
     match text_of(alloc, told, as_story) {
         Ok(text) => say_text(out, text.as_slice()),
@@ -131,19 +130,18 @@ fn say_history<W: Write + Drop, E: Write + Drop>(
 }
 
 /// Prints the records after the newest snapshot of a worker's disk, one a line or as a script of
-/// `story`. Nothing is changed on the disk, but that it is synced. Answers the exit status: 0 where
-/// they are printed, 3 for a disk that is refused, 4 where it fails, 5 for out of memory, 7 where a
-/// write of a printer has failed.
+/// `story`. Nothing is changed on the disk, but that it is synced. Answers the exit status: `Done`
+/// where they are printed, `Refused` for a disk that is refused, `IoError` where it fails,
+/// `OutOfMemory`, `Unwritten` where a write of a printer has failed.
 pub fn tell_history<D: Disk, W: Write + Drop, E: Write + Drop>(
     alloc: Global,
     disk: &mut D,
     as_story: bool,
     out: &mut Printer<W>,
     err: &mut Printer<E>,
-) -> u8
-    ensures tells { TellsHistory as_story (D.medium disk.old) (D.medium disk.new) out.old out.new
+) -> Status
+    ensures { TellsHistory as_story (D.medium disk.old) (D.medium disk.new) out.old out.new
         err.old err.new result }
-    ensures known { result ≤ 7 }
 {
     match inspect(alloc, disk) {
         Ok(told) => {

@@ -1,6 +1,6 @@
 //! `wasmhost inspect`.
 
-ghost use Rattle.std.specs.Prelude.{◌≡◌, ◌≤◌, IfOk, Ok, string_bytes};
+ghost use Rattle.std.specs.Prelude.{◌≡◌, IfOk, Ok, string_bytes};
 ghost use Rattle.hex.specs.Hex.{encode_lower};
 ghost use Rattle.sha2.specs.Sha256.{sha256};
 ghost use Rattle.disk_commands.specs.rules.DiskFacts.{disk_facts};
@@ -11,7 +11,7 @@ use crate::inspecting::fact_json::json_of_facts;
 use crate::inspecting::fact_text::text_of_facts;
 use crate::inspecting::facts::add_facts;
 use crate::on_disk::{OnDiskFault, say_disk_fault};
-use command_words::{Obstacle, Printer, report, say_text};
+use command_words::{Obstacle, Printer, Status, report, say_text};
 use sector_disk::Disk;
 use sha2::{Digest, Sha256};
 use std::alloc::{AllocError, Global};
@@ -48,9 +48,8 @@ fn say_inspection<W: Write + Drop, E: Write + Drop>(
     as_json: bool,
     out: &mut Printer<W>,
     err: &mut Printer<E>,
-) -> u8
-    ensures says { SaysInspected as_json (Ok told.now) out.old out.new err.old err.new result }
-    ensures known { result ≤ 7 }
+) -> Status
+    ensures { SaysInspected as_json (Ok told.now) out.old out.new err.old err.new result }
 {
     match text_of(alloc, told, as_json) {
         Ok(text) => say_text(out, text.as_slice()),
@@ -59,19 +58,18 @@ fn say_inspection<W: Write + Drop, E: Write + Drop>(
 }
 
 /// Prints all that is on a worker's disk, as one JSON value or one fact a line. Nothing is changed
-/// on the disk, but that it is synced. Answers the exit status: 0 where the facts are printed, 3
-/// for a disk that is refused, 4 where it fails, 5 for out of memory, 7 where a write of a printer
-/// has failed.
+/// on the disk, but that it is synced. Answers the exit status: `Done` where the facts are printed,
+/// `Refused` for a disk that is refused, `IoError` where it fails, `OutOfMemory`, `Unwritten` where
+/// a write of a printer has failed.
 pub fn inspect_disk<D: Disk, W: Write + Drop, E: Write + Drop>(
     alloc: Global,
     disk: &mut D,
     as_json: bool,
     out: &mut Printer<W>,
     err: &mut Printer<E>,
-) -> u8
-    ensures tells { TellsDisk as_json (D.medium disk.old) (D.medium disk.new) out.old out.new
+) -> Status
+    ensures { TellsDisk as_json (D.medium disk.old) (D.medium disk.new) out.old out.new
         err.old err.new result }
-    ensures known { result ≤ 7 }
 {
     match inspect(alloc, disk) {
         Ok(told) => {

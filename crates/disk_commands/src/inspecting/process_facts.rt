@@ -81,7 +81,7 @@ fn frame_values(alloc: Global, machine: &Machine) -> Result<Vec<FactValue<'stati
     let mut values = Vec::new(alloc);
     let count = machine.frame_count();
     for index in 0..count {
-        let place = machine.place(index);
+        let place = machine.frame(index);
         let frame = frame_value(alloc, place.function, place.position, place.slots)?;
         values.push(frame)?;
     }

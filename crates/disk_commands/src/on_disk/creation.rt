@@ -1,12 +1,13 @@
 //! `wasmhost create`, on a disk that was made.
 
-ghost use Rattle.std.specs.Prelude.{◌≡◌, ◌≤◌, true, OnErr, OnOk};
+ghost use Rattle.std.specs.Prelude.{◌≡◌, true, OnErr, OnOk};
 ghost use Rattle.command_words.specs.rules.Printers.{IsPrinted};
 ghost use Rattle.command_words.specs.rules.Reports.{SaysOnOutput};
+ghost use Rattle.command_words.specs.declared.status.Status.TheVariants as exit;
 ghost use Rattle.disk_commands.specs.rules.Creations.{CreatesOn, created_line};
 
 use crate::on_disk::fault::{OnDiskFault, say_disk_fault};
-use command_words::{Obstacle, Printer, report, sectors_of};
+use command_words::{Obstacle, Printer, Status, report, sectors_of};
 use sector_disk::Disk;
 use std::alloc::Global;
 use std::io::{self, Write};
@@ -27,19 +28,20 @@ fn say_created<W: Write + Drop, E: Write + Drop>(
     out: &mut Printer<W>,
     sectors: u64,
     err: &mut Printer<E>,
-) -> u8
-    ensures { SaysOnOutput (created_line sectors) 0 out.old out.new err.old err.new result }
+) -> Status
+    ensures { SaysOnOutput (created_line sectors) exit.Done out.old out.new err.old err.new result }
 {
     match print_created(out, sectors) {
-        Ok(()) => 0,
+        Ok(()) => Status::Done,
         Err(_) => report(err, Obstacle::Unwritten),
     }
 }
 
 /// Creates a worker of the module that the bytes spell, on this disk, and says how many sectors it
-/// has. Answers the exit status: 0 where it is created, 3 for a module that isn't accepted and a
-/// disk with too few sectors, 4 where the disk fails, 5 for out of memory, 7 where a write of a
-/// printer has failed. One of the output is told on the error output.
+/// has. Answers the exit status: `Done` where it is created, `Refused` for a module that isn't
+/// accepted and a disk with too few sectors, `IoError` where the disk fails, `OutOfMemory`,
+/// `Unwritten` where a write of a printer has failed. One of the output is told on the error
+/// output.
 pub fn create_on<D: Disk, W: Write + Drop, E: Write + Drop>(
     alloc: Global,
     disk: &mut D,
@@ -47,10 +49,9 @@ pub fn create_on<D: Disk, W: Write + Drop, E: Write + Drop>(
     config: &Config,
     out: &mut Printer<W>,
     err: &mut Printer<E>,
-) -> u8
-    ensures creates { CreatesOn D.medium wasm.now config.now disk.old disk.new
+) -> Status
+    ensures { CreatesOn D.medium wasm.now config.now disk.old disk.new
         out.old out.new err.old err.new result }
-    ensures known { result ≤ 7 }
 {
     match Worker::create(alloc, disk, wasm, config) {
         Ok(worker) => {

@@ -7,18 +7,22 @@
 //!   path was refused, or a call of that file has failed (`SaysUnopened`).
 //! - `look_at_file` opens the disk at the path, says of it what `survey`, `inspect_disk`,
 //!   `list_files` or `tell_history` says, and closes it (`TellsFile`). What is printed is of that
-//!   disk, whatever image was on it.
+//!   disk, whatever image was on it. Of a live disk it says that of a picture, which it has taken
+//!   of the disk at the path without writing, syncing or locking it.
 
-ghost use Rattle.std.specs.Prelude.{◌≡◌, ◌≤◌, ◌<◌, [], IfErr, IfOk, IsTrue, OnOk};
+ghost use Rattle.std.specs.Prelude.{◌≡◌, ◌<◌, [], IfErr, IfOk, IsTrue, OnOk};
 ghost use Rattle.sector_disk.specs.rules.File.{answers_of, file_medium};
 ghost use Rattle.command_words.specs.rules.Reports.{SaysLine, obstacle_words};
+ghost use Rattle.command_words.specs.declared.status.Status.TheVariants as exit;
 ghost use Rattle.disk_commands.specs.rules.Openings.{IsOpenedFor, IsWrittenBack, SaysUnopened};
-ghost use Rattle.disk_commands.specs.rules.LookedFiles.{TellsFile, TellsLook};
+ghost use Rattle.disk_commands.specs.rules.LookedFiles.{TellsFile, TellsLook, TellsOpened};
+ghost use Rattle.disk_commands.specs.rules.LookedFiles.{TellsPicture};
 
 use crate::inspecting::{inspect_disk, list_files, tell_history};
+use crate::on_disk::live::picture_of;
 use crate::on_disk::opening::report_open;
 use crate::on_disk::showing::survey;
-use command_words::{Obstacle, Printer, report};
+use command_words::{Obstacle, Printer, Status, report};
 use sector_disk::{Disk, DiskFile, DiskFiles, FileDisk, rewrite};
 use std::alloc::Global;
 use std::io::Write;
@@ -29,7 +33,7 @@ fn written_back<F: DiskFile, R: DiskFiles<File = F>, E: Write + Drop>(
     files: &R,
     disk: FileDisk<F>,
     err: &mut Printer<E>,
-) -> Result<FileDisk<F>, u8>
+) -> Result<FileDisk<F>, Status>
     requires { answers_of disk ≡ [] }
     ensures written { IfOk result (IsWrittenBack disk) }
     ensures quiet { OnOk result (err.new ≡ err.old) }
@@ -37,8 +41,7 @@ fn written_back<F: DiskFile, R: DiskFiles<File = F>, E: Write + Drop>(
         × ((file_medium disk).faults < (file_medium left).faults)
         × IsTrue ((R.known files.now).closed left)) }
     ensures said { IfErr result (λ status.
-        SaysLine (obstacle_words Obstacle.Unread) 4 err.old status err.new) }
-    ensures known { IfErr result (λ status. status ≤ 7) }
+        SaysLine (obstacle_words Obstacle.Unread) exit.IoError err.old status err.new) }
 {
     let mut disk = disk;
     match rewrite(&mut disk) {
@@ -58,7 +61,7 @@ pub fn open_disk<F, R, E>(
     path: &str,
     rewrites: bool,
     err: &mut Printer<E>,
-) -> Result<FileDisk<F>, u8>
+) -> Result<FileDisk<F>, Status>
 where
     F: DiskFile,
     R: DiskFiles<File = F>,
@@ -67,7 +70,6 @@ where
     ensures quiet { OnOk result (err.new ≡ err.old) }
     ensures said { IfErr result (λ status. SaysUnopened F.known (R.known files.now) rewrites
         path.now err.old status err.new) }
-    ensures known { IfErr result (λ status. status ≤ 7) }
 {
     let disk = match FileDisk::open(files, path) {
         Ok(disk) => disk,
@@ -99,10 +101,9 @@ fn look_at<D: Disk, W: Write + Drop, E: Write + Drop>(
     look: Look<'_>,
     out: &mut Printer<W>,
     err: &mut Printer<E>,
-) -> u8
-    ensures tells { TellsLook look.entry (D.medium disk.old) (D.medium disk.new) out.old out.new
+) -> Status
+    ensures { TellsLook look.entry (D.medium disk.old) (D.medium disk.new) out.old out.new
         err.old err.new result }
-    ensures known { result ≤ 7 }
 {
     match look {
         Look::Survey => survey(alloc, disk, out, err),
@@ -112,24 +113,23 @@ fn look_at<D: Disk, W: Write + Drop, E: Write + Drop>(
     }
 }
 
-/// `wasmhost show`, `inspect`, `files` and `history` of the disk in a file: it is opened, only
-/// looked at, and closed. Returns the exit status.
-pub fn look_at_file<F, R, W, E>(
+/// Opens the disk in a file, which no other host may have meanwhile, says what is asked for, and
+/// closes it. Returns the exit status.
+fn look_at_opened<F, R, W, E>(
     alloc: Global,
     files: &R,
     path: &str,
     look: Look<'_>,
     out: &mut Printer<W>,
     err: &mut Printer<E>,
-) -> u8
+) -> Status
 where
     F: DiskFile,
     R: DiskFiles<File = F>,
     W: Write + Drop,
     E: Write + Drop,
-    ensures tells { TellsFile F.known (R.known files.now) look.entry path.now out.old out.new
+    ensures { TellsOpened F.known (R.known files.now) look.entry path.now out.old out.new
         err.old err.new result }
-    ensures known { result ≤ 7 }
 {
     match open_disk(files, path, false, err) {
         Ok(mut disk) => {
@@ -139,4 +139,65 @@ where
         }
         Err(status) => status,
     }
+}
+
+/// Takes a picture of the disk in a file, which another host may have, and says what is asked for.
+/// Returns the exit status.
+fn look_at_picture<F, R, W, E>(
+    alloc: Global,
+    files: &R,
+    path: &str,
+    look: Look<'_>,
+    out: &mut Printer<W>,
+    err: &mut Printer<E>,
+) -> Status
+where
+    F: DiskFile,
+    R: DiskFiles<File = F>,
+    W: Write + Drop,
+    E: Write + Drop,
+    ensures { TellsPicture F.known (R.known files.now) look.entry path.now out.old out.new
+        err.old err.new result }
+{
+    match picture_of(alloc, files, path, err) {
+        Ok(mut picture) => {
+            let status = look_at(alloc, &mut picture, look, out, err);
+            drop(picture);
+            status
+        }
+        Err(status) => status,
+    }
+}
+
+/// The disk in a file that is to be looked at.
+#[derive(Clone, Copy, Debug, PartialEq, Eq)]
+pub struct Seen<'a> {
+    /// The path of the file.
+    pub path: &'a str,
+    /// Whether its worker may run meanwhile. Then a picture of it is looked at.
+    pub is_live: bool,
+}
+
+/// `wasmhost show`, `inspect`, `files` and `history` of the disk in a file: it is opened, only
+/// looked at, and closed. Returns the exit status.
+pub fn look_at_file<F, R, W, E>(
+    alloc: Global,
+    files: &R,
+    seen: Seen<'_>,
+    look: Look<'_>,
+    out: &mut Printer<W>,
+    err: &mut Printer<E>,
+) -> Status
+where
+    F: DiskFile,
+    R: DiskFiles<File = F>,
+    W: Write + Drop,
+    E: Write + Drop,
+    ensures { TellsFile F.known (R.known files.now) look.entry seen.entry.path.now out.old
+        out.new err.old err.new result seen.entry.is_live }
+{
+    if seen.is_live {
+        return look_at_picture(alloc, files, seen.path, look, out, err);
+    }
+    look_at_opened(alloc, files, seen.path, look, out, err)
 }

@@ -2,7 +2,7 @@
 //!
 //! # Choices
 //!
-//! - The last words of a worker that is over are part of what status 0 says. Those of a run that
+//! - The last words of a worker that is over are part of what `Done` says. Those of a run that
 //!   fails are printed by derived `Display`s, which no clause knows: its status is proved, and
 //!   tests show its words.
 //! - **The last words are read off the calls of that life** (`outcome_after`), not said beside
@@ -10,15 +10,17 @@
 //!   `parked` for a worker that had exited.
 
 ghost use Rattle.std.specs.Prelude.{◌≡◌, ◌+◌, true, OnErr, OnOk};
-ghost use Rattle.command_words.specs.rules.Printers.{IsPrinted, SaysText};
-ghost use Rattle.disk_commands.specs.rules.LastWords.{ended_by, last_words, next_line};
-ghost use Rattle.disk_commands.specs.rules.LastWords.{over_words, request_words};
+ghost use Rattle.command_words.specs.rules.Printers.{IsPrinted};
+ghost use Rattle.disk_commands.specs.rules.LastWords.{PrintsOver, SaysOver, ended_by, last_words};
+ghost use Rattle.disk_commands.specs.rules.LastWords.{next_line, request_words};
 
-use command_words::status::UNWRITTEN;
-use command_words::{Printer, trap_name};
+use crate::on_disk::trap_frames::print_trap;
+use crate::on_disk::watching::Watcher;
+use command_words::{Printer, Status, trap_name};
 use process::ProcessEnd;
 use record_replay::Now;
 use std::io::{self, Write};
+use worker::Worker;
 
 /// Writes the last words of a worker that is over.
 pub(super) fn print_last_words<E: Write + Drop>(err: &mut Printer<E>, now: Now) -> io::Result<()>
@@ -68,27 +70,37 @@ fn print_next<E: Write + Drop>(
     }
 }
 
-/// Writes the last words of a worker that is over, and that line.
-fn print_over<E: Write + Drop>(
+/// Writes the last words of a worker that is over, the lines of its frames, and that line.
+fn print_over<E: Write + Drop, T: Watcher>(
     err: &mut Printer<E>,
     is_heard: bool,
     now: Now,
     taken: u64,
+    worker: &Worker,
+    watcher: &T,
 ) -> io::Result<()>
-    ensures printed { OnOk result (IsPrinted err.old err.new
-        (over_words is_heard (ended_by now) taken)) }
+    ensures printed { OnOk result (PrintsOver is_heard (ended_by now) taken err.old err.new) }
     ensures failed { OnErr result (err.new.failed ≡ true) }
 {
     print_last_words(err, now)?;
+    print_trap(err, now, worker, watcher)?;
     print_next(err, is_heard, now, taken)
 }
 
-/// Says how a worker is over, which has taken so many requests, and answers the exit status.
-pub(super) fn say<E: Write + Drop>(err: &mut Printer<E>, is_heard: bool, now: Now, taken: u64) -> u8
-    ensures { SaysText (over_words is_heard (ended_by now) taken) 0 err.old result err.new }
+/// Says how a worker is over, which has taken so many requests, and answers the exit status. Where
+/// it has trapped, its frames are said, too.
+pub(super) fn say<E: Write + Drop, T: Watcher>(
+    err: &mut Printer<E>,
+    is_heard: bool,
+    now: Now,
+    taken: u64,
+    worker: &Worker,
+    watcher: &T,
+) -> Status
+    ensures { SaysOver is_heard (ended_by now) taken err.old result err.new }
 {
-    match print_over(err, is_heard, now, taken) {
-        Ok(()) => 0,
-        Err(_) => UNWRITTEN,
+    match print_over(err, is_heard, now, taken, worker, watcher) {
+        Ok(()) => Status::Done,
+        Err(_) => Status::Unwritten,
     }
 }

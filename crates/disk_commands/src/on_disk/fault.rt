@@ -4,8 +4,8 @@
 //!
 //! - **While a worker is opened, a fault of the disk is printed as that, and one of the output as
 //!   one of a replay.** Later both are faults of a call: `N1 Disk` and `N3 Outlet`.
-//! - **What the store refuses has status 3.** It is never out of memory or a fault of the disk:
-//!   those are printed as such.
+//! - **What the store refuses has `Refused`.** Neither out of memory nor a fault of the disk is
+//!   among that: both are printed as such.
 
 ghost use Rattle.std.specs.Prelude.{◌≡◌};
 ghost use Rattle.command_words.specs.rules.Printers.{IsSaid};
@@ -15,8 +15,7 @@ ghost use Rattle.disk_commands.specs.rules.DiskStatuses.{status_of_recovery};
 ghost use Rattle.disk_commands.specs.rules.DiskStatuses.{status_on_disk};
 ghost use Rattle.disk_commands.specs.rules.DiskStatuses.{status_of_work};
 
-use command_words::status::{NO_MEMORY, REFUSED, UNREAD, UNWRITTEN, status_of_line};
-use command_words::{LineFault, Printer};
+use command_words::{LineFault, Printer, Status, status_of_line};
 use record_replay::{ReplayFault, SliceFault};
 use sector_disk::DiskFault;
 use std::io::Write;
@@ -60,40 +59,40 @@ impl From<WorkFault> for OnDiskFault {
 }
 
 /// The exit status of a disk that failed before a worker was open.
-fn status_of_disk(fault: DiskFault) -> u8
+fn status_of_disk(fault: DiskFault) -> Status
     ensures { result ≡ status_of_disk fault }
 {
     match fault {
-        DiskFault::Memory => NO_MEMORY,
-        DiskFault::Range | DiskFault::Io | DiskFault::Cut => UNREAD,
+        DiskFault::Memory => Status::OutOfMemory,
+        DiskFault::Range | DiskFault::Io | DiskFault::Cut => Status::IoError,
     }
 }
 
 /// The exit status of what a call of a worker on its disk says.
-fn status_of_call(fault: WorkFault) -> u8
+fn status_of_call(fault: WorkFault) -> Status
     ensures { result ≡ status_of_call fault }
 {
     match fault {
         WorkFault::Work(fault) => status_of_work(fault),
-        WorkFault::Disk(_) => UNREAD,
-        WorkFault::Store(_) | WorkFault::Upgrade(_) => REFUSED,
+        WorkFault::Disk(_) => Status::IoError,
+        WorkFault::Store(_) | WorkFault::Upgrade(_) => Status::Refused,
     }
 }
 
 /// The exit status of a recovery that fails, but for a fault of the disk.
-fn status_of_recovery(fault: RecoverFault) -> u8
+fn status_of_recovery(fault: RecoverFault) -> Status
     ensures { result ≡ status_of_recovery fault }
 {
     match fault {
         RecoverFault::Worker(fault) => status_of_call(fault),
-        RecoverFault::Replay(ReplayFault::Diverged) => REFUSED,
-        RecoverFault::Replay(ReplayFault::Memory) => NO_MEMORY,
-        RecoverFault::Replay(ReplayFault::Outlet) => UNWRITTEN,
+        RecoverFault::Replay(ReplayFault::Diverged) => Status::Refused,
+        RecoverFault::Replay(ReplayFault::Memory) => Status::OutOfMemory,
+        RecoverFault::Replay(ReplayFault::Outlet) => Status::Unwritten,
         other => {
             if other.is_want_of_memory() {
-                NO_MEMORY
+                Status::OutOfMemory
             } else {
-                REFUSED
+                Status::Refused
             }
         }
     }
@@ -101,7 +100,7 @@ fn status_of_recovery(fault: RecoverFault) -> u8
 
 impl OnDiskFault {
     /// The exit status.
-    pub(crate) fn status(self) -> u8
+    pub(crate) fn status(self) -> Status
         ensures { result ≡ status_on_disk self }
     {
         match self {
@@ -113,27 +112,27 @@ impl OnDiskFault {
     }
 }
 
-/// Prints why a worker on its disk isn't opened, or fails, and answers the exit status, or 7 where
-/// a write has failed.
-pub(crate) fn say_disk_fault<E: Write + Drop>(err: &mut Printer<E>, fault: OnDiskFault) -> u8
+/// Prints why a worker on its disk isn't opened, or fails, and answers the exit status, or
+/// `Unwritten` where a write has failed.
+pub(crate) fn say_disk_fault<E: Write + Drop>(err: &mut Printer<E>, fault: OnDiskFault) -> Status
     ensures { IsSaid (status_on_disk fault) err.old result err.new }
 {
     let said = writeln!(err, "{fault}");
     if said.is_ok() && err.flush().is_ok() {
         fault.status()
     } else {
-        UNWRITTEN
+        Status::Unwritten
     }
 }
 
 /// The exit status of what a worker's call says.
-pub(crate) fn status_of_work(fault: SliceFault) -> u8
+pub(crate) fn status_of_work(fault: SliceFault) -> Status
     ensures { result ≡ status_of_work fault }
 {
     match fault {
-        SliceFault::Refused(_) => REFUSED,
-        SliceFault::Source | SliceFault::Failed => UNREAD,
-        SliceFault::Memory => NO_MEMORY,
-        SliceFault::Outlet => UNWRITTEN,
+        SliceFault::Refused(_) => Status::Refused,
+        SliceFault::Source | SliceFault::Failed => Status::IoError,
+        SliceFault::Memory => Status::OutOfMemory,
+        SliceFault::Outlet => Status::Unwritten,
     }
 }

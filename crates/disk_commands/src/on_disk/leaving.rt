@@ -9,26 +9,26 @@
 //!
 //! # Choices
 //!
-//! - **A refused line's number is counted by the reader of lines**, and printed after the run. That
-//!   it is the number of that line no clause says: `scripts/runs/disk-rows` has rows of it. Lines
-//!   that are passed over are counted by the source of requests. That each one is, no clause says
-//!   either: `scripts/runs/program-rows` has rows of it. What is printed of requests that nobody
+//! - **A refused line's number is counted by the reader of lines**, and printed after the run. No
+//!   clause says that it is the number of that line: `scripts/runs/disk-rows` has rows of it. Lines
+//!   that are passed over are counted by the source of requests. No clause says either that each
+//!   one is: `scripts/runs/program-rows` has rows of it. What is printed of requests that nobody
 //!   took is a function of the bytes that were read ahead (`SaysUntaken`). Reading on could wait
 //!   for ever, so nothing more is read.
 
-ghost use Rattle.std.specs.Prelude.{◌≡◌, ◌≤◌, ◌++◌, true, OnErr, OnOk, Option, codes};
+ghost use Rattle.std.specs.Prelude.{◌≡◌, ◌++◌, true, OnErr, OnOk, Option, codes};
 ghost use Rattle.std.specs.Fmt.{decimal};
 ghost use Rattle.std.specs.Io.Buffered.{reader_buffer};
 ghost use Rattle.command_words.specs.declared.lines.flaw.LineFlaw.{LineFlaw as Flaw};
 ghost use Rattle.command_words.specs.rules.Flaws.{IsFlawIn, flaw_line, flaw_words};
 ghost use Rattle.command_words.specs.rules.Printers.{IsPrinted, SaysText};
+ghost use Rattle.command_words.specs.declared.status.Status.TheVariants as exit;
 ghost use Rattle.disk_commands.specs.rules.Leavings.{SaysUntaken, SaysOfInput, untaken_line};
 ghost use Rattle.disk_commands.specs.rules.Leavings.{TellsSkipped, place_line, skipped_line};
 
-use command_words::status::{BAD_LINE, UNWRITTEN};
 use command_words::{
-    BufferedLines, LineFlaw, Printer, RealTime, RequestSource, count_later, flaw_in, words_of_cut,
-    words_of_limit,
+    BufferedLines, LineFlaw, Printer, RealTime, RequestSource, Status, count_later, flaw_in,
+    words_of_cut, words_of_limit,
 };
 use std::io::{self, BufReader, Read, Write};
 use wasi_abi::Version;
@@ -37,39 +37,36 @@ use wasi_abi::Version;
 const FORM: &str = "a request is N r TEXT or N e, with N from 1 on";
 
 /// Says which line of the input was refused, and answers the exit status.
-fn say_place<E: Write + Drop>(err: &mut Printer<E>, number: u64) -> u8
-    ensures said { SaysText (place_line number) 6 err.old result err.new }
-    ensures known { result ≤ 7 }
+fn say_place<E: Write + Drop>(err: &mut Printer<E>, number: u64) -> Status
+    ensures { SaysText (place_line number) exit.BadLine err.old result err.new }
 {
     match writeln!(err, "at input line {number}") {
-        Ok(()) => BAD_LINE,
-        Err(_) => UNWRITTEN,
+        Ok(()) => Status::BadLine,
+        Err(_) => Status::Unwritten,
     }
 }
 
 /// Says which line of the input was refused, and on a line of its own what is wrong with it.
 /// Answers the exit status.
-fn say_flawed<E: Write + Drop>(err: &mut Printer<E>, number: u64, words: &str) -> u8
-    ensures said { SaysText (place_line number ++ words.now ++ codes "\n") 6 err.old result
+fn say_flawed<E: Write + Drop>(err: &mut Printer<E>, number: u64, words: &str) -> Status
+    ensures { SaysText (place_line number ++ words.now ++ codes "\n") exit.BadLine err.old result
         err.new }
-    ensures known { result ≤ 7 }
 {
     match writeln!(err, "at input line {number}\n{words}") {
-        Ok(()) => BAD_LINE,
-        Err(_) => UNWRITTEN,
+        Ok(()) => Status::BadLine,
+        Err(_) => Status::Unwritten,
     }
 }
 
 /// Says which line of the input was refused, that its text has so many bytes, and how long one may
 /// be. Answers the exit status.
-fn say_long<E: Write + Drop>(err: &mut Printer<E>, number: u64, bytes: usize, limit: &str) -> u8
-    ensures said { SaysText (place_line number ++ (decimal bytes ++ codes " bytes, and "
-        ++ limit.now) ++ codes "\n") 6 err.old result err.new }
-    ensures known { result ≤ 7 }
+fn say_long<E: Write + Drop>(err: &mut Printer<E>, number: u64, bytes: usize, limit: &str) -> Status
+    ensures { SaysText (place_line number ++ (decimal bytes ++ codes " bytes, and "
+        ++ limit.now) ++ codes "\n") exit.BadLine err.old result err.new }
 {
     match writeln!(err, "at input line {number}\n{bytes} bytes, and {limit}") {
-        Ok(()) => BAD_LINE,
-        Err(_) => UNWRITTEN,
+        Ok(()) => Status::BadLine,
+        Err(_) => Status::Unwritten,
     }
 }
 
@@ -79,10 +76,9 @@ fn say_flaw<E: Write + Drop>(
     number: u64,
     version: Version,
     flaw: LineFlaw,
-) -> u8
-    ensures said { SaysText (place_line number ++ flaw_words version flaw ++ codes "\n") 6 err.old
-        result err.new }
-    ensures known { result ≤ 7 }
+) -> Status
+    ensures { SaysText (place_line number ++ flaw_words version flaw ++ codes "\n") exit.BadLine
+        err.old result err.new }
 {
     match flaw {
         LineFlaw::Long { bytes } => say_long(err, number, bytes, words_of_limit(version)),
@@ -98,10 +94,9 @@ fn say_refused<E: Write + Drop>(
     number: u64,
     version: Version,
     flaw: Option<LineFlaw>,
-) -> u8
-    ensures said { SaysText (place_line number ++ flaw_line version flaw) 6 err.old result
+) -> Status
+    ensures { SaysText (place_line number ++ flaw_line version flaw) exit.BadLine err.old result
         err.new }
-    ensures known { result ≤ 7 }
 {
     match flaw {
         Some(flaw) => say_flaw(err, number, version, flaw),
@@ -128,25 +123,28 @@ fn tell_skipped<E: Write + Drop>(err: &mut Printer<E>, count: u64)
 }
 
 /// Says how many requests nobody took, and answers the exit status.
-fn say_count<E: Write + Drop>(err: &mut Printer<E>, count: usize) -> u8
-    ensures said { SaysText (untaken_line count) 0 err.old result err.new }
-    ensures known { result ≤ 7 }
+fn say_count<E: Write + Drop>(err: &mut Printer<E>, count: usize) -> Status
+    ensures { SaysText (untaken_line count) exit.Done err.old result err.new }
 {
     match writeln!(err, "requests not taken: {count}") {
-        Ok(()) => 0,
-        Err(_) => UNWRITTEN,
+        Ok(()) => Status::Done,
+        Err(_) => Status::Unwritten,
     }
 }
 
 /// Says that of the lines which were read ahead, if there are any, and answers the exit status.
 /// Their texts may have `limit` bytes.
-fn say_untaken<E: Write + Drop>(err: &mut Printer<E>, limit: usize, ahead: &[u8], taken: u64) -> u8
-    ensures said { SaysUntaken limit taken ahead.now err.old result err.new }
-    ensures known { result ≤ 7 }
+fn say_untaken<E: Write + Drop>(
+    err: &mut Printer<E>,
+    limit: usize,
+    ahead: &[u8],
+    taken: u64,
+) -> Status
+    ensures { SaysUntaken limit taken ahead.now err.old result err.new }
 {
     let count = count_later(limit, ahead, taken);
     if count == 0 {
-        return 0;
+        return Status::Done;
     }
     say_count(err, count)
 }
@@ -166,42 +164,42 @@ fn flaw_of_source<R: Read + Drop, C: RealTime + Drop>(
 fn say_input<R: Read + Drop, C: RealTime + Drop, E: Write + Drop>(
     source: &RequestSource<BufferedLines<BufReader<R>>, C>,
     flaw: Option<LineFlaw>,
-    status: u8,
+    status: Status,
     err: &mut Printer<E>,
-) -> u8
-    ensures says { SaysOfInput source.now.requests.version source.now.requests.taken
+) -> Status
+    ensures { SaysOfInput source.now.requests.version source.now.requests.taken
         (reader_buffer source.now.requests.reader.reader) source.now.requests.reader.begun
         source.now.requests.skipped flaw status err.old result err.new }
-    ensures known { status ≤ 7 → result ≤ 7 }
 {
     let requests = source.requests();
-    if status == BAD_LINE {
-        let number = requests.reader().line_number();
-        return say_refused(err, number, requests.version(), flaw);
+    match status {
+        Status::BadLine => {
+            let number = requests.reader().line_number();
+            say_refused(err, number, requests.version(), flaw)
+        }
+        Status::Done => {
+            tell_skipped(err, requests.skipped());
+            let ahead = requests.reader().read_ahead();
+            say_untaken(err, requests.text_limit(), ahead, requests.taken())
+        }
+        other => other,
     }
-    if status == 0 {
-        tell_skipped(err, requests.skipped());
-        let ahead = requests.reader().read_ahead();
-        return say_untaken(err, requests.text_limit(), ahead, requests.taken());
-    }
-    status
 }
 
 /// Says after a run that ended with this status what else is known of its input: at which line a
 /// refused one is, and what is wrong with it; how many lines were passed over, to a person; and how
 /// many requests were read ahead that a worker which is over doesn't take. Reads nothing more.
-/// Answers the exit status, or 7 where a write has failed.
+/// Answers the exit status, or `Unwritten` where a write has failed.
 pub fn report_input<R: Read + Drop, C: RealTime + Drop, E: Write + Drop>(
     source: &RequestSource<BufferedLines<BufReader<R>>, C>,
-    status: u8,
+    status: Status,
     err: &mut Printer<E>,
-) -> u8
-    ensures says { (flaw : Option Flaw) × IsFlawIn source.now.fault
+) -> Status
+    ensures { (flaw : Option Flaw) × IsFlawIn source.now.fault
         source.now.requests.reader.is_cut source.now.requests.line.items flaw
         × SaysOfInput source.now.requests.version source.now.requests.taken
         (reader_buffer source.now.requests.reader.reader) source.now.requests.reader.begun
         source.now.requests.skipped flaw status err.old result err.new }
-    ensures known { status ≤ 7 → result ≤ 7 }
 {
     let flaw = flaw_of_source(source);
     say_input(source, flaw, status, err)

@@ -2,8 +2,8 @@
 //!
 //! # Choices
 //!
-//! - A run is a loop without a counter. Fuel is never 0 by its type. So a slice that has spent it
-//!   leaves fewer steps that can be counted.
+//! - A run is a loop without a counter. Fuel is never 0 by its type, so a slice that has spent its
+//!   fuel leaves fewer steps that can be counted.
 
 ghost use Rattle.std.specs.Prelude.{◌≡◌, ◌≢◌, ◌≤◌, ◌<◌, ◌↔◌, IsTrue, IfOk, IfErr, Ok, OnOk};
 ghost use Rattle.std.specs.Int.NonZero.{non_zero_u64_get};
@@ -11,7 +11,8 @@ ghost use Rattle.disk_layout.specs.rules.Places.{total_sectors};
 ghost use Rattle.record_replay.specs.declared.slices.now.Now.TheVariants.{Spent};
 ghost use Rattle.worker.specs.rules.LifeWords.{Batch, Slice};
 ghost use Rattle.disk_commands.specs.rules.Paces.{act_at};
-ghost use Rattle.disk_commands.specs.Livings.{scene, steps_left, HasDoneOnce, HasFailedOnce};
+ghost use Rattle.worker.specs.rules.Scenes.{scene};
+ghost use Rattle.disk_commands.specs.Livings.{steps_left, HasDoneOnce, HasFailedOnce};
 ghost use Rattle.disk_commands.specs.Livings.{IsRested, IsRound, IsBrokenRound, LivesAtPace};
 
 use crate::on_disk::watching::{Asked, Watcher};

@@ -2,25 +2,27 @@
 //!
 //! # Promises
 //!
-//! - `create_on`: status 0 says that the worker of these bytes and this configuration is created on
+//! - `create_on`: `Done` says that the worker of these bytes and this configuration is created on
 //!   the disk, at its start. `created N sectors` was printed then. What the other statuses say is
-//!   said too, and what a cut at any moment leaves (`creates`). Where the output can't be written,
-//!   that is told on the error output.
-//! - `create_file` is `create_on` of a disk whose file it makes at the path. Where the status is 0
-//!   that file is left there, and else it is removed again. No other one is (`CreatesFile`).
+//!   said too, and what a cut at any moment leaves (`CreatesOn`). Where the output can't be
+//!   written, that is told on the error output.
+//! - `create_file` is `create_on` of a disk whose file it makes at the path. Where the status is
+//!   `Done` that file is left there, and else it is removed again. No other one is (`CreatesFile`).
 //!   `create_device` is `create_on` of a block device that is there (`CreatesOnDevice`). Where no
-//!   file or device is had, the path was refused, or a call of the file has failed. `create_disk`
-//!   does what the words of a creation say: with their sizes, arguments and environment, on a
-//!   device or in a new file, of a fresh worker or of one that succeeds another (`CreatesDisk`).
+//!   file or device is had, the path was refused, or a call of the file has failed.
+//! - `create_disk` does what the words of a creation say, with their sizes, arguments and
+//!   environment (`CreatesDisk`). The disk is a device or a new file, and the worker a fresh one or
+//!   one that succeeds another.
 //!
 //! # Choices
 //!
 //! - **A configuration and a module are looked at before the disk's file is made**, and once more
-//!   by the creation. That costs a second decoding, once in a worker's life.
+//!   by the creation. This costs a second decoding, once in a worker's life.
 
-ghost use Rattle.std.specs.Prelude.{◌≡◌, ◌≢◌, ◌≤◌, IfErr, IfOk, IsTrue};
+ghost use Rattle.std.specs.Prelude.{◌≡◌, ◌≢◌, IfErr, IfOk, IsTrue};
 ghost use Rattle.command_words.specs.rules.Commands.{create_said};
 ghost use Rattle.command_words.specs.rules.Preparations.{IsPreparedAs, IsUnprepared};
+ghost use Rattle.command_words.specs.declared.status.Status.TheVariants as exit;
 ghost use Rattle.disk_commands.specs.rules.MadeFiles.{CreatesDisk, CreatesFile};
 ghost use Rattle.disk_commands.specs.rules.MadeFiles.{CreatesOnDevice, MakesDisk, MakesOrdered};
 ghost use Rattle.disk_commands.specs.rules.MadeFiles.{settings_said};
@@ -29,7 +31,7 @@ use crate::on_disk::creation::create_on;
 use crate::on_disk::opening::report_open;
 use crate::on_disk::succession::{Succession, succeed_disk};
 use command_words::{
-    CreateOrder, Prepared, Printer, Sizes, Unprepared, prepare, report_unprepared,
+    CreateOrder, Prepared, Printer, Sizes, Status, Unprepared, prepare, report_unprepared,
 };
 use sector_disk::{DiskFile, DiskFiles, FileDisk, NewFile, NewFiles};
 use std::alloc::Global;
@@ -46,15 +48,14 @@ pub struct NewDisk<'a> {
     pub prepared: &'a Prepared,
 }
 
-/// Leaves a new file at its path where the status is 0, and removes it where it isn't.
-pub(super) fn keep_if_created<R: NewFiles>(files: &R, new: NewFile<'_>, status: u8)
-    ensures keeps { status ≡ 0 → IsTrue ((R.known files.now).kept new.entry.path.now) }
-    ensures removes { status ≢ 0 → IsTrue ((R.known files.now).removed new.entry.path.now) }
+/// Leaves a new file at its path where the status is `Done`, and removes it where it isn't.
+pub(super) fn keep_if_created<R: NewFiles>(files: &R, new: NewFile<'_>, status: Status)
+    ensures keeps { status ≡ exit.Done → IsTrue ((R.known files.now).kept new.entry.path.now) }
+    ensures removes { status ≢ exit.Done → IsTrue ((R.known files.now).removed new.entry.path.now) }
 {
-    if status == 0 {
-        files.keep_new(new);
-    } else {
-        files.remove_new(new);
+    match status {
+        Status::Done => files.keep_new(new),
+        _ => files.remove_new(new),
     }
 }
 
@@ -66,15 +67,14 @@ pub fn create_file<F, R, W, E>(
     new: NewDisk<'_>,
     out: &mut Printer<W>,
     err: &mut Printer<E>,
-) -> u8
+) -> Status
 where
     F: DiskFile,
     R: NewFiles<File = F>,
     W: Write + Drop,
     E: Write + Drop,
-    ensures creates { CreatesFile F.known (R.known files.now) new.entry.path.now
+    ensures { CreatesFile F.known (R.known files.now) new.entry.path.now
         new.entry.wasm.now new.entry.prepared.now out.old out.new err.old err.new result }
-    ensures known { result ≤ 7 }
 {
     let NewDisk {
         path,
@@ -99,15 +99,14 @@ pub fn create_device<F, R, W, E>(
     new: NewDisk<'_>,
     out: &mut Printer<W>,
     err: &mut Printer<E>,
-) -> u8
+) -> Status
 where
     F: DiskFile,
     R: DiskFiles<File = F>,
     W: Write + Drop,
     E: Write + Drop,
-    ensures creates { CreatesOnDevice F.known (R.known files.now) new.entry.path.now
+    ensures { CreatesOnDevice F.known (R.known files.now) new.entry.path.now
         new.entry.wasm.now new.entry.prepared.now out.old out.new err.old err.new result }
-    ensures known { result ≤ 7 }
 {
     let NewDisk {
         path,
@@ -132,15 +131,14 @@ fn make_disk<F, R, W, E>(
     on_device: bool,
     out: &mut Printer<W>,
     err: &mut Printer<E>,
-) -> u8
+) -> Status
 where
     F: DiskFile,
     R: NewFiles<File = F>,
     W: Write + Drop,
     E: Write + Drop,
-    ensures makes { MakesDisk F.known (R.known files.now) on_device new.entry.path.now
+    ensures { MakesDisk F.known (R.known files.now) on_device new.entry.path.now
         new.entry.wasm.now new.entry.prepared.now out.old out.new err.old err.new result }
-    ensures known { result ≤ 7 }
 {
     if on_device {
         create_device(alloc, files, new, out, err)
@@ -158,16 +156,15 @@ fn make_ordered<F, R, W, E>(
     new: NewDisk<'_>,
     out: &mut Printer<W>,
     err: &mut Printer<E>,
-) -> u8
+) -> Status
 where
     F: DiskFile,
     R: NewFiles<File = F>,
     W: Write + Drop,
     E: Write + Drop,
-    ensures makes { MakesOrdered F.known (R.known files.now) (create_said order.now).predecessor
+    ensures { MakesOrdered F.known (R.known files.now) (create_said order.now).predecessor
         order.now.on_device new.entry.path.now new.entry.wasm.now new.entry.prepared.now out.old
         out.new err.old err.new result }
-    ensures known { result ≤ 7 }
 {
     match order.predecessor {
         None => make_disk(alloc, files, new, order.on_device, out, err),
@@ -214,15 +211,14 @@ pub fn create_disk<F, R, W, E>(
     wasm: &[u8],
     out: &mut Printer<W>,
     err: &mut Printer<E>,
-) -> u8
+) -> Status
 where
     F: DiskFile,
     R: NewFiles<File = F>,
     W: Write + Drop,
     E: Write + Drop,
-    ensures creates { CreatesDisk F.known (R.known files.now) (create_said order.now) wasm.now
+    ensures { CreatesDisk F.known (R.known files.now) (create_said order.now) wasm.now
         out.old out.new err.old err.new result }
-    ensures known { result ≤ 7 }
 {
     match prepare_order(alloc, order, wasm) {
         Ok(prepared) => {

@@ -17,7 +17,7 @@ ghost use Rattle.disk_commands.specs.rules.Metrics.{left_metric, metric, metric_
 ghost use Rattle.disk_commands.specs.rules.Metrics.{metrics_text, numbers_text, state_place};
 ghost use Rattle.disk_commands.specs.rules.Metrics.{state_text};
 
-use crate::on_disk::sighting::{Sighting, State};
+use crate::on_disk::sighting::{Sighting, WatchedState};
 use crate::on_disk::status_line::behind;
 use command_words::Printer;
 use process::ProcessEnd;
@@ -196,13 +196,13 @@ fn print_numbers<W: Write + Drop>(
 }
 
 /// The code of a worker that has exited, and else 0.
-fn exit_code(state: State) -> u64
+fn exit_code(state: WatchedState) -> u64
     ensures { result ≡ exit_code state }
 {
     match state {
-        State::Ended(ProcessEnd::Exited(code)) => u64::from(code),
-        State::Ended(ProcessEnd::Trapped(_)) => 0,
-        State::Running | State::Waiting | State::Parked => 0,
+        WatchedState::Ended(ProcessEnd::Exited(code)) => u64::from(code),
+        WatchedState::Ended(ProcessEnd::Trapped(_)) => 0,
+        WatchedState::Running | WatchedState::Waiting | WatchedState::Parked => 0,
     }
 }
 
@@ -210,7 +210,7 @@ fn exit_code(state: State) -> u64
 fn print_exit_code<W: Write + Drop>(
     out: &mut Printer<W>,
     label: &[u8],
-    state: State,
+    state: WatchedState,
 ) -> io::Result<()>
     ensures printed { OnOk result (IsPrinted out.old out.new (exit_metric label.now state)) }
     ensures failed { OnErr result (out.new.failed ≡ true) }
@@ -227,15 +227,15 @@ fn print_exit_code<W: Write + Drop>(
 }
 
 /// The place of a state among the samples.
-fn state_place(state: State) -> u8
+fn state_place(state: WatchedState) -> u8
     ensures { result ≡ state_place state }
 {
     match state {
-        State::Running => 0,
-        State::Waiting => 1,
-        State::Parked => 2,
-        State::Ended(ProcessEnd::Exited(_)) => 3,
-        State::Ended(ProcessEnd::Trapped(_)) => 4,
+        WatchedState::Running => 0,
+        WatchedState::Waiting => 1,
+        WatchedState::Parked => 2,
+        WatchedState::Ended(ProcessEnd::Exited(_)) => 3,
+        WatchedState::Ended(ProcessEnd::Trapped(_)) => 4,
     }
 }
 
@@ -244,7 +244,7 @@ fn print_flag<W: Write + Drop>(
     out: &mut Printer<W>,
     label: &[u8],
     close: &str,
-    state: State,
+    state: WatchedState,
     place: u8,
 ) -> io::Result<()>
     ensures printed { OnOk result (IsPrinted out.old out.new
@@ -258,7 +258,11 @@ fn print_flag<W: Write + Drop>(
 }
 
 /// Writes the metrics of what a worker is.
-fn print_state<W: Write + Drop>(out: &mut Printer<W>, label: &[u8], state: State) -> io::Result<()>
+fn print_state<W: Write + Drop>(
+    out: &mut Printer<W>,
+    label: &[u8],
+    state: WatchedState,
+) -> io::Result<()>
     ensures printed { OnOk result (IsPrinted out.old out.new (state_text label.now state)) }
     ensures failed { OnErr result (out.new.failed ≡ true) }
 {

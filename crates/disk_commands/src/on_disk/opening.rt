@@ -2,8 +2,8 @@
 //!
 //! # Promises
 //!
-//! - `report_open` tells why a disk's file isn't opened, and `report_unread` why a file isn't read:
-//!   by the path, and the cause that the error's kind is (`open_words`, `SaysUnread`).
+//! - `report_open` tells why a disk's file isn't opened, and `report_unread` why a file isn't read.
+//!   Both tell the path, and the cause that the error's kind is (`open_words`, `SaysUnread`).
 //!
 //! # Choices
 //!
@@ -13,13 +13,13 @@
 //!   kind (`open_cause`, `cause_words`). The words are those of the C library, so that they can be
 //!   looked up. `K2 Io` of a disk that fails once it is open is alone: `DiskFault` has no cause.
 
-ghost use Rattle.std.specs.Prelude.{◌≡◌, ◌≤◌, ◌↔◌, IsTrue};
+ghost use Rattle.std.specs.Prelude.{◌≡◌, ◌↔◌, IsTrue};
 ghost use Rattle.std.specs.IoError.{error_kind};
 ghost use Rattle.command_words.specs.rules.Reports.{SaysLine};
+ghost use Rattle.command_words.specs.declared.status.Status.TheVariants as exit;
 ghost use Rattle.disk_commands.specs.rules.Openings.{SaysUnread, cause_words, open_words};
 
-use command_words::status::{UNREAD, UNWRITTEN};
-use command_words::{Obstacle, Printer, report};
+use command_words::{Obstacle, Printer, Status, report};
 use sector_disk::{OpenCause, OpenFault};
 use std::io::{Error, ErrorKind, Write};
 
@@ -52,37 +52,35 @@ fn is_want(error: &Error) -> bool
 }
 
 /// Prints that a path was refused, and on a line of its own the path and the cause.
-fn say_cause<E: Write + Drop>(err: &mut Printer<E>, path: &str, cause: OpenCause) -> u8
-    ensures said { SaysLine (open_words path.now (OpenFault.Io cause)) 4 err.old result err.new }
-    ensures known { result ≤ 7 }
+fn say_cause<E: Write + Drop>(err: &mut Printer<E>, path: &str, cause: OpenCause) -> Status
+    ensures { SaysLine (open_words path.now (OpenFault.Io cause)) exit.IoError err.old result
+        err.new }
 {
     let words = words_of_cause(cause);
     match writeln!(err, "failed K2 Io\n{path}: {words}") {
-        Ok(()) => UNREAD,
-        Err(_) => UNWRITTEN,
+        Ok(()) => Status::IoError,
+        Err(_) => Status::Unwritten,
     }
 }
 
 /// Prints that another host has the disk, and answers the exit status.
-fn say_busy<E: Write + Drop>(err: &mut Printer<E>, path: &str) -> u8
-    ensures said { SaysLine (open_words path.now OpenFault.Busy) 4 err.old result err.new }
-    ensures known { result ≤ 7 }
+fn say_busy<E: Write + Drop>(err: &mut Printer<E>, path: &str) -> Status
+    ensures { SaysLine (open_words path.now OpenFault.Busy) exit.IoError err.old result err.new }
 {
     match writeln!(
         err,
         "failed K5 Busy\n{path}: another host is using this disk"
     ) {
-        Ok(()) => UNREAD,
-        Err(_) => UNWRITTEN,
+        Ok(()) => Status::IoError,
+        Err(_) => Status::Unwritten,
     }
 }
 
 /// Prints why a file isn't made or opened as a disk: the fault, and on a line of its own the path
 /// and what the operating system says of it, or that another host has it. Answers the exit status,
-/// or 7 where a write has failed.
-pub fn report_open<E: Write + Drop>(err: &mut Printer<E>, path: &str, fault: OpenFault) -> u8
-    ensures said { SaysLine (open_words path.now fault) 4 err.old result err.new }
-    ensures known { result ≤ 7 }
+/// or `Unwritten` where a write has failed.
+pub fn report_open<E: Write + Drop>(err: &mut Printer<E>, path: &str, fault: OpenFault) -> Status
+    ensures { SaysLine (open_words path.now fault) exit.IoError err.old result err.new }
 {
     match fault {
         OpenFault::Busy => say_busy(err, path),
@@ -91,9 +89,8 @@ pub fn report_open<E: Write + Drop>(err: &mut Printer<E>, path: &str, fault: Ope
 }
 
 /// Prints in the same way why a file can't be read. Want of memory is told as that.
-pub fn report_unread<E: Write + Drop>(err: &mut Printer<E>, path: &str, error: Error) -> u8
-    ensures said { SaysUnread path.now (error_kind error) err.old result err.new }
-    ensures known { result ≤ 7 }
+pub fn report_unread<E: Write + Drop>(err: &mut Printer<E>, path: &str, error: Error) -> Status
+    ensures { SaysUnread path.now (error_kind error) err.old result err.new }
 {
     if is_want(&error) {
         return report(err, Obstacle::Memory);

@@ -3,9 +3,8 @@
 //! # Choices
 //!
 //! - **What the words of a command say is handed over whole**, and one function makes the job of a
-//!   run of it (`job_of`). So the program has no number to pass, and each is in a clause.
+//!   run of it (`job_of`). The program then has no number to pass, and each is in a clause.
 
-ghost use Rattle.std.specs.Prelude.{◌≤◌};
 ghost use Rattle.std.specs.Int.NonZero.{non_zero_u64_get};
 ghost use Rattle.std.specs.Io.Buffered.{reader_remaining};
 ghost use Rattle.command_words.specs.rules.Commands.{run_said};
@@ -24,7 +23,7 @@ use crate::on_disk::upgrading::{say_upgraded, upgrade_worker};
 use crate::on_disk::watch_files::{WatchPaths, watch_files_of};
 use crate::on_disk::watching::Watcher;
 use command_words::{
-    BufferedLines, LineOutlet, Outside, Printer, RealTime, RequestSource, RunOrder,
+    BufferedLines, LineOutlet, Outside, Printer, RealTime, RequestSource, RunOrder, Status,
 };
 use record_replay::Outlet;
 use sector_disk::{Disk, DiskFile, DiskFiles, FileDisk};
@@ -86,7 +85,7 @@ fn serve_to_end<D, I, C, O, E, T>(
     source: &mut RequestSource<BufferedLines<BufReader<I>>, C>,
     outlet: &mut O,
     err: &mut Printer<E>,
-) -> u8
+) -> Status
 where
     D: Disk,
     I: Read + Drop,
@@ -94,13 +93,12 @@ where
     O: Outlet,
     E: Write + Drop,
     T: Watcher,
-    ensures serves { ServesToEnd D.medium O.takes
+    ensures { ServesToEnd D.medium O.takes
         (run_start (disk_job (non_zero_u64_get drive.entry.pace.fuel)
         (non_zero_u64_get drive.entry.pace.every) (non_zero_u64_get drive.entry.pace.batch)
         (reader_remaining I.remaining source.old.requests.reader.reader) source.old.outside
         source.old.requests.reader.has_failed) disk.old outlet.old err.old)
         disk.new outlet.new err.new result }
-    ensures known { result ≤ 7 }
 {
     let status = serve(alloc, disk, drive, source, outlet, err);
     report_input(source, status, err)
@@ -115,7 +113,7 @@ fn run_job<D, F, R, I, C, O, E>(
     system: System<'_, R, I, C>,
     outlet: &mut O,
     err: &mut Printer<E>,
-) -> u8
+) -> Status
 where
     D: Disk,
     F: DiskFile + Read + Write + Seek,
@@ -124,11 +122,10 @@ where
     C: RealTime + Drop,
     O: Outlet,
     E: Write + Drop,
-    ensures runs { RunsJob D.medium O.takes (named_status job.entry)
+    ensures { RunsJob D.medium O.takes (named_status job.entry)
         (named_metrics job.entry) (run_start (job_given job.entry
         (reader_remaining I.remaining system.entry.lines.reader) system.entry.lines.has_failed)
         disk.old outlet.old err.old) disk.new outlet.new err.new result }
-    ensures known { result ≤ 7 }
 {
     let System {
         files,
@@ -162,7 +159,7 @@ fn run_seeded<F, R, I, C, O, E>(
     seed: [u8; 32],
     outlet: &mut O,
     err: &mut Printer<E>,
-) -> u8
+) -> Status
 where
     F: DiskFile + Read + Write + Seek,
     R: DiskFiles<File = F> + Files<File = F> + Clock,
@@ -171,10 +168,9 @@ where
     O: Outlet,
     E: Write + Drop,
     requires { IsSeedFrom (run_said order.now).seed_file (run_said order.now).seed seed }
-    ensures runs { RunsFile F.known (R.known system.entry.files.now) O.takes (run_said order.now)
+    ensures { RunsFile F.known (R.known system.entry.files.now) O.takes (run_said order.now)
         (reader_remaining I.remaining system.entry.lines.reader) system.entry.lines.has_failed
         outlet.old outlet.new err.old err.new result }
-    ensures known { result ≤ 7 }
 {
     let job = job_of(order, seed);
     let files = system.files;
@@ -198,7 +194,7 @@ pub fn run_file<F, R, I, C, O, E>(
     order: &RunOrder<'_>,
     outlet: &mut O,
     err: &mut Printer<E>,
-) -> u8
+) -> Status
 where
     F: DiskFile + Read + Write + Seek,
     R: DiskFiles<File = F> + Files<File = F> + Clock,
@@ -206,10 +202,9 @@ where
     C: RealTime + Drop,
     O: Outlet,
     E: Write + Drop,
-    ensures runs { RunsFile F.known (R.known system.entry.files.now) O.takes (run_said order.now)
+    ensures { RunsFile F.known (R.known system.entry.files.now) O.takes (run_said order.now)
         (reader_remaining I.remaining system.entry.lines.reader) system.entry.lines.has_failed
         outlet.old outlet.new err.old err.new result }
-    ensures known { result ≤ 7 }
 {
     match seed_for(alloc, system.files, order, err) {
         Ok(seed) => run_seeded(alloc, system, order, seed, outlet, err),
@@ -226,15 +221,14 @@ pub fn upgrade_file<F, R, W, E>(
     path: &str,
     outlet: &mut LineOutlet<W>,
     err: &mut Printer<E>,
-) -> u8
+) -> Status
 where
     F: DiskFile,
     R: DiskFiles<File = F>,
     W: Write + Drop,
     E: Write + Drop,
-    ensures upgrades { UpgradesFile F.known (R.known files.now) path.now outlet.old outlet.new
+    ensures { UpgradesFile F.known (R.known files.now) path.now outlet.old outlet.new
         err.old err.new result }
-    ensures known { result ≤ 7 }
 {
     match open_disk(files, path, false, err) {
         Ok(mut disk) => {

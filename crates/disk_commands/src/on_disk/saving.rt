@@ -3,29 +3,33 @@
 //! # Promises
 //!
 //! - `save_on`: the sectors of a disk are copied onto another one, and how many is printed, or it
-//!   is told why they aren't (`saves`). The disk is only read. A cut at any moment leaves no worker
-//!   in the copy, or the whole copy.
+//!   is told why they aren't (`SavesCopy`). The disk is only read. A cut at any moment leaves no
+//!   worker in the copy, or the whole copy. That stands for the same worker
+//!   (`laws::copies_stand_for_the_same`).
 //! - `save_file` opens the disk at the path, and looks into it as `inspect` does. Of a worker's
 //!   disk it makes a new file, and copies all its sectors there (`SavesFile`). A disk that is
-//!   refused isn't copied, and no file is made.
+//!   refused isn't copied, and no file is made. Of a live disk it takes a picture, and does that
+//!   with it.
 //!
 //! # Choices
 //!
-//! - **A copy is made of a disk that a recovery finds whole**: of a damaged one it is told what is
+//! - **A copy is made of a disk that a recovery finds whole.** Of a damaged one it is told what is
 //!   wrong, and `cp` copies it.
 
-ghost use Rattle.std.specs.Prelude.{◌≡◌, ◌≤◌, true, OnErr, OnOk};
-ghost use Rattle.sector_disk.specs.rules.File.{file_medium};
+ghost use Rattle.std.specs.Prelude.{◌≡◌, true, OnErr, OnOk};
 ghost use Rattle.command_words.specs.rules.Printers.{IsPrinted};
 ghost use Rattle.command_words.specs.rules.Reports.{SaysOnOutput};
+ghost use Rattle.command_words.specs.declared.status.Status.TheVariants as exit;
 ghost use Rattle.disk_commands.specs.rules.SavedCopies.{MakesCopy, SavesCopy, SavesFile};
-ghost use Rattle.disk_commands.specs.rules.SavedCopies.{SavesInspected, saved_line};
+ghost use Rattle.disk_commands.specs.rules.SavedCopies.{SavesInspected, SavesOpened, SavesPicture};
+ghost use Rattle.disk_commands.specs.rules.SavedCopies.{saved_line};
 
-use crate::on_disk::disk_file::open_disk;
+use crate::on_disk::disk_file::{Seen, open_disk};
 use crate::on_disk::fault::{OnDiskFault, say_disk_fault};
+use crate::on_disk::live::picture_of;
 use crate::on_disk::making::keep_if_created;
 use crate::on_disk::opening::report_open;
-use command_words::{Obstacle, Printer, report};
+use command_words::{Obstacle, Printer, Status, report};
 use sector_disk::{Disk, DiskFile, FileDisk, NewFiles, copy_disk};
 use std::alloc::Global;
 use std::io::{self, Write};
@@ -45,27 +49,26 @@ fn say_saved<W: Write + Drop, E: Write + Drop>(
     out: &mut Printer<W>,
     sectors: u64,
     err: &mut Printer<E>,
-) -> u8
-    ensures { SaysOnOutput (saved_line sectors) 0 out.old out.new err.old err.new result }
+) -> Status
+    ensures { SaysOnOutput (saved_line sectors) exit.Done out.old out.new err.old err.new result }
 {
     match print_saved(out, sectors) {
-        Ok(()) => 0,
+        Ok(()) => Status::Done,
         Err(_) => report(err, Obstacle::Unwritten),
     }
 }
 
 /// Copies as many sectors of a disk onto another one as that one has, and says how many. The first
-/// disk is only read. Answers the exit status: 0 where they are copied, 4 where a disk fails, 7
-/// where a write of a printer has failed.
+/// disk is only read. Answers the exit status: `Done` where they are copied, `IoError` where a disk
+/// fails, `Unwritten` where a write of a printer has failed.
 pub fn save_on<D: Disk, C: Disk, W: Write + Drop, E: Write + Drop>(
     disk: &mut D,
     copy: &mut C,
     out: &mut Printer<W>,
     err: &mut Printer<E>,
-) -> u8
-    ensures saves { SavesCopy (D.medium disk.old) (D.medium disk.new) (C.medium copy.old)
+) -> Status
+    ensures { SavesCopy (D.medium disk.old) (D.medium disk.new) (C.medium copy.old)
         (C.medium copy.new) out.old out.new err.old err.new result }
-    ensures known { result ≤ 7 }
 {
     let sectors = copy.sectors();
     match copy_disk(disk, copy) {
@@ -75,7 +78,7 @@ pub fn save_on<D: Disk, C: Disk, W: Write + Drop, E: Write + Drop>(
 }
 
 /// Makes a new file of so many sectors, and copies those of a disk there. The file is left where
-/// the status is 0, and else it is removed.
+/// the status is `Done`, and else it is removed.
 fn make_copy<F, R, D, W, E>(
     files: &R,
     disk: &mut D,
@@ -83,16 +86,15 @@ fn make_copy<F, R, D, W, E>(
     sectors: u64,
     out: &mut Printer<W>,
     err: &mut Printer<E>,
-) -> u8
+) -> Status
 where
     F: DiskFile,
     R: NewFiles<File = F>,
     D: Disk,
     W: Write + Drop,
     E: Write + Drop,
-    ensures makes { MakesCopy F.known (R.known files.now) path.now sectors (D.medium disk.old)
+    ensures { MakesCopy F.known (R.known files.now) path.now sectors (D.medium disk.old)
         (D.medium disk.new) out.old out.new err.old err.new result }
-    ensures known { result ≤ 7 }
 {
     let (mut copy, made) = match FileDisk::create(files, path, sectors) {
         Ok(made) => made,
@@ -105,22 +107,22 @@ where
 }
 
 /// Looks into a disk, and copies it to a new file where it is a worker's.
-fn save_worker<F, R, W, E>(
+fn save_worker<F, R, D, W, E>(
     alloc: Global,
     files: &R,
-    disk: &mut FileDisk<F>,
+    disk: &mut D,
     copy: &str,
     out: &mut Printer<W>,
     err: &mut Printer<E>,
-) -> u8
+) -> Status
 where
     F: DiskFile,
     R: NewFiles<File = F>,
+    D: Disk,
     W: Write + Drop,
     E: Write + Drop,
-    ensures saves { SavesInspected F.known (R.known files.now) copy.now disk.old disk.new out.old
-        out.new err.old err.new result }
-    ensures known { result ≤ 7 }
+    ensures { SavesInspected F.known (R.known files.now) copy.now D.medium disk.old disk.new
+        out.old out.new err.old err.new result }
 {
     match inspect(alloc, disk) {
         Ok(told) => {
@@ -132,25 +134,23 @@ where
     }
 }
 
-/// `wasmhost save`: all sectors of the worker's disk in a file are copied to a new file. Returns
-/// the exit status: 0 where they are copied, 3 for a disk that is refused, 4 where a file can't be
-/// opened or made or a disk fails, 5 for out of memory, 7 where a write of a printer has failed.
-pub fn save_file<F, R, W, E>(
+/// Opens the disk in a file, which no other host may have meanwhile, and saves its worker. Returns
+/// the exit status.
+fn save_opened<F, R, W, E>(
     alloc: Global,
     files: &R,
     path: &str,
     copy: &str,
     out: &mut Printer<W>,
     err: &mut Printer<E>,
-) -> u8
+) -> Status
 where
     F: DiskFile,
     R: NewFiles<File = F>,
     W: Write + Drop,
     E: Write + Drop,
-    ensures saves { SavesFile F.known (R.known files.now) path.now copy.now out.old out.new
+    ensures { SavesOpened F.known (R.known files.now) path.now copy.now out.old out.new
         err.old err.new result }
-    ensures known { result ≤ 7 }
 {
     match open_disk(files, path, false, err) {
         Ok(mut disk) => {
@@ -160,4 +160,58 @@ where
         }
         Err(status) => status,
     }
+}
+
+/// Takes a picture of the disk in a file, which another host may have, and saves its worker.
+/// Returns the exit status.
+fn save_picture<F, R, W, E>(
+    alloc: Global,
+    files: &R,
+    path: &str,
+    copy: &str,
+    out: &mut Printer<W>,
+    err: &mut Printer<E>,
+) -> Status
+where
+    F: DiskFile,
+    R: NewFiles<File = F>,
+    W: Write + Drop,
+    E: Write + Drop,
+    ensures { SavesPicture F.known (R.known files.now) path.now copy.now out.old out.new
+        err.old err.new result }
+{
+    match picture_of(alloc, files, path, err) {
+        Ok(mut picture) => {
+            let status = save_worker(alloc, files, &mut picture, copy, out, err);
+            drop(picture);
+            status
+        }
+        Err(status) => status,
+    }
+}
+
+/// `wasmhost save`: all sectors of the worker's disk in a file are copied to a new file. Returns
+/// the exit status: `Done` where they are copied, `Refused` for a disk that is refused, `IoError`
+/// where a file can't be opened or made, a disk fails or a live one has changed, `OutOfMemory`,
+/// `Unwritten` where a write of a printer has failed.
+pub fn save_file<F, R, W, E>(
+    alloc: Global,
+    files: &R,
+    seen: Seen<'_>,
+    copy: &str,
+    out: &mut Printer<W>,
+    err: &mut Printer<E>,
+) -> Status
+where
+    F: DiskFile,
+    R: NewFiles<File = F>,
+    W: Write + Drop,
+    E: Write + Drop,
+    ensures { SavesFile F.known (R.known files.now) seen.entry.path.now copy.now out.old
+        out.new err.old err.new result seen.entry.is_live }
+{
+    if seen.is_live {
+        return save_picture(alloc, files, seen.path, copy, out, err);
+    }
+    save_opened(alloc, files, seen.path, copy, out, err)
 }

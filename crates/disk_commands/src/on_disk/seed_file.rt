@@ -1,17 +1,17 @@
 //! The seed of a run: digits among its words, or a file with them.
 
-ghost use Rattle.std.specs.Prelude.{◌≡◌, ◌≤◌, ℕ, List, IfErr, IfOk, IfSome, IsNone, OnOk, Some};
+ghost use Rattle.std.specs.Prelude.{◌≡◌, ℕ, List, IfErr, IfOk, IfSome, IsNone, OnOk, Some};
 ghost use Rattle.std.specs.Prelude.{option_map};
 ghost use Rattle.command_words.specs.rules.Commands.{run_said};
 ghost use Rattle.command_words.specs.rules.Reports.{SaysLine, obstacle_words};
+ghost use Rattle.command_words.specs.declared.status.Status.TheVariants as exit;
 ghost use Rattle.disk_commands.specs.rules.SeedFiles.{IsNoSeed, IsSeedFrom, IsSeedIn, IsSeedOf};
 ghost use Rattle.disk_commands.specs.rules.SeedFiles.{SaysSeedless, SaysSeedlessFile};
 ghost use Rattle.disk_commands.specs.rules.SeedFiles.{seedless_words};
 
 use crate::on_disk::opening::report_unread;
 use crate::on_disk::status_line::before_newline;
-use command_words::status::{REFUSED, UNWRITTEN};
-use command_words::{Obstacle, Printer, RunOrder, read_seed, report};
+use command_words::{Obstacle, Printer, RunOrder, Status, read_seed, report};
 use std::alloc::Global;
 use std::fs::{File, OpenFile};
 use std::io::{self, Read, Write};
@@ -65,13 +65,12 @@ where
 }
 
 /// Says that a file has no seed, and answers the exit status.
-fn say_seedless<E: Write + Drop>(err: &mut Printer<E>, path: &str) -> u8
-    ensures said { SaysLine (seedless_words path.now) 3 err.old result err.new }
-    ensures known { result ≤ 7 }
+fn say_seedless<E: Write + Drop>(err: &mut Printer<E>, path: &str) -> Status
+    ensures { SaysLine (seedless_words path.now) exit.Refused err.old result err.new }
 {
     match writeln!(err, "failed C2 Text\n{path}: isn't 64 hexadecimal digits") {
-        Ok(()) => REFUSED,
-        Err(_) => UNWRITTEN,
+        Ok(()) => Status::Refused,
+        Err(_) => Status::Unwritten,
     }
 }
 
@@ -81,7 +80,7 @@ fn seed_of_file<F, R, E>(
     files: &R,
     path: &str,
     err: &mut Printer<E>,
-) -> Result<[u8; 32], u8>
+) -> Result<[u8; 32], Status>
 where
     F: OpenFile + Read + Drop,
     R: Files<File = F>,
@@ -90,7 +89,6 @@ where
     ensures quiet { OnOk result (err.new ≡ err.old) }
     ensures said { IfErr result (λ status.
         SaysSeedlessFile path.now err.old status err.new) }
-    ensures known { IfErr result (λ status. status ≤ 7) }
 {
     let front = match read_front(alloc, files, path) {
         Ok(front) => front,
@@ -107,12 +105,11 @@ where
 fn seed_of_words<E: Write + Drop>(
     digits: Option<&str>,
     err: &mut Printer<E>,
-) -> Result<[u8; 32], u8>
+) -> Result<[u8; 32], Status>
     ensures spelled { IfOk result (IsSeedOf (option_map (λ text. text.now) digits.entry)) }
     ensures quiet { OnOk result (err.new ≡ err.old) }
     ensures said { IfErr result (λ status. IsNoSeed (option_map (λ text. text.now) digits.entry)
-        × SaysLine (obstacle_words Obstacle.NoSeed) 2 err.old status err.new) }
-    ensures known { IfErr result (λ status. status ≤ 7) }
+        × SaysLine (obstacle_words Obstacle.NoSeed) exit.Usage err.old status err.new) }
 {
     match seed_of(digits) {
         Some(seed) => Ok(seed),
@@ -127,7 +124,7 @@ pub(super) fn seed_for<F, R, E>(
     files: &R,
     order: &RunOrder<'_>,
     err: &mut Printer<E>,
-) -> Result<[u8; 32], u8>
+) -> Result<[u8; 32], Status>
 where
     F: OpenFile + Read + Drop,
     R: Files<File = F>,
@@ -137,7 +134,6 @@ where
     ensures quiet { OnOk result (err.new ≡ err.old) }
     ensures said { IfErr result (λ status. SaysSeedless (run_said order.now).seed_file
         (run_said order.now).seed err.old status err.new) }
-    ensures known { IfErr result (λ status. status ≤ 7) }
 {
     let Some(path) = order.seed_file else {
         return seed_of_words(order.seed, err);

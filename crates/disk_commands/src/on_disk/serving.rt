@@ -14,11 +14,12 @@
 //!   (`recovered_line`), and one after `parked` which request comes next (`next_line`): that after
 //!   those which the source of this life has handed out. `laws::lives_on_disk_go_on`: such calls
 //!   are a life that goes on from all that was promised. The last words are those of what its last
-//!   act has answered (`HasOutcome`). Where a call fails, lines wait only as its own clause says
-//!   (`HasBrokenOff`). Where the disk shows no worker nothing is written or released. No status is
-//!   above 7 (`known`). It is 7 where the outlet has refused a line, and else only where a write of
-//!   `err` has failed (`refusal`). `laws::seven_is_a_failed_write`: what that comes to where the
-//!   lines are printed.
+//!   act has answered (`HasOutcome`). Behind `trapped` are lines of frames, and behind no other
+//!   ones (`TellsFrames`). Where a call fails, lines wait only as its own clause says
+//!   (`HasBrokenOff`). Where the disk shows no worker nothing is written or released. The
+//!   status is `Unwritten` where the outlet has refused a line, and else only where a write of
+//!   `err` has failed (`refusal`). `laws::unwritten_is_a_failed_write`: what that
+//!   comes to where the lines are printed.
 //!
 //! # Choices
 //!
@@ -26,10 +27,10 @@
 //!   no state of it is a premise. Of a reader that is borrowed by a source inside, nothing could be
 //!   said at the end.
 //! - **The worker's own lines go to whatever outlet `serve` is lent.** It says of each line whether
-//!   it was taken. So 7 for one of them is the fault of a life, `Q3 Outlet` or `N3 Outlet`. The
-//!   program lends a `LineOutlet`, which has a `Printer` of its own. Two clauses meet there:
-//!   `serve` answers 7 for what its outlet said, and a `LineOutlet` refuses only since a write has
-//!   failed.
+//!   it was taken. So `Unwritten` for one of them is the fault of a life, `Q3 Outlet` or `N3
+//!   Outlet`. The program lends a `LineOutlet`, which has a `Printer` of its own. Two clauses meet
+//!   there: `serve` answers `Unwritten` for what its outlet said, and a `LineOutlet` refuses only
+//!   since a write has failed.
 //! - **That no question was refused is said beside the life** (`AsksUnless`). The calls of a life
 //!   have their exchanges only where the answers of the disk fit an image. What a reader's failure
 //!   comes to is to be known of any disk.
@@ -59,7 +60,7 @@ use crate::on_disk::fault::{OnDiskFault, say_disk_fault};
 use crate::on_disk::living::{Pace, live};
 use crate::on_disk::showing::print_number;
 use crate::on_disk::watching::Watcher;
-use command_words::{LineFault, LineReader, Printer, ReadAhead, RealTime, RequestSource};
+use command_words::{LineFault, LineReader, Printer, ReadAhead, RealTime, RequestSource, Status};
 use record_replay::{Now, Outlet, SliceFault};
 use sector_disk::Disk;
 use std::alloc::Global;
@@ -148,7 +149,7 @@ fn serve_open<D, R, C, O, E, T>(
     source: &mut RequestSource<R, C>,
     outlet: &mut O,
     err: &mut Printer<E>,
-) -> u8
+) -> Status
 where
     D: Disk,
     R: LineReader + ReadAhead + Drop,
@@ -164,14 +165,20 @@ where
         (R.has_failed source.old.requests.reader)) disk.old outlet.old err.old)
         (run_end disk.new outlet.new err.new (R.has_failed source.new.requests.reader)) result }
     ensures watched { WatchesEnd (T.is_notified drive.entry.watcher.now) err.new result }
-    ensures known { result ≤ 7 }
 {
     let Drive { pace, watcher } = drive;
     let is_heard = err.is_terminal();
     tell_recovered(err, worker);
     watcher.tell(worker, Now::Spent);
     match go_on(worker, disk, pace, source, outlet, watcher) {
-        Ok(now) => say(err, is_heard, now, source.requests().taken()),
+        Ok(now) => say(
+            err,
+            is_heard,
+            now,
+            source.requests().taken(),
+            worker,
+            watcher,
+        ),
         Err(fault) => say_disk_fault(err, fault),
     }
 }
@@ -179,13 +186,14 @@ where
 /// The worker on a disk goes on: it is recovered, and then runs slices at this pace until it is
 /// over, with a checkpoint after the last one. Its lines go to the outlet, last words to `err`.
 /// Where that is a terminal, a line before the first slice says how it was recovered, and one after
-/// `parked` which request comes next. The watcher is told where the worker is: before the first
-/// slice, after each checkpoint, and at its end. Request lines that
-/// it has taken are passed over. Their texts may be as long as its version has them. Random bytes
-/// are those of the seed's stream of its generation. Answers the exit status: 0 where the worker
-/// has ended, trapped or waits at the end of the lines, 3 for a disk that shows no worker that can
-/// go on and where a number is at its end, 4 where the disk, the reader or the clock fails, 5 for
-/// out of memory, 6 for a refused request line, 7 where the outlet has refused a line or a write
+/// `parked` which request comes next. Of a worker that traps the frames are told, with names from
+/// the module that the watcher has. The watcher is told where the worker is: before the first
+/// slice, after each checkpoint, and at its end. Request lines that it has taken are passed over.
+/// Their texts may be as long as its version has them. Random bytes are those of the seed's stream
+/// of its generation. Answers the exit status: `Done` where the worker has ended, trapped or waits
+/// at the end of the lines, `Refused` for a disk that shows no worker that can go on and where a
+/// number is at its end, `IoError` where the disk, the reader or the clock fails, `OutOfMemory`,
+/// `BadLine` for a refused request line, `Unwritten` where the outlet has refused a line or a write
 /// has failed.
 pub fn serve<D, R, C, O, E, T>(
     alloc: Global,
@@ -194,7 +202,7 @@ pub fn serve<D, R, C, O, E, T>(
     source: &mut RequestSource<R, C>,
     outlet: &mut O,
     err: &mut Printer<E>,
-) -> u8
+) -> Status
 where
     D: Disk,
     R: LineReader + ReadAhead + Drop,
@@ -209,12 +217,12 @@ where
         (R.has_failed source.old.requests.reader)) disk.old outlet.old err.old)
         (run_end disk.new outlet.new err.new (R.has_failed source.new.requests.reader)) result }
 
-    // The status is 7 just where the outlet has refused a line, or a write of `err` has failed.
+    // The status is `Unwritten` just where the outlet has refused a line, or a write of `err` has
+    // failed.
     ensures refusal { HeedsRefusal O.takes outlet.old outlet.new err.new result }
 
     // Where it is 0, the watcher was told of that end.
     ensures watched { WatchesEnd (T.is_notified drive.entry.watcher.now) err.new result }
-    ensures known { result ≤ 7 }
 {
     match Worker::recover(alloc, disk, outlet) {
         Ok(mut worker) => {

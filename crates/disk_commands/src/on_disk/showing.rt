@@ -8,10 +8,10 @@
 //!
 //! # Choices
 //!
-//! - **`show` counts records, and plays none.** So it shows a disk whose records don't fit, which
-//!   `run` refuses as `Q1 Diverged`.
+//! - **`show` counts records, and plays none.** A disk whose records don't fit is shown, too,
+//!   though `run` refuses it as `Q1 Diverged`.
 
-ghost use Rattle.std.specs.Prelude.{◌≡◌, ◌≤◌, true, OnErr, OnOk};
+ghost use Rattle.std.specs.Prelude.{◌≡◌, true, OnErr, OnOk};
 ghost use Rattle.sector_disk.specs.rules.DiskImage.{DiskImage};
 ghost use Rattle.worker.specs.rules.Surveys.{EachSurvey};
 ghost use Rattle.command_words.specs.rules.Printers.{IsPrinted};
@@ -20,8 +20,7 @@ ghost use Rattle.disk_commands.specs.rules.Showings.{survey_line};
 ghost use Rattle.disk_commands.specs.rules.Showings.{ShowsDisk, ShowsSurvey, SaysSurvey};
 
 use crate::on_disk::fault::{OnDiskFault, say_disk_fault};
-use command_words::Printer;
-use command_words::status::UNWRITTEN;
+use command_words::{Printer, Status};
 use sector_disk::Disk;
 use std::alloc::Global;
 use std::io::{self, Write};
@@ -63,25 +62,25 @@ fn print_survey<W: Write + Drop>(out: &mut Printer<W>, survey: &Survey) -> io::R
 }
 
 /// Prints a survey, and answers the exit status.
-fn say_survey<W: Write + Drop>(out: &mut Printer<W>, survey: &Survey) -> u8
+fn say_survey<W: Write + Drop>(out: &mut Printer<W>, survey: &Survey) -> Status
     ensures { SaysSurvey survey.now out.old result out.new }
 {
     match print_survey(out, survey) {
-        Ok(()) => 0,
-        Err(_) => UNWRITTEN,
+        Ok(()) => Status::Done,
+        Err(_) => Status::Unwritten,
     }
 }
 
 /// Prints what is on a worker's disk: the numbers of the process that was saved last, how many
 /// records lie after it, and its version. Nothing is changed on the disk, but that it is synced.
-/// Answers the exit status: 0 where the line is printed, 3 for a disk that is refused, 4 where it
-/// fails, 5 for out of memory, 7 where a write of a printer has failed.
+/// Answers the exit status: `Done` where the line is printed, `Refused` for a disk that is refused,
+/// `IoError` where it fails, `OutOfMemory`, `Unwritten` where a write of a printer has failed.
 pub fn survey<D: Disk, W: Write + Drop, E: Write + Drop>(
     alloc: Global,
     disk: &mut D,
     out: &mut Printer<W>,
     err: &mut Printer<E>,
-) -> u8
+) -> Status
     // The survey of the disk is printed, or why there is none.
     ensures shows { ShowsDisk (D.medium disk.old) (D.medium disk.new) out.old out.new err.old
         err.new result }
@@ -90,7 +89,6 @@ pub fn survey<D: Disk, W: Write + Drop, E: Write + Drop>(
     ensures stands { (image : DiskImage) → (D.medium disk.new).shows image
         → EachSurvey (D.medium disk.old).sectors image (ShowsSurvey (D.medium disk.old)
         (D.medium disk.new) out.old out.new err.new result) }
-    ensures known { result ≤ 7 }
 {
     match read_survey(alloc, disk) {
         Ok(survey) => say_survey(out, &survey),

@@ -8,7 +8,7 @@ use worker::{Position, Worker};
 
 /// What a worker is.
 #[derive(Clone, Copy, Debug, PartialEq, Eq)]
-pub enum State {
+pub enum WatchedState {
     /// It runs on.
     Running,
     /// It waits for a request, and its lines haven't come to their end.
@@ -18,17 +18,17 @@ pub enum State {
     Ended(ProcessEnd),
 }
 
-impl State {
+impl WatchedState {
     ghost use Rattle.disk_commands.specs.rules.Watchings.{state_after};
 
     /// That of a worker whose last slice has answered this.
-    pub fn after(now: Now) -> State
+    pub fn after(now: Now) -> WatchedState
         ensures { result ≡ state_after now }
     {
         match now {
-            Now::Spent => State::Running,
-            Now::Waiting => State::Parked,
-            Now::Ended(how) => State::Ended(how),
+            Now::Spent => WatchedState::Running,
+            Now::Waiting => WatchedState::Parked,
+            Now::Ended(how) => WatchedState::Ended(how),
         }
     }
 }
@@ -37,7 +37,7 @@ impl State {
 #[derive(Clone, Copy, Debug, PartialEq, Eq)]
 pub struct Sighting {
     pub position: Position,
-    pub state: State,
+    pub state: WatchedState,
 }
 
 impl Sighting {
@@ -49,7 +49,7 @@ impl Sighting {
     {
         Sighting {
             position: worker.position(),
-            state: State::after(now),
+            state: WatchedState::after(now),
         }
     }
 }

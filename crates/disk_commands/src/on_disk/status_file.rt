@@ -9,13 +9,14 @@
 //!   or made by this run, and only a path that was found free gets a new file. Where a text isn't
 //!   put there, the new file was removed again, or none was made (`left` of `StatusFile::put`).
 
-ghost use Rattle.std.specs.Prelude.{◌≡◌, ◌≤◌, ◌↔◌, ◌⊎◌, ◌++◌, IfErr, IfOk, IfSome, IsSome, IsTrue};
+ghost use Rattle.std.specs.Prelude.{◌≡◌, ◌↔◌, ◌⊎◌, ◌++◌, IfErr, IfOk, IfSome, IsSome, IsTrue};
 ghost use Rattle.std.specs.Prelude.{OnOk, codes, string_bytes};
 ghost use Rattle.std.specs.IoError.{error_kind};
 ghost use Rattle.std.specs.Io.KnownBytes.{Appends};
 ghost use Rattle.sector_disk.specs.declared.open_fault.OpenFault.TheVariants.{Io};
 ghost use Rattle.sector_disk.specs.rules.Causes.{open_cause};
 ghost use Rattle.command_words.specs.rules.Reports.{SaysLine};
+ghost use Rattle.command_words.specs.declared.status.Status.TheVariants as exit;
 ghost use Rattle.disk_commands.specs.rules.StatusFiles.{HasFoundFree, IsFreePath, IsWatchable};
 ghost use Rattle.disk_commands.specs.rules.StatusFiles.{SaysTaken, SaysUnwatched, beside};
 ghost use Rattle.disk_commands.specs.rules.StatusFiles.{found_words};
@@ -23,21 +24,19 @@ ghost use Rattle.disk_commands.specs.rules.StatusFiles.{found_words};
 use crate::on_disk::found_file::FoundFile;
 use crate::on_disk::opening::report_unread;
 use crate::on_disk::watched_paths::WatchedPaths;
-use command_words::Printer;
-use command_words::status::{UNREAD, UNWRITTEN};
+use command_words::{Printer, Status};
 use std::alloc::Global;
 use std::io::{self, Error, ErrorKind, Write};
 
 /// Says what is at a path, which a status file can't have, and answers the exit status.
-fn say_taken<E: Write + Drop>(err: &mut Printer<E>, path: &str, here: &FoundFile) -> u8
-    ensures said { SaysLine (codes "failed K2 Io\n" ++ path.now ++ codes ": "
-        ++ found_words here.now) 4 err.old result err.new }
-    ensures known { result ≤ 7 }
+fn say_taken<E: Write + Drop>(err: &mut Printer<E>, path: &str, here: &FoundFile) -> Status
+    ensures { SaysLine (codes "failed K2 Io\n" ++ path.now ++ codes ": "
+        ++ found_words here.now) exit.IoError err.old result err.new }
 {
     let words = here.words();
     match writeln!(err, "failed K2 Io\n{path}: {words}") {
-        Ok(()) => UNREAD,
-        Err(_) => UNWRITTEN,
+        Ok(()) => Status::IoError,
+        Err(_) => Status::Unwritten,
     }
 }
 
@@ -48,13 +47,12 @@ fn look_at_free<R: WatchedPaths, E: Write + Drop>(
     files: &R,
     path: &str,
     err: &mut Printer<E>,
-) -> Result<FoundFile, u8>
+) -> Result<FoundFile, Status>
     ensures found { IfOk result (λ here. IsTrue (R.has_found files.now path.now here)) }
     ensures free { IfOk result IsFreePath }
     ensures quiet { OnOk result (err.new ≡ err.old) }
     ensures said { IfErr result (λ status.
         SaysTaken (R.has_found files.now path.now) path.now err.old status err.new) }
-    ensures known { IfErr result (λ status. status ≤ 7) }
 {
     let here = match files.look_at(alloc, path) {
         Ok(here) => here,
@@ -88,13 +86,12 @@ fn clear_beside<R: WatchedPaths, E: Write + Drop>(
     files: &R,
     path: &str,
     err: &mut Printer<E>,
-) -> Result<(), u8>
+) -> Result<(), Status>
     ensures free { OnOk result (HasFoundFree (R.has_found files.now path.now)
         × IsTrue ((R.known files.now).removed path.now)) }
     ensures quiet { OnOk result (err.new ≡ err.old) }
     ensures said { IfErr result (λ status.
         SaysTaken (R.has_found files.now path.now) path.now err.old status err.new) }
-    ensures known { IfErr result (λ status. status ≤ 7) }
 {
     let here = match look_at_free(alloc, files, path, err) {
         Ok(here) => here,
@@ -114,14 +111,13 @@ fn clear_paths<R: WatchedPaths, E: Write + Drop>(
     path: &str,
     new: &str,
     err: &mut Printer<E>,
-) -> Result<(), u8>
+) -> Result<(), Status>
     requires { new.now ≡ beside path.now }
     ensures free { OnOk result (IsWatchable (R.has_found files.now) (R.known files.now).removed
         path.now) }
     ensures quiet { OnOk result (err.new ≡ err.old) }
     ensures said { IfErr result (λ status.
         SaysUnwatched (R.has_found files.now) path.now err.old status err.new) }
-    ensures known { IfErr result (λ status. status ≤ 7) }
 {
     let seen = match look_at_free(alloc, files, path, err) {
         Ok(seen) => seen,
@@ -196,7 +192,7 @@ pub fn status_file_of<'a, R: WatchedPaths, E: Write + Drop>(
     files: &'a R,
     path: Option<&'a str>,
     err: &mut Printer<E>,
-) -> Result<Option<StatusFile<'a, R>>, u8>
+) -> Result<Option<StatusFile<'a, R>>, Status>
     ensures named { IfOk result (λ file. IsSome file ↔ IsSome path.entry) }
     ensures free { IfSome path.entry (λ text. OnOk result (IsWatchable
         (R.has_found files.entry.now) (R.known files.entry.now).removed text.now)) }
@@ -204,7 +200,6 @@ pub fn status_file_of<'a, R: WatchedPaths, E: Write + Drop>(
     ensures said { IfErr result (λ status. IfSome path.entry (λ text.
         SaysUnwatched (R.has_found files.entry.now) text.now err.old status err.new)) }
     ensures asked { IfErr result (λ _. IsSome path.entry) }
-    ensures known { IfErr result (λ status. status ≤ 7) }
 {
     let Some(path) = path else {
         return Ok(None);

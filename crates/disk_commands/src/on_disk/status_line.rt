@@ -3,8 +3,8 @@
 //! # Choices
 //!
 //! - **A status line is read without its values.** Each number is spelled again, and compared, so
-//!   that only one spelling of it is read. A line is written by one write, so that a program that
-//!   is killed leaves an empty file or a whole line, which the next run removes.
+//!   that only one spelling of it is read. A line is written by one write. A program that is killed
+//!   then leaves an empty file or a whole line, which the next run removes.
 
 ghost use Rattle.std.specs.Prelude.{◌≡◌, ◌≤◌, ◌<◌, ◌^◌, ◌↔◌, ◌++◌, ◌∷◌, ℕ, List, codes, length};
 ghost use Rattle.std.specs.Prelude.{IfSome, IsSomeAnd, IsTrue};

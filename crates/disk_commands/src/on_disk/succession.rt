@@ -9,13 +9,13 @@
 //!
 //! # Choices
 //!
-//! - **The old disk stays open, and so locked, until the new one is done.** So no `run` takes the
-//!   old worker further meanwhile, and a new worker isn't put over the old one's device. No clause
-//!   says when a disk is closed.
+//! - **The old disk stays open, and so locked, until the new one is done.** No `run` takes the old
+//!   worker further meanwhile, and a new worker isn't put over the old one's device. No clause says
+//!   when a disk is closed.
 //! - **What doesn't fit is told before a file is made**, though the creation would refuse a journal
 //!   itself.
 
-ghost use Rattle.std.specs.Prelude.{◌≡◌, ◌↔◌, ◌*◌, ◌≤◌, IfErr, IfOk, IsTrue};
+ghost use Rattle.std.specs.Prelude.{◌≡◌, ◌↔◌, ◌*◌, ◌≤◌, IfOk, IsTrue};
 ghost use Rattle.file_tree.specs.declared.limits.TheConstants.{UNIT_BYTES};
 ghost use Rattle.file_tree.specs.rules.Files.{used};
 ghost use Rattle.disk_commands.specs.SuccessorDisks.{FitsOrSays, IsTakenOver, SucceedsOpened};
@@ -28,7 +28,7 @@ use crate::on_disk::making::{NewDisk, keep_if_created};
 use crate::on_disk::opening::report_open;
 use crate::on_disk::successor::succeed_on;
 use crate::on_disk::unsucceeded::{report_crowded, report_short, report_unleft};
-use command_words::Printer;
+use command_words::{Printer, Status};
 use disk_layout::takes_records;
 use file_tree::limits::UNIT_BYTES;
 use sector_disk::{Disk, DiskFile, DiskFiles, FileDisk, NewFiles};
@@ -61,9 +61,8 @@ fn fitted<E: Write + Drop>(
     handover: Handover,
     config: &Config,
     err: &mut Printer<E>,
-) -> Result<Handover, u8>
-    ensures fits { FitsOrSays config.now handover err.old result err.new }
-    ensures known { IfErr result (λ status. status ≤ 7) }
+) -> Result<Handover, Status>
+    ensures { FitsOrSays config.now handover err.old result err.new }
 {
     let bytes = handover.legacy.used_bytes();
     if !has_room(config, bytes) {
@@ -85,10 +84,9 @@ fn take_over<D: Disk, E: Write + Drop>(
     path: &str,
     config: &Config,
     err: &mut Printer<E>,
-) -> Result<Handover, u8>
-    ensures takes { IsTakenOver path.now config.now (D.medium disk.old) (D.medium disk.new)
+) -> Result<Handover, Status>
+    ensures { IsTakenOver path.now config.now (D.medium disk.old) (D.medium disk.new)
         err.old result err.new }
-    ensures known { IfErr result (λ status. status ≤ 7) }
 {
     match read_legacy(alloc, disk) {
         Ok(handover) => fitted(handover, config, err),
@@ -105,17 +103,16 @@ fn succeed_in_file<F, R, W, E>(
     handover: Handover,
     out: &mut Printer<W>,
     err: &mut Printer<E>,
-) -> u8
+) -> Status
 where
     F: DiskFile,
     R: NewFiles<File = F>,
     W: Write + Drop,
     E: Write + Drop,
     requires { used handover.legacy.files ≤ new.prepared.now.config.files * UNIT_BYTES }
-    ensures succeeds { SucceedsInFile F.known (R.known files.now) new.entry.path.now
+    ensures { SucceedsInFile F.known (R.known files.now) new.entry.path.now
         new.entry.wasm.now new.entry.prepared.now handover out.old out.new err.old err.new
         result }
-    ensures known { result ≤ 7 }
 {
     let (mut disk, made) = match FileDisk::create(files, new.path, new.prepared.sectors) {
         Ok(made) => made,
@@ -138,17 +135,16 @@ fn succeed_on_device<F, R, W, E>(
     handover: Handover,
     out: &mut Printer<W>,
     err: &mut Printer<E>,
-) -> u8
+) -> Status
 where
     F: DiskFile,
     R: DiskFiles<File = F>,
     W: Write + Drop,
     E: Write + Drop,
     requires { used handover.legacy.files ≤ new.prepared.now.config.files * UNIT_BYTES }
-    ensures succeeds { SucceedsOnDevice F.known (R.known files.now) new.entry.path.now
+    ensures { SucceedsOnDevice F.known (R.known files.now) new.entry.path.now
         new.entry.wasm.now new.entry.prepared.now handover out.old out.new err.old err.new
         result }
-    ensures known { result ≤ 7 }
 {
     let mut disk = match FileDisk::create_on_device(files, new.path, new.prepared.sectors) {
         Ok(disk) => disk,
@@ -170,7 +166,7 @@ fn make_successor<F, R, W, E>(
     handover: Handover,
     out: &mut Printer<W>,
     err: &mut Printer<E>,
-) -> u8
+) -> Status
 where
     F: DiskFile,
     R: NewFiles<File = F>,
@@ -178,10 +174,9 @@ where
     E: Write + Drop,
     requires { used handover.legacy.files
         ≤ succession.new.prepared.now.config.files * UNIT_BYTES }
-    ensures makes { MakesSuccessor F.known (R.known files.now) succession.entry.on_device
+    ensures { MakesSuccessor F.known (R.known files.now) succession.entry.on_device
         succession.entry.new.path.now succession.entry.new.wasm.now
         succession.entry.new.prepared.now handover out.old out.new err.old err.new result }
-    ensures known { result ≤ 7 }
 {
     if succession.on_device {
         succeed_on_device(alloc, files, succession.new, handover, out, err)
@@ -198,16 +193,15 @@ fn succeed_open<F, R, W, E>(
     succession: Succession<'_>,
     out: &mut Printer<W>,
     err: &mut Printer<E>,
-) -> u8
+) -> Status
 where
     F: DiskFile,
     R: NewFiles<File = F>,
     W: Write + Drop,
     E: Write + Drop,
-    ensures succeeds { SucceedsOpened F.known (R.known files.now) succession.entry.from.now
+    ensures { SucceedsOpened F.known (R.known files.now) succession.entry.from.now
         succession.entry.on_device succession.entry.new.path.now succession.entry.new.wasm.now
         succession.entry.new.prepared.now old.old old.new out.old out.new err.old err.new result }
-    ensures known { result ≤ 7 }
 {
     let config = &succession.new.prepared.config;
     match take_over(alloc, old, succession.from, config, err) {
@@ -224,16 +218,15 @@ pub(super) fn succeed_disk<F, R, W, E>(
     succession: Succession<'_>,
     out: &mut Printer<W>,
     err: &mut Printer<E>,
-) -> u8
+) -> Status
 where
     F: DiskFile,
     R: NewFiles<File = F>,
     W: Write + Drop,
     E: Write + Drop,
-    ensures succeeds { SucceedsDisk F.known (R.known files.now) succession.entry.from.now
+    ensures { SucceedsDisk F.known (R.known files.now) succession.entry.from.now
         succession.entry.on_device succession.entry.new.path.now succession.entry.new.wasm.now
         succession.entry.new.prepared.now out.old out.new err.old err.new result }
-    ensures known { result ≤ 7 }
 {
     let mut old = match open_disk(files, succession.from, false, err) {
         Ok(old) => old,

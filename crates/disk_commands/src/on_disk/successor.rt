@@ -2,22 +2,23 @@
 //!
 //! # Promises
 //!
-//! - `succeed_on`: status 0 says that the worker is created on the disk, and goes on from what was
+//! - `succeed_on`: `Done` says that the worker is created on the disk, and goes on from what was
 //!   handed over. `created N sectors` was printed then, and after which request and line it goes
 //!   on. What the other statuses say is said too, and what a cut at any moment leaves
-//!   (`succeeds`).
+//!   (`SucceedsOn`).
 
 ghost use Rattle.std.specs.Prelude.{◌≡◌, ◌*◌, ◌≤◌, true, OnErr, OnOk};
 ghost use Rattle.file_tree.specs.declared.limits.TheConstants.{UNIT_BYTES};
 ghost use Rattle.file_tree.specs.rules.Files.{used};
 ghost use Rattle.command_words.specs.rules.Printers.{IsPrinted};
 ghost use Rattle.command_words.specs.rules.Reports.{SaysOnOutput};
+ghost use Rattle.command_words.specs.declared.status.Status.TheVariants as exit;
 ghost use Rattle.disk_commands.specs.rules.SuccessorDisks.{SucceedsOn, dropped_line};
 ghost use Rattle.disk_commands.specs.rules.SuccessorDisks.{goes_on_line, successor_text};
 
 use crate::on_disk::fault::{OnDiskFault, say_disk_fault};
 use crate::on_disk::making::NewDisk;
-use command_words::{Obstacle, Printer, report, sectors_of};
+use command_words::{Obstacle, Printer, Status, report, sectors_of};
 use sector_disk::Disk;
 use std::alloc::Global;
 use std::io::{self, Write};
@@ -73,20 +74,21 @@ fn say_successor<W: Write + Drop, E: Write + Drop>(
     sectors: u64,
     numbers: Numbers,
     err: &mut Printer<E>,
-) -> u8
+) -> Status
     ensures { SaysOnOutput (successor_text sectors numbers.requests numbers.lines
-        numbers.dropped) 0 out.old out.new err.old err.new result }
+        numbers.dropped) exit.Done out.old out.new err.old err.new result }
 {
     match print_successor(out, sectors, numbers) {
-        Ok(()) => 0,
+        Ok(()) => Status::Done,
         Err(_) => report(err, Obstacle::Unwritten),
     }
 }
 
 /// Creates a worker of the module that the bytes spell, on this disk, which goes on from what was
-/// handed over, and says from where. Answers the exit status: 0 where it is created, 3 for a module
-/// that isn't accepted and a disk with too few sectors, 4 where the disk fails, 5 for out of
-/// memory, 7 where a write of a printer has failed. One of the output is told on the error output.
+/// handed over, and says from where. Answers the exit status: `Done` where it is created, `Refused`
+/// for a module that isn't accepted and a disk with too few sectors, `IoError` where the disk
+/// fails, `OutOfMemory`, `Unwritten` where a write of a printer has failed. One of the output is
+/// told on the error output.
 pub(super) fn succeed_on<D: Disk, W: Write + Drop, E: Write + Drop>(
     alloc: Global,
     disk: &mut D,
@@ -94,11 +96,10 @@ pub(super) fn succeed_on<D: Disk, W: Write + Drop, E: Write + Drop>(
     handover: Handover,
     out: &mut Printer<W>,
     err: &mut Printer<E>,
-) -> u8
+) -> Status
     requires { used handover.legacy.files ≤ new.prepared.now.config.files * UNIT_BYTES }
-    ensures succeeds { SucceedsOn D.medium new.entry.wasm.now new.entry.prepared.now.config
+    ensures { SucceedsOn D.medium new.entry.wasm.now new.entry.prepared.now.config
         handover disk.old disk.new out.old out.new err.old err.new result }
-    ensures known { result ≤ 7 }
 {
     let NewDisk { wasm, prepared, .. } = new;
     let config = &prepared.config;

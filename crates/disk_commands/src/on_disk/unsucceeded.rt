@@ -5,46 +5,44 @@
 //! - **Each refusal has a second line that says what to do**, but for steps at their end: nothing
 //!   can be done then. What a recovery finds wrong with the old disk is told as by `show`.
 
-ghost use Rattle.std.specs.Prelude.{◌≡◌, ◌≤◌};
+ghost use Rattle.std.specs.Prelude.{◌≡◌};
 ghost use Rattle.disk_layout.specs.rules.Journal.{TakesRecords};
 ghost use Rattle.command_words.specs.rules.Reports.{SaysLine};
+ghost use Rattle.command_words.specs.declared.status.Status.TheVariants as exit;
 ghost use Rattle.disk_commands.specs.rules.SuccessorDisks.{SaysUnleft, crowded_words};
 ghost use Rattle.disk_commands.specs.rules.SuccessorDisks.{restless_words, short_words, units_for};
 
 use crate::on_disk::fault::{OnDiskFault, say_disk_fault};
-use command_words::status::{REFUSED, UNWRITTEN};
-use command_words::{Printer, say_line};
+use command_words::{Printer, Status, say_line};
 use file_tree::limits::UNIT_BYTES;
 use std::io::Write;
 use worker::LeaveFault;
 
 /// Says that the worker on the disk at this path isn't at rest.
-fn say_restless<E: Write + Drop>(err: &mut Printer<E>, path: &str) -> u8
-    ensures said { SaysLine (restless_words path.now) 3 err.old result err.new }
-    ensures known { result ≤ 7 }
+fn say_restless<E: Write + Drop>(err: &mut Printer<E>, path: &str) -> Status
+    ensures { SaysLine (restless_words path.now) exit.Refused err.old result err.new }
 {
     match writeln!(
         err,
         "failed N9 NotParked\n{path}: isn't at rest: run it without requests, and keep its lines"
     ) {
-        Ok(()) => REFUSED,
-        Err(_) => UNWRITTEN,
+        Ok(()) => Status::Refused,
+        Err(_) => Status::Unwritten,
     }
 }
 
-/// Prints why the worker on the disk at this path leaves nothing, and answers the exit status, or 7
-/// where a write has failed.
+/// Prints why the worker on the disk at this path leaves nothing, and answers the exit status, or
+/// `Unwritten` where a write has failed.
 pub(super) fn report_unleft<E: Write + Drop>(
     err: &mut Printer<E>,
     path: &str,
     fault: LeaveFault,
-) -> u8
-    ensures said { SaysUnleft path.now fault err.old result err.new }
-    ensures known { result ≤ 7 }
+) -> Status
+    ensures { SaysUnleft path.now fault err.old result err.new }
 {
     match fault {
         LeaveFault::NotParked => say_restless(err, path),
-        LeaveFault::StepsSpent => say_line(err, REFUSED, "failed P3 StepsSpent"),
+        LeaveFault::StepsSpent => say_line(err, Status::Refused, "failed P3 StepsSpent"),
         LeaveFault::Recover(fault) => say_disk_fault(err, OnDiskFault::from(fault)),
     }
 }
@@ -61,28 +59,26 @@ fn units_for(bytes: u64) -> u64
     }
 }
 
-/// Prints that files of so many bytes don't fit, and answers the exit status, or 7 where a write
-/// has failed.
-pub(super) fn report_crowded<E: Write + Drop>(err: &mut Printer<E>, bytes: u64) -> u8
-    ensures said { SaysLine (crowded_words (units_for bytes)) 3 err.old result err.new }
-    ensures known { result ≤ 7 }
+/// Prints that files of so many bytes don't fit, and answers the exit status, or `Unwritten` where
+/// a write has failed.
+pub(super) fn report_crowded<E: Write + Drop>(err: &mut Printer<E>, bytes: u64) -> Status
+    ensures { SaysLine (crowded_words (units_for bytes)) exit.Refused err.old result err.new }
 {
     let units = units_for(bytes);
     match writeln!(
         err,
         "failed F4 NoRoom\nits files take {units} units: --files {units}"
     ) {
-        Ok(()) => REFUSED,
-        Err(_) => UNWRITTEN,
+        Ok(()) => Status::Refused,
+        Err(_) => Status::Unwritten,
     }
 }
 
-/// Prints that a journal is too small for version 2, and answers the exit status, or 7 where a
-/// write has failed.
-pub(super) fn report_short<E: Write + Drop>(err: &mut Printer<E>) -> u8
-    ensures said { SaysLine short_words 3 err.old result err.new }
-    ensures known { result ≤ 7 }
+/// Prints that a journal is too small for version 2, and answers the exit status, or `Unwritten`
+/// where a write has failed.
+pub(super) fn report_short<E: Write + Drop>(err: &mut Printer<E>) -> Status
+    ensures { SaysLine short_words exit.Refused err.old result err.new }
 {
     let words = "failed N7 JournalTooSmall\nversion 2 takes at least 133 sectors: --journal 133";
-    say_line(err, REFUSED, words)
+    say_line(err, Status::Refused, words)
 }

@@ -2,19 +2,20 @@
 //!
 //! # Promises
 //!
-//! - `upgrade_worker`: all that is done of a worker of version 1 is one life, without an answer:
-//!   slices, and an upgrade after one that has said that the worker waits or has ended
-//!   (`HasRunOn`). Where a call of it fails, its process is where that slice's own clause says, or
-//!   the error is one that an upgrade may answer (`HasFailedAt`). It is never that the worker
-//!   hadn't caught up (`IsOfCaughtUp`). Of a worker of version 2 all that is done is a recovery
-//!   (`upgrades`). The status is 7 where the outlet has refused a line, and else only where a write
-//!   of `err` has failed (`refusal`). `upgrade_file` is that of a disk that was opened and not
-//!   written back, and the result is said behind the worker's lines (`UpgradesFile`).
+//! - `upgrade_worker`: all that is done of a worker of version 1 is one life, without an answer.
+//!   The life has slices, and an upgrade after one that has said that the worker waits or has ended
+//!   (`HasRunOn`). Where a call of that life fails, its process is where that slice's own clause
+//!   says, or the error is one that an upgrade may answer (`HasFailedAt`). The error is never that
+//!   the worker hadn't caught up (`IsOfCaughtUp`). Of a worker of version 2 all that is done is a
+//!   recovery (`upgrades`). The status is `Unwritten` where the outlet has refused a line, and else
+//!   only where a write of `err` has failed (`refusal`).
+//! - `upgrade_file` is that of a disk that was opened and not written back, and the result is said
+//!   behind the worker's lines (`UpgradesFile`).
 
-ghost use Rattle.std.specs.Prelude.{◌≡◌, ◌≢◌, ◌≤◌, [], IfErr, IfOk, OnOk};
+ghost use Rattle.std.specs.Prelude.{◌≡◌, ◌≢◌, ◌≤◌, [], IfOk, OnOk};
 ghost use Rattle.disk_layout.specs.rules.Places.{total_sectors};
 ghost use Rattle.record_replay.specs.declared.slices.now.Now.TheVariants.{Spent};
-ghost use Rattle.disk_commands.specs.Livings.{scene};
+ghost use Rattle.worker.specs.rules.Scenes.{scene};
 ghost use Rattle.disk_commands.specs.ComingUp.{ComesUp, IsUpgradedFrom, UpgradesOpen};
 ghost use Rattle.disk_commands.specs.rules.Refusals.{HeedsRefusal};
 ghost use Rattle.disk_commands.specs.rules.ServedFiles.{SaysUpgraded};
@@ -23,7 +24,7 @@ ghost use Rattle.disk_commands.specs.rules.Upgradings.{status_so_far, upgraded_w
 
 use crate::on_disk::fault::{OnDiskFault, say_disk_fault};
 use crate::on_disk::serving::tell_recovered;
-use command_words::{LineOutlet, Obstacle, Printer, report};
+use command_words::{LineOutlet, Obstacle, Printer, Status, report};
 use record_replay::{AnswerList, Now, Outlet, Source};
 use sector_disk::Disk;
 use std::alloc::Global;
@@ -96,11 +97,10 @@ fn bring_up<D: Disk, O: Outlet, E: Write + Drop>(
     disk: &mut D,
     outlet: &mut O,
     err: &mut Printer<E>,
-) -> Result<Upgraded, u8>
+) -> Result<Upgraded, Status>
     requires { total_sectors worker.old.store.geometry ≤ (D.medium disk.old).sectors }
-    ensures upgrades { UpgradesOpen D.medium O.takes worker.old result disk.old disk.new outlet.old
+    ensures { UpgradesOpen D.medium O.takes worker.old result disk.old disk.new outlet.old
         outlet.new err.old err.new }
-    ensures known { IfErr result (λ status. status ≤ 7) }
 {
     tell_recovered(err, worker);
     match worker.process().host().version() {
@@ -115,21 +115,21 @@ fn bring_up<D: Disk, O: Outlet, E: Write + Drop>(
 /// The worker on a disk comes to version 2, where it isn't there. It is recovered, runs on without
 /// an answer to its next question or to its end, and is saved in version 2. Its lines go to the
 /// outlet. Where `err` is a terminal, a line says how it was recovered. An error is the exit
-/// status: 3 for a disk that shows no worker that can go on, for a journal that is too small, and
-/// where a number is at its end, 4 where the disk fails, 5 for out of memory, 7 where the outlet
-/// has refused a line or a write has failed.
+/// status: `Refused` for a disk that shows no worker that can go on, for a journal that is too
+/// small, and where a number is at its end, `IoError` where the disk fails, `OutOfMemory`,
+/// `Unwritten` where the outlet has refused a line or a write has failed.
 pub fn upgrade_worker<D: Disk, O: Outlet, E: Write + Drop>(
     alloc: Global,
     disk: &mut D,
     outlet: &mut O,
     err: &mut Printer<E>,
-) -> Result<Upgraded, u8>
+) -> Result<Upgraded, Status>
     ensures upgrades { UpgradesOnDisk D.medium O.takes result disk.old disk.new outlet.old
         outlet.new err.old err.new }
 
-    // The status is 7 just where the outlet has refused a line, or a write of `err` has failed.
+    // The status is `Unwritten` just where the outlet has refused a line, or a write of `err` has
+    // failed.
     ensures refusal { HeedsRefusal O.takes outlet.old outlet.new err.new (status_so_far result) }
-    ensures known { IfErr result (λ status. status ≤ 7) }
 {
     match Worker::recover(alloc, disk, outlet) {
         Ok(mut worker) => {
@@ -154,17 +154,15 @@ fn words_of_upgrade(upgraded: Upgraded) -> &'static [u8]
 /// Says after the worker's lines that it is of version 2, or that this can't be written. Of an
 /// error nothing more is said. Returns the exit status.
 pub(super) fn say_upgraded<W: Write + Drop, E: Write + Drop>(
-    upgraded: Result<Upgraded, u8>,
+    upgraded: Result<Upgraded, Status>,
     outlet: &mut LineOutlet<W>,
     err: &mut Printer<E>,
-) -> u8
-    requires { IfErr upgraded (λ status. status ≤ 7) }
-    ensures said { SaysUpgraded upgraded outlet.old outlet.new err.old err.new result }
-    ensures known { result ≤ 7 }
+) -> Status
+    ensures { SaysUpgraded upgraded outlet.old outlet.new err.old err.new result }
 {
     match upgraded {
         Ok(upgraded) => match outlet.write_text(words_of_upgrade(upgraded)) {
-            Ok(()) => 0,
+            Ok(()) => Status::Done,
             Err(_) => report(err, Obstacle::Unwritten),
         },
         Err(status) => status,

@@ -6,7 +6,8 @@
 //!   sighting: `spelled_status` its line, `spelled_metrics` its metrics, each to the byte. Between
 //!   two slices that is the sighting of a worker that runs on (`due`), where a second has passed
 //!   since the last one (`IsDue`). No clause says that a file gets its text:
-//!   `scripts/runs/program-rows` and `scripts/runs/disk-rows` show that.
+//!   `scripts/runs/program-rows` and `scripts/runs/disk-rows` show that. It also has the module of
+//!   the worker's disk, for the names of functions.
 //! - `watch_files_of`: a file is only there where both of its paths were found free. Else it is
 //!   said which one isn't, and why (`SaysUnwatchable`).
 //!
@@ -15,7 +16,7 @@
 //! - **The clock is read once between two slices**, for both files, and not at all where none is
 //!   named.
 
-ghost use Rattle.std.specs.Prelude.{◌≡◌, ◌≤◌, ◌↔◌, IfErr, IfOk, IfSome, IsSome, IsTrue, OnOk};
+ghost use Rattle.std.specs.Prelude.{◌≡◌, ◌↔◌, IfErr, IfOk, IfSome, IsSome, IsTrue, OnOk};
 ghost use Rattle.record_replay.specs.declared.slices.now.Now.TheVariants.{Spent};
 ghost use Rattle.disk_commands.specs.rules.Metrics.{disk_label, metrics_text};
 ghost use Rattle.disk_commands.specs.rules.StatusFiles.{IsWatchable, SaysUnwatchable};
@@ -25,16 +26,17 @@ ghost use Rattle.disk_commands.specs.Watchings.{IsDue};
 
 use crate::on_disk::metrics::{print_metrics, spell_label};
 use crate::on_disk::opening::report_unread;
-use crate::on_disk::sighting::{Sighting, State};
+use crate::on_disk::sighting::{Sighting, WatchedState};
 use crate::on_disk::status_file::{StatusFile, status_file_of};
 use crate::on_disk::watched_paths::WatchedPaths;
 use crate::on_disk::watching::{Watcher, print_status};
-use command_words::{Printer, nanoseconds_of};
+use command_words::{Printer, Status, nanoseconds_of};
 use record_replay::Now;
 use std::alloc::Global;
 use std::cell::Cell;
 use std::io::{self, Error, ErrorKind, Write};
 use std::time::Clock;
+use wasm_syntax::ItemList;
 use worker::{Position, Worker};
 
 /// Nanoseconds between two sightings of a worker that runs on.
@@ -84,13 +86,15 @@ struct MetricsFile<'a, R> {
     label: Vec<u8>,
 }
 
-/// The files of a run that say where its worker is, as far as they are named.
+/// The files of a run that say where its worker is, as far as they are named, and its disk.
 #[derive(Drop)]
 pub struct WatchFiles<'a, R> {
     alloc: Global,
     files: &'a R,
     status: Option<StatusFile<'a, R>>,
     metrics: Option<MetricsFile<'a, R>>,
+    /// The path of the worker's disk.
+    disk: &'a str,
     /// When they were written last, in nanoseconds of the machine's clock that never goes back.
     last: Cell<Option<u64>>,
 }
@@ -168,12 +172,16 @@ impl<R: WatchedPaths + Clock> Watcher for WatchFiles<'_, R> {
     fn tell_waiting(&self, position: Position) {
         self.write(&Sighting {
             position,
-            state: State::Waiting,
+            state: WatchedState::Waiting,
         });
     }
 
     fn is_watching(&self) -> bool {
         self.has_some()
+    }
+
+    fn module(&self) -> Option<ItemList<u8>> {
+        self.files.module_at(self.alloc, self.disk)
     }
 }
 
@@ -185,7 +193,7 @@ fn metrics_file_of<'a, R: WatchedPaths, E: Write + Drop>(
     path: Option<&'a str>,
     disk: &str,
     err: &mut Printer<E>,
-) -> Result<Option<MetricsFile<'a, R>>, u8>
+) -> Result<Option<MetricsFile<'a, R>>, Status>
     ensures named { IfOk result (λ file. IsSome file ↔ IsSome path.entry) }
     ensures free { IfSome path.entry (λ text. OnOk result (IsWatchable
         (R.has_found files.entry.now) (R.known files.entry.now).removed text.now)) }
@@ -195,7 +203,6 @@ fn metrics_file_of<'a, R: WatchedPaths, E: Write + Drop>(
     ensures said { IfErr result (λ status. IfSome path.entry (λ text.
         SaysUnwatched (R.has_found files.entry.now) text.now err.old status err.new)) }
     ensures asked { IfErr result (λ _. IsSome path.entry) }
-    ensures known { IfErr result (λ status. status ≤ 7) }
 {
     let Some(named) = path else {
         return Ok(None);
@@ -219,7 +226,7 @@ pub fn watch_files_of<'a, R: WatchedPaths, E: Write + Drop>(
     files: &'a R,
     paths: WatchPaths<'a>,
     err: &mut Printer<E>,
-) -> Result<WatchFiles<'a, R>, u8>
+) -> Result<WatchFiles<'a, R>, Status>
     ensures status { IfSome paths.entry.status (λ text. OnOk result (IsWatchable
         (R.has_found files.entry.now) (R.known files.entry.now).removed text.now)) }
     ensures metrics { IfSome paths.entry.metrics (λ text. OnOk result (IsWatchable
@@ -231,7 +238,6 @@ pub fn watch_files_of<'a, R: WatchedPaths, E: Write + Drop>(
     ensures quiet { OnOk result (err.new ≡ err.old) }
     ensures said { IfErr result (λ status. SaysUnwatchable (R.has_found files.entry.now)
         (path_named paths.entry.status) (path_named paths.entry.metrics) err.old status err.new) }
-    ensures known { IfErr result (λ status. status ≤ 7) }
 {
     let status = match status_file_of(alloc, files, paths.status, err) {
         Ok(status) => status,
@@ -243,6 +249,7 @@ pub fn watch_files_of<'a, R: WatchedPaths, E: Write + Drop>(
             files,
             status,
             metrics,
+            disk: paths.disk,
             last: Cell::new(None),
         }),
         Err(code) => Err(code),

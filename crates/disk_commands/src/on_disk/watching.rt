@@ -3,10 +3,12 @@
 //! # Promises
 //!
 //! - `Watcher`: who is told where the worker of a run is. `serve` tells it once the worker is
-//!   recovered, and after each checkpoint of its pace (`told` of `rest_on`). Where the status is 0,
-//!   it was told of that end (`watched`). It is also told between two slices, and before the worker
-//!   waits for its source (`Asked`): of both it may leave out some, and no clause says that it is
-//!   told then. `WatchFiles` is a watcher, which replaces small files.
+//!   recovered, and after each checkpoint of its pace (`told` of `rest_on`). Where the status is
+//!   `Done`, it was told of that end (`watched`). It is also told between two slices, and before
+//!   the worker waits for its source (`Asked`): of both it may leave out some, and no clause says
+//!   that it is told then. `WatchFiles` is a watcher, which replaces small files.
+//! - `Watcher::module`: the module of the worker's disk, for the names of functions. No clause says
+//!   that these are its bytes, and a watcher may have none.
 //! - `print_status`: the line of a worker that was seen so, to the byte (`watch_line`).
 //!
 //! # Choices
@@ -26,11 +28,12 @@ ghost use Rattle.std.specs.Prelude.{Some};
 
 use crate::on_disk::ending::print_last_words;
 use crate::on_disk::showing::print_number;
-use crate::on_disk::sighting::{Sighting, State};
+use crate::on_disk::sighting::{Sighting, WatchedState};
 use command_words::Printer;
 use record_replay::{Now, Readiness};
 use std::io::{self, Write};
 use wasi_abi::Question;
+use wasm_syntax::ItemList;
 use worker::{Onlooker, Position, Worker};
 
 /// Whoever is told where a worker on a disk is.
@@ -58,6 +61,12 @@ pub trait Watcher {
     fn is_watching(&self) -> bool {
         false
     }
+
+    /// The bytes of the worker's module, as its disk has them. They are asked for where it has
+    /// trapped. A watcher may have none.
+    fn module(&self) -> Option<ItemList<u8>> {
+        None
+    }
 }
 
 /// Tells a watcher that a worker is about to wait for its source.
@@ -73,15 +82,15 @@ impl<S: Readiness, T: Watcher> Onlooker<S> for Asked<'_, T> {
 }
 
 /// Writes what a worker is, or how it is over.
-fn print_watch_words<W: Write + Drop>(out: &mut Printer<W>, state: State) -> io::Result<()>
+fn print_watch_words<W: Write + Drop>(out: &mut Printer<W>, state: WatchedState) -> io::Result<()>
     ensures printed { OnOk result (IsPrinted out.old out.new (watch_words state)) }
     ensures failed { OnErr result (out.new.failed ≡ true) }
 {
     match state {
-        State::Running => out.write_all(b"running\n"),
-        State::Waiting => out.write_all(b"waits for a request\n"),
-        State::Parked => print_last_words(out, Now::Waiting),
-        State::Ended(how) => print_last_words(out, Now::Ended(how)),
+        WatchedState::Running => out.write_all(b"running\n"),
+        WatchedState::Waiting => out.write_all(b"waits for a request\n"),
+        WatchedState::Parked => print_last_words(out, Now::Waiting),
+        WatchedState::Ended(how) => print_last_words(out, Now::Ended(how)),
     }
 }
 

@@ -19,7 +19,8 @@ returns c =
     let last = c.add_list.new.facts.items in
     let nodes : ℕ → Fact = λ n. Single (codes "nodes") (usage_value n NODES) in
     let bytes : ℕ → Fact = λ n. Single (codes "bytes") (usage_value n c.args.room) in
-    let opened : List FactValue → Fact = λ vs. Listed (codes "descriptor") (codes "descriptors") vs in
+    let opened : List FactValue → Fact =
+    λ vs. Listed (codes "descriptor") (codes "descriptors") vs in
     let all = descriptor_values h.files 0 h.descriptors in
     let found : values_of c.in_ok-descriptors.descriptors.items ≡ all =
     c.in_ok-descriptors.ensures

@@ -9,8 +9,8 @@ use Rattle.disk_commands.proofs.inspecting.process_facts.frame_values.Goals as g
 pub loop-index-preserved : goal.loop-index-preserved
 loop-index-preserved c =
     one_got_pushed frame_value fact_value_of (reverse c.args.machine.now.state.frames)
-    c.loop-index.index (lent_frame c.place-place.result) c.loop-index.values.items
-    c.push.new.self.items c.in_ok-frame.frame c.place-place.ensures c.loop-index.invariant
+    c.loop-index.index (lent_frame c.frame-place.result) c.loop-index.values.items
+    c.push.new.self.items c.in_ok-frame.frame c.frame-place.ensures c.loop-index.invariant
     c.in_ok-push.ensures.items c.in_ok-frame.ensures
 
 pub returns : goal.returns

@@ -1,7 +1,8 @@
+use Rattle.worker.specs.rules.LifeWords.{Batch}
 use Rattle.disk_commands.proofs.BreakLemmas.{batch_breaks_off}
 use Rattle.disk_commands.proofs.HearingLemmas.{slice_hears, batch_hears_up_to}
 use Rattle.disk_commands.proofs.TakingLemmas.{slice_takes, batch_heeds}
-use Rattle.disk_commands.proofs.LivingLemmas.{batch_leads, batch_fails}
+use Rattle.disk_commands.proofs.LivingLemmas.{call_leads, call_fails}
 use Rattle.disk_commands.proofs.on_disk.living.batch_once.Goals as goal
 
 pub returns-in-Ok-clause-done : goal.returns-in-Ok-clause-done
@@ -9,14 +10,14 @@ returns-in-Ok-clause-done g c =
     let runs = c.in-Ok.ensures.runs c.requires in
     record {
       heard = slice_hears g.S.Source.gives g.O.Outlet.takes c.args.watched.fuel _ _ _ _ _ _
-          c.in-Ok.now runs.shows runs.done;
+          c.in-Ok.now runs.steps.shows runs.steps.done;
       taken = slice_takes g.S.Source.gives g.O.Outlet.takes c.args.watched.fuel _ _ _ _ _ _
-          c.in-Ok.now runs.shows runs.done;
-      leads = batch_leads g.D.Disk.medium g.S.Source.gives g.O.Outlet.takes _ _ _ _ _ _ _ _ _ _ _
-          runs.carries;
-      shows = runs.shows;
-      slices = runs.done;
-      room = runs.room;
+          c.in-Ok.now runs.steps.shows runs.steps.done;
+      leads = call_leads g.D.Disk.medium g.S.Source.gives g.O.Outlet.takes
+          (Batch c.args.watched.fuel c.args.most) _ _ _ _ _ _ _ _ c.in-Ok.now runs.carries;
+      shows = runs.steps.shows;
+      slices = runs.steps.done;
+      room = runs.steps.room;
     }
 
 pub returns-in-Err-clause-failed : goal.returns-in-Err-clause-failed
@@ -25,14 +26,14 @@ returns-in-Err-clause-failed g c =
     record {
       heard = batch_hears_up_to g.S.Source.gives g.O.Outlet.takes c.args.watched.fuel _ _ _ _
           c.args.most c.args.worker.now.process c.watched_batch.new.self.process c.in-Err.fault
-          c.args.worker.now.has_failed runs.shows runs.failed
+          c.args.worker.now.has_failed runs.steps.shows runs.failed
           (λ e. (c.in-Err.ensures.refused e).3);
       heeded = batch_heeds g.S.Source.gives g.O.Outlet.takes c.args.watched.fuel _ _ _ _
           c.args.worker.now.process c.watched_batch.new.self.process c.in-Err.fault
-          c.args.worker.now.has_failed runs.shows runs.failed
+          c.args.worker.now.has_failed runs.steps.shows runs.failed
           (λ e. (c.in-Err.ensures.refused e).0) (λ e. (c.in-Err.ensures.refused e).4);
-      done = batch_fails g.D.Disk.medium g.S.Source.gives g.O.Outlet.takes _ _ _ _ _ _ _ _ _ _ _
-          runs.carries;
+      done = call_fails g.D.Disk.medium g.S.Source.gives g.O.Outlet.takes
+          (Batch c.args.watched.fuel c.args.most) _ _ _ _ _ _ _ _ c.in-Err.fault runs.carries tt;
       broken = batch_breaks_off g.S.Source.gives g.O.Outlet.takes c.args.watched.fuel _ _ _ _
           c.args.worker.now.process c.watched_batch.new.self.process c.in-Err.fault c.args.most
           c.args.worker.now.has_failed runs.failed (λ e. (c.in-Err.ensures.refused e).0)

@@ -1,5 +1,5 @@
 use Rattle.record_replay.specs.declared.slices.now.Now.TheVariants.{Waiting, Ended}
-use Rattle.disk_commands.specs.Livings.{scene}
+use Rattle.worker.specs.rules.Scenes.{scene}
 use Rattle.disk_commands.proofs.LivingLemmas.{round_more, round_last, round_broken}
 use Rattle.disk_commands.proofs.on_disk.living.live.Goals as goal
 

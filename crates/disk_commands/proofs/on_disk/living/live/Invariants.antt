@@ -1,5 +1,6 @@
 use Rattle.std.specs.Int.NonZero.{non_zero_u64_get}
-use Rattle.disk_commands.specs.Livings.{scene, steps_left}
+use Rattle.worker.specs.rules.Scenes.{scene}
+use Rattle.disk_commands.specs.Livings.{steps_left}
 use Rattle.disk_commands.specs.rules.Paces.{act_at}
 use Rattle.disk_commands.proofs.LivingLemmas.{SoFar}
 use Rattle.disk_commands.proofs.on_disk.living.live.Given as goal

@@ -3,7 +3,9 @@ use Rattle.disk_commands.proofs.LivingLemmas.{within_breaks, within_rests, withi
 use Rattle.disk_commands.proofs.LivingLemmas.{within_more, none_taken, within_fewer}
 use Rattle.disk_commands.proofs.on_disk.living.round.Goals as goal
 use Rattle.disk_commands.proofs.on_disk.living.round.Goals.{then-taken-every-via-then-taken-every}
-use Rattle.disk_commands.proofs.on_disk.living.round.Goals.{then-taken-every-via-else-taken-every+then-not-is_spent}
+use Rattle.disk_commands.proofs.on_disk.living.round.Goals.{
+  then-taken-every-via-else-taken-every+then-not-is_spent,
+}
 
 pub loop-now-init : goal.loop-now-init
 loop-now-init g c =

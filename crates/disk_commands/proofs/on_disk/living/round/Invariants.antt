@@ -1,6 +1,6 @@
 use Rattle.std.proofs.Common.{◌-◌}
 use Rattle.std.specs.Int.NonZero.{non_zero_u64_get}
-use Rattle.disk_commands.specs.Livings.{scene}
+use Rattle.worker.specs.rules.Scenes.{scene}
 use Rattle.disk_commands.specs.rules.Paces.{act_at}
 use Rattle.disk_commands.proofs.LivingLemmas.{IsWithin}
 use Rattle.disk_commands.proofs.on_disk.living.round.Given as goal

@@ -1,12 +1,12 @@
 use Rattle.std.proofs.Common.{inl, inr, refl}
 use Rattle.disk_commands.proofs.on_disk.making.create_disk.Goals as goal
 
-pub returns-in-Ok-clause-creates : goal.returns-in-Ok-clause-creates
-returns-in-Ok-clause-creates g c =
-    inr (c.in-Ok.prepared, c.in-Ok.ensures.prepared, c.make_ordered-status.ensures.makes)
+pub returns-in-Ok : goal.returns-in-Ok
+returns-in-Ok g c =
+    inr (c.in-Ok.prepared, c.in-Ok.ensures.prepared, c.make_ordered-status.ensures)
 
-pub returns-in-Err-clause-creates : goal.returns-in-Err-clause-creates
-returns-in-Err-clause-creates g c =
+pub returns-in-Err : goal.returns-in-Err
+returns-in-Err g c =
     inl (
       c.in-Err.fault,
       c.in-Err.ensures.refused,

@@ -1,7 +1,7 @@
 use Rattle.disk_commands.proofs.on_disk.making.make_ordered.Goals as goal
 
-pub returns-in-None-clause-makes : goal.returns-in-None-clause-makes
-returns-in-None-clause-makes g c = rw c.in-None.is c.make_disk.ensures.makes
+pub returns-in-None : goal.returns-in-None
+returns-in-None g c = rw c.in-None.is c.make_disk.ensures
 
-pub returns-in-Some-clause-makes : goal.returns-in-Some-clause-makes
-returns-in-Some-clause-makes g c = rw c.in-Some.is c.succeed_disk.ensures.succeeds
+pub returns-in-Some : goal.returns-in-Some
+returns-in-Some g c = rw c.in-Some.is c.succeed_disk.ensures

@@ -3,8 +3,8 @@ use Rattle.std.specs.Io.Buffered.{reader_remaining}
 use Rattle.disk_commands.proofs.ServedLemmas.{job_served}
 use Rattle.disk_commands.proofs.on_disk.running.run_job.Goals as goal
 
-pub returns-in-Ok-clause-runs : goal.returns-in-Ok-clause-runs
-returns-in-Ok-clause-runs g c =
+pub returns-in-Ok : goal.returns-in-Ok
+returns-in-Ok g c =
     let source = c.new-source.result in
     let lines = c.args.system.lines in
     job_served g.D.Disk.medium g.O.Outlet.takes _ _ c.args.job
@@ -14,10 +14,10 @@ returns-in-Ok-clause-runs g c =
     c.new-source.ensures.outside
     (ap (λ r. reader_remaining g.I.Read.remaining r.reader) c.new-source.ensures.reader)
     (ap (λ r. r.has_failed) c.new-source.ensures.reader)
-    c.in-Ok.ensures.quiet c.serve_to_end-status.ensures.serves
+    c.in-Ok.ensures.quiet c.serve_to_end-status.ensures
 
-pub returns-in-Err-clause-runs : goal.returns-in-Err-clause-runs
-returns-in-Err-clause-runs g c = inl (
+pub returns-in-Err : goal.returns-in-Err
+returns-in-Err g c = inl (
   ((λ path here. true), c.in-Err.ensures.said),
   refl,
   refl,

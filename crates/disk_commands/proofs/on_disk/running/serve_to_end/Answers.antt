@@ -1,8 +1,8 @@
 use Rattle.std.specs.Io.Buffered.{reader_buffer}
 use Rattle.disk_commands.proofs.on_disk.running.serve_to_end.Goals as goal
 
-pub returns-clause-serves : goal.returns-clause-serves
-returns-clause-serves g c =
+pub returns : goal.returns
+returns g c =
     let requests = c.serve-status.new.source.requests in
     record {
       failed' = requests.reader.has_failed;
@@ -15,6 +15,6 @@ returns-clause-serves g c =
       ahead = reader_buffer requests.reader.reader;
       line = requests.reader.begun;
       skipped = requests.skipped;
-      flaw = c.report_input.ensures.says.0;
-      says = c.report_input.ensures.says.2;
+      flaw = c.report_input.ensures.0;
+      says = c.report_input.ensures.2;
     }

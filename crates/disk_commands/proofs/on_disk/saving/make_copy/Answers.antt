@@ -2,8 +2,8 @@ use Rattle.std.proofs.Common.{inr}
 use Rattle.disk_commands.proofs.FileLemmas.{known_at}
 use Rattle.disk_commands.proofs.on_disk.saving.make_copy.Goals as goal
 
-pub returns-clause-makes : goal.returns-clause-makes
-returns-clause-makes g c =
+pub returns : goal.returns
+returns g c =
     let files = g.R.DiskFiles.known c.args.files.now in
     let path = c.args.path.now in
     inr (record {
@@ -11,7 +11,7 @@ returns-clause-makes g c =
       copy' = c.save_on-status.new.copy;
       made = c.in-Ok.ensures.made;
       closed = c.close.ensures;
-      saves = c.save_on-status.ensures.saves;
+      saves = c.save_on-status.ensures;
       keeps = λ is. known_at files.kept c.in-Ok.made.1.path.now path c.in-Ok.ensures.there
           (c.keep_if_created.ensures.keeps is);
       removes = λ other. known_at files.removed c.in-Ok.made.1.path.now path

@@ -1,18 +1,7 @@
-use Rattle.std.proofs.Common.{inl, subst}
-use Rattle.command_words.specs.rules.Printers.{PrinterState}
-use Rattle.disk_commands.specs.rules.SavedCopies.{SavesInspected}
 use Rattle.disk_commands.proofs.on_disk.saving.save_file.Goals as goal
 
-pub returns-in-Ok-clause-saves : goal.returns-in-Ok-clause-saves
-returns-in-Ok-clause-saves g c =
-    let saves = c.save_worker-status in
-    inl (
-      c.in-Ok.disk,
-      saves.new.disk,
-      c.in-Ok.ensures.opened,
-      c.close.ensures,
-      subst (λ (e : PrinterState). SavesInspected g.F.DiskFile.known
-          (g.R.DiskFiles.known c.args.files.now) c.args.copy.now c.in-Ok.disk saves.new.disk
-          c.args.out.now saves.new.out e saves.new.err saves.result) c.in-Ok.ensures.quiet
-          saves.ensures.saves,
-    )
+pub returns-then-seen : goal.returns-then-seen
+returns-then-seen g c = rw c.if-seen.true c.save_picture.ensures
+
+pub returns : goal.returns
+returns g c = rw c.if-seen.false c.save_opened.ensures

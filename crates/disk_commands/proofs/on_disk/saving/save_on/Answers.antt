@@ -1,11 +1,12 @@
 use Rattle.std.proofs.Common.{Ok, Err, ℕ, subst, refl}
 use Rattle.command_words.specs.rules.Reports.{SaysOnOutput}
+use Rattle.command_words.specs.declared.status.Status.TheVariants as exit
 use Rattle.disk_commands.specs.rules.SavedCopies.{saved_line}
 use Rattle.disk_commands.proofs.SavedLemmas.{none_or_copy}
 use Rattle.disk_commands.proofs.on_disk.saving.save_on.Goals as goal
 
-pub returns-in-Ok-clause-saves : goal.returns-in-Ok-clause-saves
-returns-in-Ok-clause-saves g c =
+pub returns-in-Ok : goal.returns-in-Ok
+returns-in-Ok g c =
     let original = g.D.Disk.medium c.copy_disk.new.original in
     let old = g.C.Disk.medium c.args.copy.now in
     let new = g.C.Disk.medium c.copy_disk.new.copy in
@@ -18,13 +19,14 @@ returns-in-Ok-clause-saves g c =
       only_read = copied.only_read;
       calls = copied.calls;
       cause = copied.cause;
-      says = subst (λ (n : ℕ). SaysOnOutput (saved_line n) 0 c.args.out.now c.say_saved.new.out
+      says = subst (λ (n : ℕ). SaysOnOutput (saved_line n) exit.Done c.args.out.now
+          c.say_saved.new.out
           c.args.err.now c.say_saved.new.err c.say_saved.result) c.sectors-sectors.ensures
           c.say_saved.ensures;
     }
 
-pub returns-in-Err-clause-saves : goal.returns-in-Err-clause-saves
-returns-in-Err-clause-saves g c =
+pub returns-in-Err : goal.returns-in-Err
+returns-in-Err g c =
     let original = g.D.Disk.medium c.copy_disk.new.original in
     let old = g.C.Disk.medium c.args.copy.now in
     let new = g.C.Disk.medium c.copy_disk.new.copy in
@@ -37,5 +39,5 @@ returns-in-Err-clause-saves g c =
       only_read = copied.only_read;
       calls = copied.calls;
       cause = copied.cause;
-      says = (c.report.ensures.said, refl);
+      says = (c.report.ensures, refl);
     }

@@ -2,7 +2,7 @@ use Rattle.std.specs.Int.NonZero.{non_zero_u64_get}
 use Rattle.std.proofs.Common.{refl}
 use Rattle.disk_commands.specs.rules.ServedOnDisk.{disk_job, run_start, run_end}
 use Rattle.disk_commands.proofs.OnDiskLemmas.{serves_none, serves_gone}
-use Rattle.disk_commands.proofs.SevenLemmas.{heeds_refusal}
+use Rattle.disk_commands.proofs.UnwrittenLemmas.{heeds_refusal}
 use Rattle.disk_commands.proofs.WatchingLemmas.{watches_fault}
 use Rattle.disk_commands.proofs.on_disk.serving.serve.Goals as goal
 

@@ -1,5 +1,5 @@
 use Rattle.std.proofs.Common.{◌∙◌, ap, Ok, Err}
-use Rattle.disk_commands.proofs.OnDiskLemmas.{few_told, says_over}
+use Rattle.disk_commands.proofs.OnDiskLemmas.{says_over}
 use Rattle.disk_commands.proofs.WatchingLemmas.{watches_fault, watches_end}
 use Rattle.disk_commands.proofs.on_disk.serving.serve_open.Goals as goal
 
@@ -36,8 +36,3 @@ pub returns-in-Err-clause-watched : goal.returns-in-Err-clause-watched
 returns-in-Err-clause-watched g c =
     watches_fault (g.T.Watcher.is_notified c.args.drive.watcher.now) c.say_disk_fault.result
     c.say_disk_fault.new.err c.in-Err.fault c.tell_recovered.new.err c.say_disk_fault.ensures
-
-pub returns-in-Err-clause-known : goal.returns-in-Err-clause-known
-returns-in-Err-clause-known g c =
-    few_told c.in-Err.fault c.tell_recovered.new.err c.say_disk_fault.result
-    c.say_disk_fault.new.err c.say_disk_fault.ensures

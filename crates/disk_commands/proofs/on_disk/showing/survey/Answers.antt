@@ -1,6 +1,5 @@
 use Rattle.std.proofs.Common.{refl}
-use Rattle.disk_commands.proofs.ShowingLemmas.{shows_survey, shows_fault, shows_known}
-use Rattle.disk_commands.proofs.ShowingLemmas.{shows_each}
+use Rattle.disk_commands.proofs.ShowingLemmas.{shows_survey, shows_fault, shows_each}
 use Rattle.disk_commands.proofs.on_disk.showing.survey.Goals as goal
 
 pub returns-in-Ok : goal.returns-in-Ok
@@ -16,7 +15,6 @@ returns-in-Ok g c =
     record {
       shows = shown;
       stands = shows_each old new out out' err err status shown;
-      known = shows_known old new out out' err err status shown;
     }
 
 pub returns-in-Err : goal.returns-in-Err
@@ -32,5 +30,4 @@ returns-in-Err g c =
     record {
       shows = shown;
       stands = shows_each old new out out err err' status shown;
-      known = shows_known old new out out err err' status shown;
     }

@@ -8,5 +8,5 @@ returns-then-not-is_free-clause-said g c =
       c.in-Ok.here,
       c.in-Ok.ensures,
       (λ free. absurd (false≢true (sym c.if-not-is_free.true ∙ c.is_free.ensures.1 free))),
-      c.say_taken.ensures.said,
+      c.say_taken.ensures,
     )

@@ -1,19 +1,19 @@
 use Rattle.disk_commands.proofs.SuccessorLemmas.{succeeds_none, succeeds_taken}
 use Rattle.disk_commands.proofs.on_disk.succession.succeed_open.Goals as goal
 
-pub returns-in-Ok-clause-succeeds : goal.returns-in-Ok-clause-succeeds
-returns-in-Ok-clause-succeeds g c =
+pub returns-in-Ok : goal.returns-in-Ok
+returns-in-Ok g c =
     let said = c.args.succession in
     let makes = c.make_successor in
     succeeds_taken g.F.DiskFile.known (g.R.DiskFiles.known c.args.files.now) said.from.now
     said.on_device said.new.path.now said.new.wasm.now said.new.prepared.now c.args.old.now
     c.take_over.new.disk c.in-Ok.handover c.args.out.now makes.new.out c.args.err.now
-    c.take_over.new.err makes.new.err makes.result c.in-Ok.ensures.takes makes.ensures.makes
+    c.take_over.new.err makes.new.err makes.result c.in-Ok.ensures makes.ensures
 
-pub returns-in-Err-clause-succeeds : goal.returns-in-Err-clause-succeeds
-returns-in-Err-clause-succeeds g c =
+pub returns-in-Err : goal.returns-in-Err
+returns-in-Err g c =
     let said = c.args.succession in
     succeeds_none g.F.DiskFile.known (g.R.DiskFiles.known c.args.files.now) said.from.now
     said.on_device said.new.path.now said.new.wasm.now said.new.prepared.now c.args.old.now
     c.take_over.new.disk c.args.out.now c.args.err.now c.take_over.new.err c.in-Err.status
-    c.in-Err.ensures.takes
+    c.in-Err.ensures

@@ -1,6 +1,7 @@
 use Rattle.std.proofs.Common.{ℕ, arith, subst}
 use Rattle.command_words.specs.rules.Printers.{IsSaid}
 use Rattle.command_words.specs.rules.Reports.{SaysOnOutput}
+use Rattle.command_words.specs.declared.status.Status.TheVariants as exit
 use Rattle.disk_commands.specs.declared.on_disk.fault.OnDiskFault.{OnDiskFault}
 use Rattle.disk_commands.specs.rules.DiskStatuses.{status_on_disk}
 use Rattle.disk_commands.specs.rules.SuccessorDisks.{successor_text}
@@ -11,8 +12,8 @@ use Rattle.disk_commands.proofs.on_disk.successor.succeed_on.Goals as goal
 pub sectors_of-requires : goal.sectors_of-requires
 sectors_of-requires g c = omega (arith, c.in-Ok.ensures.created.accepted.limits.size)
 
-pub returns-in-Ok-clause-succeeds : goal.returns-in-Ok-clause-succeeds
-returns-in-Ok-clause-succeeds g c =
+pub returns-in-Ok : goal.returns-in-Ok
+returns-in-Ok g c =
     let left = c.args.handover in
     let made = c.in-Ok.ensures in
     let said = c.say_successor in
@@ -20,17 +21,17 @@ returns-in-Ok-clause-succeeds g c =
     c.args.disk.now c.create_from.new.disk c.args.out.now said.new.out c.args.err.now said.new.err
     said.result made.keeps made.calls made.created
     (subst (λ (n : ℕ). SaysOnOutput (successor_text n left.legacy.requests left.legacy.lines
-    left.dropped) 0 c.args.out.now said.new.out c.args.err.now said.new.err said.result)
+    left.dropped) exit.Done c.args.out.now said.new.out c.args.err.now said.new.err said.result)
     c.sectors_of.ensures
     (subst (λ (n : ℕ). SaysOnOutput (successor_text c.sectors_of.result n left.legacy.lines
-    left.dropped) 0 c.args.out.now said.new.out c.args.err.now said.new.err said.result)
+    left.dropped) exit.Done c.args.out.now said.new.out c.args.err.now said.new.err said.result)
     c.requests.ensures
     (subst (λ (n : ℕ). SaysOnOutput (successor_text c.sectors_of.result c.requests.result n
-    left.dropped) 0 c.args.out.now said.new.out c.args.err.now said.new.err said.result)
+    left.dropped) exit.Done c.args.out.now said.new.out c.args.err.now said.new.err said.result)
     c.lines.ensures.value said.ensures)))
 
-pub returns-in-Err-clause-succeeds : goal.returns-in-Err-clause-succeeds
-returns-in-Err-clause-succeeds g c =
+pub returns-in-Err : goal.returns-in-Err
+returns-in-Err g c =
     let why = c.in-Err.fault in
     let is = c.in-Err.ensures in
     let said = c.say_disk_fault in

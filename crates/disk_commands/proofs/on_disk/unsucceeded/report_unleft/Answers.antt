@@ -1,7 +1,7 @@
 use Rattle.disk_commands.proofs.on_disk.unsucceeded.report_unleft.Goals as goal
 
-pub returns-in-NotParked-clause-said : goal.returns-in-NotParked-clause-said
-returns-in-NotParked-clause-said g c = rw c.in-NotParked.is c.say_restless.ensures.said
+pub returns-in-NotParked : goal.returns-in-NotParked
+returns-in-NotParked g c = rw c.in-NotParked.is c.say_restless.ensures
 
-pub returns-in-StepsSpent-clause-said : goal.returns-in-StepsSpent-clause-said
-returns-in-StepsSpent-clause-said g c = rw c.in-StepsSpent.is c.say_line.ensures
+pub returns-in-StepsSpent : goal.returns-in-StepsSpent
+returns-in-StepsSpent g c = rw c.in-StepsSpent.is c.say_line.ensures

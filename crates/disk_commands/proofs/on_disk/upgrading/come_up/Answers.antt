@@ -16,35 +16,35 @@ pub loop-how-smaller : goal.loop-how-smaller
 loop-how-smaller g c =
     let runs = c.in-Ok-Spent.ensures.runs c.loop-how.invariant.room in
     slice_fewer g.D.Disk.medium g.S.Source.gives g.O.Outlet.takes c.loop-how.worker
-    c.slice.new.self 100000 Spent _ _ _ _ runs.shows (omega (arith))
-    (rw c.in-Ok-Spent.field-0-is at runs.done) refl
+    c.slice.new.self 100000 Spent _ _ _ _ runs.steps.shows (omega (arith))
+    (rw c.in-Ok-Spent.field-0-is at runs.steps.done) refl
 
 pub loop-how-preserved : goal.loop-how-preserved
 loop-how-preserved g c =
     let runs = c.in-Ok-Spent.ensures.runs c.loop-how.invariant.room in
     come_more g.D.Disk.medium g.S.Source.gives g.O.Outlet.takes _ _ _ c.loop-how.invariant _ _ _ _
     (rw c.in-Ok-Spent.field-0-is at runs.carries)
-    runs.shows (omega (arith))
-    (rw c.in-Ok-Spent.field-0-is at runs.done)
-    runs.room
+    runs.steps.shows (omega (arith))
+    (rw c.in-Ok-Spent.field-0-is at runs.steps.done)
+    runs.steps.room
 
 pub returns-in-Ok-Waiting-clause-comes : goal.returns-in-Ok-Waiting-clause-comes
 returns-in-Ok-Waiting-clause-comes g c =
     let runs = c.in-Ok-Waiting.ensures.runs c.loop-how.invariant.room in
     come_last g.D.Disk.medium g.S.Source.gives g.O.Outlet.takes _ _ _ c.loop-how.invariant _ _ _ _
     Waiting (rw c.in-Ok-Waiting.field-0-is at runs.carries)
-    runs.shows
-    (rw c.in-Ok-Waiting.field-0-is at runs.done)
-    (rw c.in-Ok-Waiting.field-0-is at runs.abreast)
+    runs.steps.shows
+    (rw c.in-Ok-Waiting.field-0-is at runs.steps.done)
+    (rw c.in-Ok-Waiting.field-0-is at runs.steps.abreast)
 
 pub returns-in-Ok-Ended-clause-comes : goal.returns-in-Ok-Ended-clause-comes
 returns-in-Ok-Ended-clause-comes g c =
     let runs = c.in-Ok-Ended.ensures.runs c.loop-how.invariant.room in
     come_last g.D.Disk.medium g.S.Source.gives g.O.Outlet.takes _ _ _ c.loop-how.invariant _ _ _ _
     (Ended c.in-Ok-Ended.how) (rw c.in-Ok-Ended.field-0-is at runs.carries)
-    runs.shows
-    (rw c.in-Ok-Ended.field-0-is at runs.done)
-    (rw c.in-Ok-Ended.field-0-is at runs.abreast)
+    runs.steps.shows
+    (rw c.in-Ok-Ended.field-0-is at runs.steps.done)
+    (rw c.in-Ok-Ended.field-0-is at runs.steps.abreast)
 
 pub returns-in-Err-clause-comes : goal.returns-in-Err-clause-comes
 returns-in-Err-clause-comes g c =
@@ -53,13 +53,13 @@ returns-in-Err-clause-comes g c =
     c.in-Err.fault runs.carries
     (slice_hears_up_to g.S.Source.gives g.O.Outlet.takes 100000 _ _ _ _
     c.loop-how.worker.process c.slice.new.self.process c.in-Err.fault c.loop-how.worker.has_failed
-    runs.shows runs.failed (λ e. (c.in-Err.ensures.refused e).3))
+    runs.steps.shows runs.failed (λ e. (c.in-Err.ensures.refused e).3))
     (slice_heeds g.S.Source.gives g.O.Outlet.takes 100000 _ _ _ _
     c.loop-how.worker.process c.slice.new.self.process c.in-Err.fault c.loop-how.worker.has_failed
-    runs.shows runs.failed (λ e. (c.in-Err.ensures.refused e).0)
+    runs.steps.shows runs.failed (λ e. (c.in-Err.ensures.refused e).0)
     (λ e. (c.in-Err.ensures.refused e).4))
     (slice_breaks_in g.S.Source.gives g.O.Outlet.takes 100000 _ _ _ _
     c.loop-how.worker.process c.slice.new.self.process c.in-Err.fault c.loop-how.worker.has_failed
     runs.failed (λ e. (c.in-Err.ensures.refused e).0)
     (λ e. (c.in-Err.ensures.refused e).3) (λ e. (c.in-Err.ensures.refused e).4))
-    runs.on_any_disk
+    runs.steps.on_any_disk

@@ -1,4 +1,5 @@
-use Rattle.disk_commands.specs.Livings.{scene, steps_left}
+use Rattle.worker.specs.rules.Scenes.{scene}
+use Rattle.disk_commands.specs.Livings.{steps_left}
 use Rattle.disk_commands.proofs.UpgradingLemmas.{HasComeTo}
 use Rattle.disk_commands.proofs.on_disk.upgrading.come_up.Given as goal
 

@@ -1,6 +1,6 @@
 use Rattle.std.proofs.Common.{◌≡◌, [], Err, subst}
 use Rattle.disk_commands.specs.ComingUp.{IsUpgradedFrom}
-use Rattle.disk_commands.specs.Livings.{scene}
+use Rattle.worker.specs.rules.Scenes.{scene}
 use Rattle.disk_commands.specs.rules.Upgradings.{from_list}
 use Rattle.disk_commands.proofs.UpgradingLemmas.{then_ended, not_come}
 use Rattle.disk_commands.proofs.on_disk.upgrading.upgrade_open.Goals as goal

@@ -1,6 +1,6 @@
 use Rattle.std.proofs.Common.{Err}
 use Rattle.disk_commands.proofs.UpgradingLemmas.{none_upgraded, open_upgraded}
-use Rattle.disk_commands.proofs.SevenLemmas.{heeds_in_upgrade}
+use Rattle.disk_commands.proofs.UnwrittenLemmas.{heeds_in_upgrade}
 use Rattle.disk_commands.proofs.on_disk.upgrading.upgrade_worker.Goals as goal
 
 pub returns-in-Ok-clause-upgrades : goal.returns-in-Ok-clause-upgrades
@@ -9,7 +9,7 @@ returns-in-Ok-clause-upgrades g c =
     open_upgraded g.D.Disk.medium g.O.Outlet.takes c.in-Ok.worker c.args.disk.now
     c.recover.new.disk upgraded.new.disk c.args.outlet.now c.recover.new.outlet
     upgraded.new.outlet c.args.err.now upgraded.new.err c.in-Ok.ensures
-    c.in-Ok.ensures.heeds upgraded.result upgraded.ensures.upgrades
+    c.in-Ok.ensures.heeds upgraded.result upgraded.ensures
 
 pub returns-in-Ok-clause-refusal : goal.returns-in-Ok-clause-refusal
 returns-in-Ok-clause-refusal g c =

@@ -1,5 +1,0 @@
-use Rattle.disk_commands.proofs.SevenLemmas.{seven_is_a_failed_write as is_a_failed_write}
-use Rattle.disk_commands.proofs.laws.seven_is_a_failed_write.Goals as goal
-
-pub returns : goal.returns
-returns g = is_a_failed_write

@@ -1,0 +1,19 @@
+use Rattle.std.proofs.Common.{inl, subst}
+use Rattle.sector_disk.specs.rules.File.{file_medium}
+use Rattle.command_words.specs.rules.Printers.{PrinterState}
+use Rattle.disk_commands.specs.rules.ExtractedTrees.{ExtractsDisk}
+use Rattle.disk_commands.proofs.on_disk.extracting.extract_opened.Goals as goal
+
+pub returns-in-Ok : goal.returns-in-Ok
+returns-in-Ok g c =
+    let extracts = c.extract_disk-status in
+    inl (
+      c.in-Ok.disk,
+      extracts.new.disk,
+      c.in-Ok.ensures.opened,
+      c.close.ensures,
+      subst (λ (e : PrinterState). ExtractsDisk (g.R.NewTrees.trees c.args.files.now)
+          c.args.folder.now (file_medium c.in-Ok.disk) (file_medium extracts.new.disk)
+          c.args.out.now extracts.new.out e extracts.new.err extracts.result) c.in-Ok.ensures.quiet
+          extracts.ensures,
+    )

@@ -1,0 +1,18 @@
+use Rattle.std.proofs.Common.{inl, subst}
+use Rattle.sector_disk.specs.rules.Memory.{memory_medium}
+use Rattle.command_words.specs.rules.Printers.{PrinterState}
+use Rattle.disk_commands.specs.rules.SavedCopies.{SavesInspected}
+use Rattle.disk_commands.proofs.on_disk.saving.save_picture.Goals as goal
+
+pub returns-in-Ok : goal.returns-in-Ok
+returns-in-Ok g c =
+    let saves = c.save_worker-status in
+    inl (
+      c.in-Ok.picture,
+      saves.new.disk,
+      c.in-Ok.ensures.pictured,
+      subst (λ (e : PrinterState). SavesInspected g.F.DiskFile.known
+          (g.R.DiskFiles.known c.args.files.now) c.args.copy.now memory_medium c.in-Ok.picture
+          saves.new.disk c.args.out.now saves.new.out e saves.new.err saves.result)
+          c.in-Ok.ensures.quiet saves.ensures,
+    )

@@ -1,0 +1,6 @@
+use Rattle.disk_commands.proofs.TrapFrameLemmas.{FramesSoFar}
+use Rattle.disk_commands.proofs.on_disk.trap_frames.print_frames.Given as goal
+
+-- a frame was told for each number so far
+abbrev pub invariant-loop-index : goal.invariant-loop-index
+invariant-loop-index g l = FramesSoFar l.fn.err l.index l.err

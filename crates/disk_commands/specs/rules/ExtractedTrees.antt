@@ -1,0 +1,135 @@
+-- What `wasmhost files --all` does: the tree of the process that was saved last is written into a
+-- new folder (this project's own).
+use Rattle.std.specs.Prelude.{◌≡◌, ◌≢◌, ◌⊎◌, ◌-◌, ℕ, Bool, true, false, List, ◌++◌, length, codes}
+use Rattle.std.specs.Prelude.{All, Contains, IsTrue, Result, Ok, Err}
+use Rattle.std.specs.Fmt.{decimal}
+use Rattle.std.specs.List.{count_by}
+use Rattle.std.specs.List.Sorted.{IsPermutation}
+use Rattle.std.specs.declared.io.ErrorKind.{ErrorKind}
+use Rattle.std.specs.declared.io.ErrorKind.TheVariants.{OutOfMemory}
+use Rattle.sector_disk.specs.declared.file.FileDisk.{FileDisk}
+use Rattle.sector_disk.specs.declared.memory.MemDisk.{MemDisk}
+use Rattle.sector_disk.specs.rules.File.{file_medium}
+use Rattle.sector_disk.specs.rules.Known.{KnownFiles, KnownHandles}
+use Rattle.sector_disk.specs.rules.Medium.{Medium}
+use Rattle.sector_disk.specs.rules.Memory.{memory_medium}
+use Rattle.sector_disk.specs.rules.Open.{IsOpenedAt}
+use Rattle.file_tree.specs.rules.Files.{Files, bytes_of_node}
+use Rattle.file_listing.specs.declared.listed.ListedNode.{ListedNode}
+use Rattle.file_listing.specs.rules.Listed.{listing_in}
+use Rattle.worker.specs.declared.inspection.Inspection.{Inspection}
+use Rattle.worker.specs.declared.recover_fault.RecoverFault.{RecoverFault}
+use Rattle.worker.specs.rules.Inspections.{Inspects}
+use Rattle.command_words.specs.declared.telling.Obstacle.TheVariants.{Memory}
+use Rattle.command_words.specs.rules.Printers.{PrinterState}
+use Rattle.command_words.specs.rules.Reports.{SaysLine, SaysOnOutput, obstacle_words}
+use Rattle.command_words.specs.declared.status.Status.{Status}
+use Rattle.command_words.specs.declared.status.Status.TheVariants as exit
+use Rattle.disk_commands.specs.rules.Inspectings.{SaysRefusal}
+use Rattle.disk_commands.specs.rules.LivePictures.{IsPictureAt, SaysUnseen}
+use Rattle.disk_commands.specs.rules.NewTrees.{KnownTrees, below}
+use Rattle.disk_commands.specs.rules.Openings.{SaysUnopened, SaysUnread}
+
+-- how many of these nodes are directories
+abbrev pub directories_in : List ListedNode → ℕ
+directories_in = count_by (λ (node : ListedNode). node.is_directory)
+
+-- the line that is printed where all of them are written
+abbrev pub written_line : List ListedNode → List ℕ
+written_line nodes = codes "wrote " ++ decimal (length nodes - directories_in nodes)
+    ++ codes " files, " ++ decimal (directories_in nodes) ++ codes " folders\n"
+
+module _ (trees : KnownTrees) where
+  -- A folder was made at the path, or a file with these bytes.
+  abbrev pub IsMadeAs : List ℕ → Bool → List ℕ → Type 0
+  IsMadeAs path true bytes = IsTrue (trees.folder path)
+  IsMadeAs path false bytes = IsTrue (trees.file path bytes)
+
+  -- The node was made at this path: a file with its bytes.
+  abbrev pub IsMade : Files → List ℕ → ListedNode → Type 0
+  IsMade fs path node = IsMadeAs path node.is_directory (bytes_of_node fs node.number)
+
+  -- Nothing is made at the path, by an error of this kind: of the system, or for want of memory.
+  abbrev pub FailsToMake : List ℕ → ErrorKind → Type 0
+  FailsToMake path kind = IsTrue (trees.refused path kind) ⊎ (kind ≡ OutOfMemory)
+
+  -- It is said why.
+  abbrev pub SaysUnmade : List ℕ → PrinterState → Status → PrinterState → Type 0
+  SaysUnmade path old status new =
+      (kind : ErrorKind) × FailsToMake path kind × SaysUnread path kind old status new
+
+  module _ (folder : List ℕ) where
+    -- The node was made below the folder.
+    abbrev pub IsMadeBelow : Files → ListedNode → Type 0
+    IsMadeBelow fs node = IsMade fs (below folder node.path) node
+
+    -- It is said why one of these nodes isn't made.
+    abbrev pub SaysUnmadeOf : List ListedNode → PrinterState → Status → PrinterState → Type 0
+    SaysUnmadeOf nodes old status new = (node : ListedNode) × Contains nodes node
+        × SaysUnmade (below folder node.path) old status new
+
+    -- What was done and said once the folder was made, with these nodes in this order. All were
+    -- made, and how many is printed. Or it is said why one isn't.
+    abbrev pub FillsFolder : Files → List ListedNode → PrinterState → PrinterState → PrinterState
+        → PrinterState → Status → Type 0
+    FillsFolder fs nodes out out' err err' status =
+        (All (IsMadeBelow fs) nodes × SaysOnOutput (written_line nodes) exit.Done out out' err err'
+        status) ⊎ (SaysUnmadeOf nodes err status err' × (out' ≡ out))
+
+    -- The folder was made, and filled with all listed nodes, in some order. It was left there where
+    -- the status is `Done`, and else it was to be removed.
+    pub record WritesFolder (fs : Files) (out out' err err' : PrinterState) (status : Status)
+        : Type 0 where
+      pub made : IsTrue (trees.folder folder)
+      pub nodes : List ListedNode
+      pub listed : IsPermutation (listing_in fs) nodes
+      pub fills : FillsFolder fs nodes out out' err err' status
+      pub keeps : status ≡ exit.Done → IsTrue (trees.kept folder)
+      pub removes : status ≢ exit.Done → IsTrue (trees.removed folder)
+
+    -- The tree is written into the folder. Or it is said why that isn't made, or that there is no
+    -- memory for the list, and nothing is made.
+    abbrev pub WritesTree : Files → PrinterState → PrinterState → PrinterState → PrinterState
+        → Status → Type 0
+    WritesTree fs out out' err err' status =
+        WritesFolder fs out out' err err' status
+        ⊎ (SaysUnmade folder err status err' × (out' ≡ out))
+
+    -- What is done and said of a disk that was inspected.
+    abbrev pub ExtractsTold : Result Inspection RecoverFault → PrinterState → PrinterState
+        → PrinterState → PrinterState → Status → Type 0
+    ExtractsTold (Ok told) out out' err err' status =
+        WritesTree told.process.host.host.files out out' err err' status
+    ExtractsTold (Err why) out out' err err' status = SaysRefusal why out out' err err' status
+
+    -- The disk was inspected, and the files of the saved process are written.
+    pub record ExtractsDisk (disk disk' : Medium) (out out' err err' : PrinterState)
+        (status : Status) : Type 0 where
+      pub result : Result Inspection RecoverFault
+      pub inspects : Inspects result disk disk'
+      pub extracts : ExtractsTold result out out' err err' status
+
+module _ {F : Type 0} (handles : KnownHandles F) (files : KnownFiles F) (trees : KnownTrees)
+    (path folder : List ℕ) (out out' err err' : PrinterState) (status : Status) where
+  -- So it is with a disk in a file, which no other host has meanwhile. Or it is said why it isn't
+  -- opened.
+  abbrev pub ExtractsOpened : Type 0
+  ExtractsOpened =
+      ((disk : FileDisk F) × (disk' : FileDisk F) × IsOpenedAt handles files path disk
+      × IsTrue (files.closed disk')
+      × ExtractsDisk trees folder (file_medium disk) (file_medium disk') out out' err err' status)
+      ⊎ (SaysUnopened handles files false path err status err' × (out' ≡ out))
+
+  -- So it is with a picture of a disk, which another host may have. Or it is said why there is
+  -- none.
+  abbrev pub ExtractsPicture : Type 0
+  ExtractsPicture =
+      ((picture : MemDisk) × (picture' : MemDisk) × IsPictureAt handles files path (Ok picture)
+      × ExtractsDisk trees folder (memory_medium picture) (memory_medium picture') out out' err err'
+      status)
+      ⊎ (SaysUnseen handles files path err status err' × (out' ≡ out))
+
+  -- the disk is looked at while it is live, or while nobody else has it
+  abbrev pub ExtractsFile : Bool → Type 0
+  ExtractsFile true = ExtractsPicture
+  ExtractsFile false = ExtractsOpened

@@ -1,0 +1,42 @@
+-- What calls have said of a folder that is made at a path, and of what is made below it (this
+-- project's own). Nobody knows it but by such a call.
+use Rattle.std.specs.Prelude.{◌≡◌, ℕ, Bool, true, List, ◌∷◌, ◌++◌}
+use Rattle.std.specs.declared.io.ErrorKind.{ErrorKind}
+use Rattle.file_tree.specs.rules.Files.{slash}
+use Rattle.file_listing.specs.rules.Listed.{IsPathText}
+
+-- of paths
+pub record KnownTrees : Type 0 where
+  -- a folder may be made there
+  pub allowed : List ℕ → Bool
+  -- a folder was made there, where there was nothing
+  pub folder : List ℕ → Bool
+  -- a file was made there, where there was nothing, and these bytes were written to it
+  pub file : List ℕ → List ℕ → Bool
+  -- what was to be made there was refused, by an error of this kind
+  pub refused : List ℕ → ErrorKind → Bool
+  -- a new folder was left there, or it was to be removed with all that is in it
+  pub kept : List ℕ → Bool
+  pub removed : List ℕ → Bool
+
+-- whatever a call says
+abbrev pub all_said_of_trees : KnownTrees
+all_said_of_trees = record {
+  allowed = λ path. true;
+  folder = λ path. true;
+  file = λ path bytes. true;
+  refused = λ path kind. true;
+  kept = λ path. true;
+  removed = λ path. true;
+}
+
+-- a path behind that of a folder
+abbrev pub below : List ℕ → List ℕ → List ℕ
+below folder text = folder ++ slash ∷ text
+
+-- The path leads into the folder. What is behind the folder's own path are names that a node may
+-- have, so none of them is `..`.
+pub record IsBelow (folder path : List ℕ) : Type 0 where
+  pub text : List ℕ
+  pub names : IsPathText text
+  pub is : path ≡ below folder text
