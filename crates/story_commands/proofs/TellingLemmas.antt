@@ -1,5 +1,5 @@
 -- From how a story went to what the exit status says.
-use Rattle.std.proofs.Common.{◌≡◌, inl, inr, ⊎_elim, ℕ, ◌≤◌, List, refl, sym, ap, subst, arith}
+use Rattle.std.proofs.Common.{◌≡◌, inl, inr, ℕ, List, refl, sym, ap, subst}
 use Rattle.worker.specs.declared.story.life.PlannedLife.{PlannedLife}
 use Rattle.worker.specs.declared.story.report.LifeReport.{LifeReport}
 use Rattle.worker.specs.rules.StoryDisks.{TellsLives}
@@ -14,41 +14,43 @@ use Rattle.command_words.specs.rules.Reports.{SaysLine, obstacle_status, obstacl
 use Rattle.command_words.specs.rules.Pieces.{lines_of}
 use Rattle.command_words.specs.rules.Printers.{PrinterState, IsPrinted, IsSaid, SaysText}
 use Rattle.command_words.specs.rules.Printers.{HasOneFailed}
+use Rattle.command_words.specs.declared.status.Status.{Status}
+use Rattle.command_words.specs.declared.status.Status.TheVariants as exit
 use Rattle.story_commands.specs.rules.Scripts.{IsScript, IsFaultAt}
 use Rattle.story_commands.specs.rules.Stories.{TellsStory, script_line, story_config}
 use Rattle.story_commands.specs.Said.{SaysLives}
 
 module _ (script wasm : List ℕ) (sizes : Sizes) (out out' err err' : PrinterState) where
-  abbrev pub Says : ℕ → Type 0
+  abbrev pub Says : Status → Type 0
   Says status = TellsStory script wasm sizes out out' err err' status
 
   -- a write has failed
-  says_seven : HasOneFailed out' err' → Says 7
-  says_seven failed = record {
-    told = λ is. absurd (omega (arith, is));
-    faulty = λ is. absurd (omega (arith, is));
-    refused = λ is. absurd (omega (arith, is));
-    starved = λ is. absurd (omega (arith, is));
+  says_unwritten : HasOneFailed out' err' → Says exit.Unwritten
+  says_unwritten failed = record {
+    told = λ is. absurd cc;
+    faulty = λ is. absurd cc;
+    refused = λ is. absurd cc;
+    starved = λ is. absurd cc;
     heeded = inr (refl, failed);
     known = inr (inr (inr (inr refl)));
   }
 
-  says_five : out' ≡ out → err'.failed ≡ err.failed → Says 5
-  says_five stays heeds = record {
-    told = λ is. absurd (omega (arith, is));
-    faulty = λ is. absurd (omega (arith, is));
-    refused = λ is. absurd (omega (arith, is));
+  says_starved : out' ≡ out → err'.failed ≡ err.failed → Says exit.OutOfMemory
+  says_starved stays heeds = record {
+    told = λ is. absurd cc;
+    faulty = λ is. absurd cc;
+    refused = λ is. absurd cc;
     starved = λ is. stays;
-    heeded = inl ((λ is. omega (arith, is)), ap (λ p. p.failed) stays, heeds);
+    heeded = inl ((λ is. cc), ap (λ p. p.failed) stays, heeds);
     known = inr (inr (inr (inl refl)));
   }
 
-  says_three : (lives : List PlannedLife) → IsScript (lines_of script) lives → (why : Unprepared)
-      → IsUnprepared (story_config sizes) wasm why → status_unprepared why ≡ 3 → out' ≡ out
-      → err'.failed ≡ err.failed → Says 3
-  says_three lives spelled why unprepared three stays heeds = record {
-    told = λ is. absurd (omega (arith, is));
-    faulty = λ is. absurd (omega (arith, is));
+  says_refused : (lives : List PlannedLife) → IsScript (lines_of script) lives → (why : Unprepared)
+      → IsUnprepared (story_config sizes) wasm why → status_unprepared why ≡ exit.Refused
+      → out' ≡ out → err'.failed ≡ err.failed → Says exit.Refused
+  says_refused lives spelled why unprepared three stays heeds = record {
+    told = λ is. absurd cc;
+    faulty = λ is. absurd cc;
     refused = λ is. (
       record {
         lives = lives;
@@ -59,62 +61,63 @@ module _ (script wasm : List ℕ) (sizes : Sizes) (out out' err err' : PrinterSt
       },
       stays,
     );
-    starved = λ is. absurd (omega (arith, is));
-    heeded = inl ((λ is. omega (arith, is)), ap (λ p. p.failed) stays, heeds);
+    starved = λ is. absurd cc;
+    heeded = inl ((λ is. cc), ap (λ p. p.failed) stays, heeds);
     known = inr (inr (inl refl));
   }
 
-  says_two : (number : ℕ) → IsFaultAt (lines_of script) number
-      → IsPrinted err err' (script_line number) → out' ≡ out → Says 2
-  says_two number faulty said stays = record {
-    told = λ is. absurd (omega (arith, is));
+  says_usage : (number : ℕ) → IsFaultAt (lines_of script) number
+      → IsPrinted err err' (script_line number) → out' ≡ out → Says exit.Usage
+  says_usage number faulty said stays = record {
+    told = λ is. absurd cc;
     faulty = λ is. (record { number = number; faulty = faulty; said = said.0 }, stays);
-    refused = λ is. absurd (omega (arith, is));
-    starved = λ is. absurd (omega (arith, is));
-    heeded = inl ((λ is. omega (arith, is)), ap (λ p. p.failed) stays, said.1);
+    refused = λ is. absurd cc;
+    starved = λ is. absurd cc;
+    heeded = inl ((λ is. cc), ap (λ p. p.failed) stays, said.1);
     known = inr (inl refl);
   }
 
-  pub starved_told : (status : ℕ) → IsSaid 5 err status err' → out' ≡ out → Says status
-  starved_told status (inl said) stays = subst Says (sym said.0) (says_five stays said.1)
-  starved_told status (inr unsaid) stays = subst Says (sym unsaid.0) (says_seven (inr unsaid.1))
+  pub starved_told : (status : Status) → IsSaid exit.OutOfMemory err status err' → out' ≡ out
+      → Says status
+  starved_told status (inl said) stays = subst Says (sym said.0) (says_starved stays said.1)
+  starved_told status (inr unsaid) stays = subst Says (sym unsaid.0) (says_unwritten (inr unsaid.1))
 
-  pub memory_told : (status : ℕ)
+  pub memory_told : (status : Status)
       → SaysLine (obstacle_words obstacle.Memory) (obstacle_status obstacle.Memory) err status err'
       → out' ≡ out → Says status
-  memory_told status (inl said) stays = subst Says (sym said.0) (says_five stays said.1.1)
-  memory_told status (inr unsaid) stays = subst Says (sym unsaid.0) (says_seven (inr unsaid.1))
+  memory_told status (inl said) stays = subst Says (sym said.0) (says_starved stays said.1.1)
+  memory_told status (inr unsaid) stays = subst Says (sym unsaid.0) (says_unwritten (inr unsaid.1))
 
-  pub line_told : (number status : ℕ) → IsFaultAt (lines_of script) number
-      → SaysText (script_line number) 2 err status err' → out' ≡ out → Says status
+  pub line_told : (number : ℕ) (status : Status) → IsFaultAt (lines_of script) number
+      → SaysText (script_line number) exit.Usage err status err' → out' ≡ out → Says status
   line_told number status faulty (inl said) stays =
-      subst Says (sym said.0) (says_two number faulty said.1 stays)
+      subst Says (sym said.0) (says_usage number faulty said.1 stays)
   line_told number status faulty (inr unsaid) stays =
-      subst Says (sym unsaid.0) (says_seven (inr unsaid.1))
+      subst Says (sym unsaid.0) (says_unwritten (inr unsaid.1))
 
   by_why : (lives : List PlannedLife) → IsScript (lines_of script) lives → (why : Unprepared)
       → IsUnprepared (story_config sizes) wasm why → out' ≡ out → err'.failed ≡ err.failed
       → Says (status_unprepared why)
   by_why lives spelled (unprepared.Range bound) is stays heeds =
-      says_three lives spelled (unprepared.Range bound) is refl stays heeds
+      says_refused lives spelled (unprepared.Range bound) is refl stays heeds
   by_why lives spelled (unprepared.Text unnamed) is stays heeds =
-      says_three lives spelled (unprepared.Text unnamed) is refl stays heeds
+      says_refused lives spelled (unprepared.Text unnamed) is refl stays heeds
   by_why lives spelled (unprepared.Module fault) is stays heeds =
-      says_three lives spelled (unprepared.Module fault) is refl stays heeds
-  by_why lives spelled unprepared.Memory is stays heeds = says_five stays heeds
+      says_refused lives spelled (unprepared.Module fault) is refl stays heeds
+  by_why lives spelled unprepared.Memory is stays heeds = says_starved stays heeds
 
   pub refused_told : (lives : List PlannedLife) → IsScript (lines_of script) lives
-      → (why : Unprepared) → IsUnprepared (story_config sizes) wasm why → (status : ℕ)
+      → (why : Unprepared) → IsUnprepared (story_config sizes) wasm why → (status : Status)
       → IsSaid (status_unprepared why) err status err' → out' ≡ out → Says status
   refused_told lives spelled why unprepared status (inl said) stays =
       subst Says (sym said.0) (by_why lives spelled why unprepared stays said.1)
   refused_told lives spelled why unprepared status (inr unsaid) stays =
-      subst Says (sym unsaid.0) (says_seven (inr unsaid.1))
+      subst Says (sym unsaid.0) (says_unwritten (inr unsaid.1))
 
   pub lives_told : (lives : List PlannedLife) → IsScript (lines_of script) lives
       → (prepared : Prepared) → IsPreparedAs (story_config sizes) wasm prepared
-      → (reports : List LifeReport) → TellsLives wasm prepared.config lives reports → (status : ℕ)
-      → SaysLives reports out out' err err' status → Says status
+      → (reports : List LifeReport) → TellsLives wasm prepared.config lives reports
+      → (status : Status) → SaysLives reports out out' err err' status → Says status
   lives_told lives spelled prepared prepares reports tells status (inl said) =
       subst Says (sym said.0) (record {
         told = λ is. (
@@ -130,21 +133,16 @@ module _ (script wasm : List ℕ) (sizes : Sizes) (out out' err err' : PrinterSt
           },
           said.2,
         );
-        faulty = λ is. absurd (omega (arith, is));
-        refused = λ is. absurd (omega (arith, is));
-        starved = λ is. absurd (omega (arith, is));
-        heeded = inl ((λ is. omega (arith, is)), said.1.1, ap (λ p. p.failed) said.2);
+        faulty = λ is. absurd cc;
+        refused = λ is. absurd cc;
+        starved = λ is. absurd cc;
+        heeded = inl ((λ is. cc), said.1.1, ap (λ p. p.failed) said.2);
         known = inl refl;
       })
   lives_told lives spelled prepared prepares reports tells status (inr (inl starved)) =
-      subst Says (sym starved.0) (says_five starved.1 starved.2)
+      subst Says (sym starved.0) (says_starved starved.1 starved.2)
   lives_told lives spelled prepared prepares reports tells status (inr (inr unsaid)) =
-      subst Says (sym unsaid.0) (says_seven unsaid.1)
+      subst Says (sym unsaid.0) (says_unwritten unsaid.1)
 
-  pub tells_known : (status : ℕ) → Says status → status ≤ 7
-  tells_known status says =
-      ⊎_elim (λ zero. omega (arith, zero))
-      (λ above. ⊎_elim (λ two. omega (arith, two))
-      (λ above. ⊎_elim (λ three. omega (arith, three))
-      (λ above. ⊎_elim (λ five. omega (arith, five)) (λ seven. omega (arith, seven)) above)
-      above) above) says.known
+-- what the exit status of `tell` says, by how it ended
+pub ruleset told_rules = (line_told, refused_told, lives_told, memory_told, starved_told)

@@ -3,6 +3,8 @@ use Rattle.std.specs.Prelude.{◌≡◌, ◌⊎◌, ℕ, List}
 use Rattle.worker.specs.declared.recover_fault.RecoverFault.{RecoverFault}
 use Rattle.worker.specs.declared.story.report.LifeReport.{LifeReport}
 use Rattle.command_words.specs.rules.Printers.{PrinterState, IsPrinted, HasOneFailed}
+use Rattle.command_words.specs.declared.status.Status.{Status}
+use Rattle.command_words.specs.declared.status.Status.TheVariants as exit
 use Rattle.worker.specs.declared.fault.WorkFault.TheVariants as work
 use Rattle.worker.specs.declared.upgrade_fault.UpgradeFault.TheVariants as upgrade
 use Rattle.record_replay.specs.declared.slices.fault.Refusal.TheVariants as refusal
@@ -12,33 +14,33 @@ use Rattle.std.specs.Prelude.{true}
 use Rattle.story_commands.specs.rules.SweepTexts.{swept_line, plan_line}
 
 -- the line is printed, or memory is wanted for it, or a write has failed
-abbrev pub SaysSwept : ℕ → ℕ → PrinterState → PrinterState → PrinterState → PrinterState → ℕ
+abbrev pub SaysSwept : ℕ → ℕ → PrinterState → PrinterState → PrinterState → PrinterState → Status
     → Type 0
 SaysSwept cuts lines out out' err err' status =
-    ((status ≡ 0) × IsPrinted out out' (swept_line cuts lines) × (err' ≡ err))
-    ⊎ ((status ≡ 5) × (out' ≡ out) × (err'.failed ≡ err.failed))
-    ⊎ ((status ≡ 7) × HasOneFailed out' err')
+    ((status ≡ exit.Done) × IsPrinted out out' (swept_line cuts lines) × (err' ≡ err))
+    ⊎ ((status ≡ exit.OutOfMemory) × (out' ≡ out) × (err'.failed ≡ err.failed))
+    ⊎ ((status ≡ exit.Unwritten) × HasOneFailed out' err')
 
 -- lives that differ are told, or memory is wanted for that, or a write has failed
-abbrev pub SaysDifference : PrinterState → PrinterState → PrinterState → PrinterState → ℕ
+abbrev pub SaysDifference : PrinterState → PrinterState → PrinterState → PrinterState → Status
     → Type 0
 SaysDifference out out' err err' status =
-    ((status ≡ 1) × (out'.failed ≡ out.failed) × (err'.failed ≡ err.failed))
-    ⊎ ((status ≡ 5) × (out' ≡ out) × (err'.failed ≡ err.failed))
-    ⊎ ((status ≡ 7) × HasOneFailed out' err')
+    ((status ≡ exit.Different) × (out'.failed ≡ out.failed) × (err'.failed ≡ err.failed))
+    ⊎ ((status ≡ exit.OutOfMemory) × (out' ≡ out) × (err'.failed ≡ err.failed))
+    ⊎ ((status ≡ exit.Unwritten) × HasOneFailed out' err')
 
 -- The line of a plan that can't be run to its end is printed. Or memory is wanted for it, or a
 -- write has failed.
-abbrev pub SaysPlan : ℕ → RecoverFault → PrinterState → PrinterState → ℕ → Type 0
+abbrev pub SaysPlan : ℕ → RecoverFault → PrinterState → PrinterState → Status → Type 0
 SaysPlan number why err err' status =
-    ((status ≡ 2) × IsPrinted err err' (plan_line number why))
-    ⊎ ((status ≡ 5) × (err'.failed ≡ err.failed))
-    ⊎ ((status ≡ 7) × (err'.failed ≡ true))
+    ((status ≡ exit.Usage) × IsPrinted err err' (plan_line number why))
+    ⊎ ((status ≡ exit.OutOfMemory) × (err'.failed ≡ err.failed))
+    ⊎ ((status ≡ exit.Unwritten) × (err'.failed ≡ true))
 
 -- the text of these lives is printed, or memory is wanted for it, or a write has failed
 abbrev pub SaysLives : List LifeReport → PrinterState → PrinterState → PrinterState → PrinterState
-    → ℕ → Type 0
+    → Status → Type 0
 SaysLives reports out out' err err' status =
-    ((status ≡ 0) × IsPrinted out out' (story_text 1 reports) × (err' ≡ err))
-    ⊎ ((status ≡ 5) × (out' ≡ out) × (err'.failed ≡ err.failed))
-    ⊎ ((status ≡ 7) × HasOneFailed out' err')
+    ((status ≡ exit.Done) × IsPrinted out out' (story_text 1 reports) × (err' ≡ err))
+    ⊎ ((status ≡ exit.OutOfMemory) × (out' ≡ out) × (err'.failed ≡ err.failed))
+    ⊎ ((status ≡ exit.Unwritten) × HasOneFailed out' err')

@@ -2,24 +2,36 @@
 //! The disks are in memory. A command works on bytes and writers that are lent to it, and answers
 //! the exit status.
 //!
+//! # Example
+//!
+//! A worker is created, takes a request, runs 20 steps and is cut. Then it is recovered:
+//!
+//! ```text
+//! let out = &mut Printer::new(out, false);
+//! let sizes = Sizes { pages: 1, files: 1, journal: 64 };
+//! let script: &[u8] = b"life\nrequest hello\nslice 20\nlife\n";
+//! let status = tell(alloc, script, wasm, sizes, out, err);
+//! ```
+//!
 //! # Promises
 //!
 //! - `read_script`: the lives that a script of a story spells (`IsScript`). A fault names the first
 //!   line after which the lines are no script (`IsFaultAt`), or memory has run out.
-//! - `tell`: status 0 says that a whole story was printed. It is of lives that go on as one that
-//!   was never stopped, with what the script put into each. What the other statuses say is said too
-//!   (`TellsStory`). `report_script` tells a fault of a script.
-//! - `tell_sweep`: status 0 says that the lives of a script, which nothing befalls, were run
-//!   without a cut, and did all that they were told (`HasDoneAll`). Then they were run with the
-//!   power cut at each call of one of them, for each prefix (`cuts_to`). Each cut's lives are told
-//!   as those of a story are (`TellsLives`). Those after the cut did all that they were told, and
+//! - `tell`: `Done` says that a whole story was printed. The story is of lives with what the script
+//!   put into each, which go on as one that was never stopped. What the other statuses say is said
+//!   too (`TellsStory`). `report_script` tells a fault of a script.
+//! - `tell_sweep`: `Done` says that the lives of a calm script (`IsCalmScript`) were run without a
+//!   cut, and did all that they were told (`HasDoneAll`). Then these lives were run with the power
+//!   cut at each call of one of them, for each prefix (`cuts_to`). Each cut's lives are told as
+//!   those of a story are (`TellsLives`). Those after the cut did all that they were told, and
 //!   handed out all answers that were not kept (`cut_at`). Over all lives each number has one text,
 //!   none is missing, and the first are those without a cut (`IsCutRun`). The printed line says how
-//!   many cuts and lines these are (`IsSweepDone`). 1 says that lives without a cut, or those of
-//!   one, were run and told (`AreCompared`). 2 says what is wrong with the script, or that a life
-//!   of it ended by an error, or that its upgrade was done again without a cut (`IsUnsweepable`). 7
-//!   comes just where a write has failed. `read_sweep`: the lives that the script spells, and which
-//!   one is swept (`AreSweptLives`). `fronts_of`: the fronts that a text spells.
+//!   many cuts and lines these are (`IsSweepDone`). `Different` says that lives without a cut, or
+//!   those of one, were run and told (`AreCompared`). `Usage` says what is wrong (`IsUnsweepable`):
+//!   the script, a life that ended by an error, or an upgrade done again without a cut. `Unwritten`
+//!   comes just where a write has failed.
+//! - `read_sweep`: the lives that the script spells, and which one is swept (`AreSweptLives`).
+//!   `fronts_of`: the fronts that a text spells.
 //! - `laws::answers_are_read_back`: what a script says of an answer is read as that answer.
 //!
 //! # Definitions to read
@@ -31,8 +43,8 @@
 //!
 //! # Who may touch what
 //!
-//! `wasmhost` calls this crate. It uses `worker` for lives, and `command_words` for all that is
-//! read and said. It opens no file, and knows nothing of `disk_commands`.
+//! `wasmhost` calls this crate. Lives are run by `worker`, and all is read and said by
+//! `command_words`. The crate opens no file, and knows nothing of `disk_commands`.
 #![tactic(auto)]
 
 pub mod laws;

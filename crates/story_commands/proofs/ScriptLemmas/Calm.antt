@@ -48,10 +48,10 @@ calm_line said.Life draft new e calm =
 calm_line (said.Answer answer) draft new e calm =
     calm_behind (said.Answer answer) draft new e calm.lives
 calm_line (said.Act act) draft new e calm = calm_behind (said.Act act) draft new e calm.lives
-calm_line (said.Stop place) draft new e calm =
-    calm_behind (said.Stop place) draft new e calm.lives
-calm_line (said.Fail place) draft new e calm =
-    calm_behind (said.Fail place) draft new e calm.lives
+calm_line (said.Stop point) draft new e calm =
+    calm_behind (said.Stop point) draft new e calm.lives
+calm_line (said.Fail point) draft new e calm =
+    calm_behind (said.Fail point) draft new e calm.lives
 calm_line (said.Refuse number) draft new e calm =
     calm_behind (said.Refuse number) draft new e calm.lives
 calm_line (said.Tears fronts) draft new e calm =

@@ -10,7 +10,7 @@ use Rattle.std.proofs.lemmas.Option.{none-some}
 use Rattle.std.specs.List.{flat_map}
 use Rattle.std.specs.Option.{option_to_list}
 use Rattle.wasi_abi.specs.declared.answer.Answer.{Answer}
-use Rattle.sector_disk.specs.declared.place.Place.{Place}
+use Rattle.sector_disk.specs.declared.fault_point.FaultPoint.{FaultPoint}
 use Rattle.worker.specs.declared.story.life.PlannedAct.{PlannedAct}
 use Rattle.worker.specs.declared.story.life.PlannedLife.{PlannedLife}
 use Rattle.story_commands.specs.declared.stories.line.ScriptLine.{ScriptLine}
@@ -45,22 +45,22 @@ pub record IsOnto (start : PlannedLife) (lines : List ScriptLine)
       ≡ option_to_list start.refuse ++ flat_map refusal_said lines
   pub tears : at_most_one life.tears ≡ at_most_one start.tears ++ flat_map tears_said lines
 
-abbrev with_stop : PlannedLife → Place → PlannedLife
-with_stop life place = record {
+abbrev with_stop : PlannedLife → FaultPoint → PlannedLife
+with_stop life point = record {
   answers = life.answers;
   acts = life.acts;
-  stop = Some place;
+  stop = Some point;
   fail = life.fail;
   refuse = life.refuse;
   tears = life.tears;
 }
 
-abbrev with_fail : PlannedLife → Place → PlannedLife
-with_fail life place = record {
+abbrev with_fail : PlannedLife → FaultPoint → PlannedLife
+with_fail life point = record {
   answers = life.answers;
   acts = life.acts;
   stop = life.stop;
-  fail = Some place;
+  fail = Some point;
   refuse = life.refuse;
   tears = life.tears;
 }
@@ -137,34 +137,34 @@ put_one (said.Act act) start mid full e =
       refuse = sym (append-nil (option_to_list start.refuse));
       tears = sym (append-nil (at_most_one start.tears));
     })
-put_one (said.Stop place) start mid full e = by start.stop refl e
+put_one (said.Stop point) start mid full e = by start.stop refl e
   where
-    by : (o : Option Place) → start.stop ≡ o
-        → (if is_none o then Some (with_stop start place) else None) ≡ Some mid
-        → IsOnto start (said.Stop place ∷ []) mid
+    by : (o : Option FaultPoint) → start.stop ≡ o
+        → (if is_none o then Some (with_stop start point) else None) ≡ Some mid
+        → IsOnto start (said.Stop point ∷ []) mid
     by None n e =
-        subst (λ m. IsOnto start (said.Stop place ∷ []) m) (ap (λ o. unwrap_or o start) e) (record {
+        subst (λ m. IsOnto start (said.Stop point ∷ []) m) (ap (λ o. unwrap_or o start) e) (record {
           one_life = refl;
           answers = sym (append-nil start.answers);
           acts = sym (append-nil start.acts);
-          stop = sym (ap (λ o. option_to_list o ++ place ∷ []) n);
+          stop = sym (ap (λ o. option_to_list o ++ point ∷ []) n);
           fail = sym (append-nil (option_to_list start.fail));
           refuse = sym (append-nil (option_to_list start.refuse));
           tears = sym (append-nil (at_most_one start.tears));
         })
     by (Some p) n e = cc e
-put_one (said.Fail place) start mid full e = by start.fail refl e
+put_one (said.Fail point) start mid full e = by start.fail refl e
   where
-    by : (o : Option Place) → start.fail ≡ o
-        → (if is_none o then Some (with_fail start place) else None) ≡ Some mid
-        → IsOnto start (said.Fail place ∷ []) mid
+    by : (o : Option FaultPoint) → start.fail ≡ o
+        → (if is_none o then Some (with_fail start point) else None) ≡ Some mid
+        → IsOnto start (said.Fail point ∷ []) mid
     by None n e =
-        subst (λ m. IsOnto start (said.Fail place ∷ []) m) (ap (λ o. unwrap_or o start) e) (record {
+        subst (λ m. IsOnto start (said.Fail point ∷ []) m) (ap (λ o. unwrap_or o start) e) (record {
           one_life = refl;
           answers = sym (append-nil start.answers);
           acts = sym (append-nil start.acts);
           stop = sym (append-nil (option_to_list start.stop));
-          fail = sym (ap (λ o. option_to_list o ++ place ∷ []) n);
+          fail = sym (ap (λ o. option_to_list o ++ point ∷ []) n);
           refuse = sym (append-nil (option_to_list start.refuse));
           tears = sym (append-nil (at_most_one start.tears));
         })
@@ -277,48 +277,48 @@ puts_all (said.Act act ∷ lines) start life full is =
       refuse = is.refuse;
       tears = is.tears;
     })
-puts_all (said.Stop place ∷ lines) start life full is = by start.stop refl (puts_all lines
-    (with_stop start place) life full.1)
+puts_all (said.Stop point ∷ lines) start life full is = by start.stop refl (puts_all lines
+    (with_stop start point) life full.1)
   where
-    by : (o : Option Place) → start.stop ≡ o
-        → (IsOnto (with_stop start place) lines life
-        → put_all_in lines (with_stop start place) ≡ Some life)
-        → option_and_then (put_all_in lines) (put_in (said.Stop place) start) ≡ Some life
+    by : (o : Option FaultPoint) → start.stop ≡ o
+        → (IsOnto (with_stop start point) lines life
+        → put_all_in lines (with_stop start point) ≡ Some life)
+        → option_and_then (put_all_in lines) (put_in (said.Stop point) start) ≡ Some life
     by None n given =
         ap (λ o. option_and_then (put_all_in lines) (if is_none o then Some
-        (with_stop start place) else None)) n
+        (with_stop start point) else None)) n
         ∙ given (record {
           one_life = is.one_life;
           answers = is.answers;
           acts = is.acts;
-          stop = is.stop ∙ ap (λ o. option_to_list o ++ place ∷ flat_map stop_said lines) n;
+          stop = is.stop ∙ ap (λ o. option_to_list o ++ point ∷ flat_map stop_said lines) n;
           fail = is.fail;
           refuse = is.refuse;
           tears = is.tears;
         })
-    by (Some p) n given = absurd (one_at_most life.stop p place (flat_map stop_said lines)
-        (is.stop ∙ ap (λ o. option_to_list o ++ place ∷ flat_map stop_said lines) n))
-puts_all (said.Fail place ∷ lines) start life full is = by start.fail refl (puts_all lines
-    (with_fail start place) life full.1)
+    by (Some p) n given = absurd (one_at_most life.stop p point (flat_map stop_said lines)
+        (is.stop ∙ ap (λ o. option_to_list o ++ point ∷ flat_map stop_said lines) n))
+puts_all (said.Fail point ∷ lines) start life full is = by start.fail refl (puts_all lines
+    (with_fail start point) life full.1)
   where
-    by : (o : Option Place) → start.fail ≡ o
-        → (IsOnto (with_fail start place) lines life
-        → put_all_in lines (with_fail start place) ≡ Some life)
-        → option_and_then (put_all_in lines) (put_in (said.Fail place) start) ≡ Some life
+    by : (o : Option FaultPoint) → start.fail ≡ o
+        → (IsOnto (with_fail start point) lines life
+        → put_all_in lines (with_fail start point) ≡ Some life)
+        → option_and_then (put_all_in lines) (put_in (said.Fail point) start) ≡ Some life
     by None n given =
         ap (λ o. option_and_then (put_all_in lines) (if is_none o then Some
-        (with_fail start place) else None)) n
+        (with_fail start point) else None)) n
         ∙ given (record {
           one_life = is.one_life;
           answers = is.answers;
           acts = is.acts;
           stop = is.stop;
-          fail = is.fail ∙ ap (λ o. option_to_list o ++ place ∷ flat_map fail_said lines) n;
+          fail = is.fail ∙ ap (λ o. option_to_list o ++ point ∷ flat_map fail_said lines) n;
           refuse = is.refuse;
           tears = is.tears;
         })
-    by (Some p) n given = absurd (one_at_most life.fail p place (flat_map fail_said lines)
-        (is.fail ∙ ap (λ o. option_to_list o ++ place ∷ flat_map fail_said lines) n))
+    by (Some p) n given = absurd (one_at_most life.fail p point (flat_map fail_said lines)
+        (is.fail ∙ ap (λ o. option_to_list o ++ point ∷ flat_map fail_said lines) n))
 puts_all (said.Refuse number ∷ lines) start life full is = by start.refuse refl (puts_all lines
     (with_refusal start number) life full.1)
   where

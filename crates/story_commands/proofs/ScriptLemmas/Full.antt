@@ -9,7 +9,7 @@ use Rattle.story_commands.specs.declared.stories.line.ScriptLine.{ScriptLine}
 use Rattle.story_commands.specs.declared.stories.line.ScriptLine.TheVariants as said
 use Rattle.story_commands.specs.rules.Scripts.{said_by, said_cut, said_alone, said_with}
 use Rattle.story_commands.specs.rules.Scripts.{said_with_number, number_spelled, hex_bytes}
-use Rattle.story_commands.specs.rules.Scripts.{place_spelled, count_spelled, batch_spelled}
+use Rattle.story_commands.specs.rules.Scripts.{point_spelled, count_spelled, batch_spelled}
 use Rattle.story_commands.specs.rules.Scripts.{each_front, fronts_in, front_spelled}
 use Rattle.story_commands.proofs.ScriptLemmas.Lives.{IsFullOption}
 
@@ -70,8 +70,8 @@ full_with word rest =
     full_if (bytes_eq word (codes "request")) _ _ tt
     (full_if (bytes_eq word (codes "random")) _ _ (full_map _ (λ x. tt) (hex_bytes rest))
     (full_if (bytes_eq word (codes "tears")) _ _ (full_tears (fronts_in rest) (fronts_some rest))
-    (full_if (bytes_eq word (codes "stop")) _ _ (full_map _ (λ x. tt) (place_spelled rest))
-    (full_if (bytes_eq word (codes "fail")) _ _ (full_map _ (λ x. tt) (place_spelled rest))
+    (full_if (bytes_eq word (codes "stop")) _ _ (full_map _ (λ x. tt) (point_spelled rest))
+    (full_if (bytes_eq word (codes "fail")) _ _ (full_map _ (λ x. tt) (point_spelled rest))
     (full_if (bytes_eq word (codes "refuse")) _ _ (full_map _ (λ x. tt) (count_spelled rest))
     (full_if (bytes_eq word (codes "batch")) _ _ (full_map _ (λ x. tt) (batch_spelled rest))
     (full_then (said_with_number word) (full_number word) (number_spelled rest))))))))

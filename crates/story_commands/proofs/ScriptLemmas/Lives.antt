@@ -134,12 +134,12 @@ goes_on (said.Answer answer ∷ lines) before start draft full e =
 goes_on (said.Act act ∷ lines) before start draft full e =
     one_on (said.Act act) lines before start draft full.0
     (λ mid. goes_on lines before mid draft full.1) (put_in (said.Act act) start) refl e
-goes_on (said.Stop place ∷ lines) before start draft full e =
-    one_on (said.Stop place) lines before start draft full.0
-    (λ mid. goes_on lines before mid draft full.1) (put_in (said.Stop place) start) refl e
-goes_on (said.Fail place ∷ lines) before start draft full e =
-    one_on (said.Fail place) lines before start draft full.0
-    (λ mid. goes_on lines before mid draft full.1) (put_in (said.Fail place) start) refl e
+goes_on (said.Stop point ∷ lines) before start draft full e =
+    one_on (said.Stop point) lines before start draft full.0
+    (λ mid. goes_on lines before mid draft full.1) (put_in (said.Stop point) start) refl e
+goes_on (said.Fail point ∷ lines) before start draft full e =
+    one_on (said.Fail point) lines before start draft full.0
+    (λ mid. goes_on lines before mid draft full.1) (put_in (said.Fail point) start) refl e
 goes_on (said.Refuse number ∷ lines) before start draft full e =
     one_on (said.Refuse number) lines before start draft full.0
     (λ mid. goes_on lines before mid draft full.1) (put_in (said.Refuse number) start) refl e
@@ -158,8 +158,8 @@ read_lives (said.Life ∷ lines) draft full e =
     (g.own, g.rest, ap (λ l. said.Life ∷ l) g.whole, life_of_empty g.own g.life g.onto, g.more)
 read_lives (said.Answer answer ∷ lines) draft full e = cc e
 read_lives (said.Act act ∷ lines) draft full e = cc e
-read_lives (said.Stop place ∷ lines) draft full e = cc e
-read_lives (said.Fail place ∷ lines) draft full e = cc e
+read_lives (said.Stop point ∷ lines) draft full e = cc e
+read_lives (said.Fail point ∷ lines) draft full e = cc e
 read_lives (said.Refuse number ∷ lines) draft full e = cc e
 read_lives (said.Tears fronts ∷ lines) draft full e = cc e
 
@@ -188,12 +188,12 @@ own_put (said.Answer answer ∷ own) rest before start life e =
 own_put (said.Act act ∷ own) rest before start life e =
     own_one (said.Act act) own rest before start life
     (λ mid. own_put own rest before mid life) (put_in (said.Act act) start) e
-own_put (said.Stop place ∷ own) rest before start life e =
-    own_one (said.Stop place) own rest before start life
-    (λ mid. own_put own rest before mid life) (put_in (said.Stop place) start) e
-own_put (said.Fail place ∷ own) rest before start life e =
-    own_one (said.Fail place) own rest before start life
-    (λ mid. own_put own rest before mid life) (put_in (said.Fail place) start) e
+own_put (said.Stop point ∷ own) rest before start life e =
+    own_one (said.Stop point) own rest before start life
+    (λ mid. own_put own rest before mid life) (put_in (said.Stop point) start) e
+own_put (said.Fail point ∷ own) rest before start life e =
+    own_one (said.Fail point) own rest before start life
+    (λ mid. own_put own rest before mid life) (put_in (said.Fail point) start) e
 own_put (said.Refuse number ∷ own) rest before start life e =
     own_one (said.Refuse number) own rest before start life
     (λ mid. own_put own rest before mid life) (put_in (said.Refuse number) start) e

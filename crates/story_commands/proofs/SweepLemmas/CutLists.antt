@@ -7,22 +7,22 @@ use Rattle.std.specs.Prelude.{IfOk, OnOk}
 use Rattle.std.specs.Result.{is_err}
 use Rattle.std.proofs.lemmas.List.{length-map, map_more}
 use Rattle.std.proofs.lemmas.List.Elements.{All-append, All-nil, All-push}
-use Rattle.sector_disk.specs.declared.place.Place.{Place}
-use Rattle.story_commands.specs.rules.Sweeps.{AreCutsOf, AreCutsTo, SomeCut, cut_place}
+use Rattle.sector_disk.specs.declared.fault_point.FaultPoint.{FaultPoint}
+use Rattle.story_commands.specs.rules.Sweeps.{AreCutsOf, AreCutsTo, SomeCut, cut_point}
 use Rattle.story_commands.specs.laws.CutRuns.{HasAgreed, HaveAgreed, IsSweptAt}
-use Rattle.story_commands.specs.declared.sweeping.calling.Progress.{Progress}
+use Rattle.story_commands.specs.declared.sweeping.calling.CutProgress.{CutProgress}
 use Rattle.story_commands.specs.declared.sweeping.cutting.Sweep.{Sweep}
 use Rattle.story_commands.specs.declared.sweeping.fault.SweepFault.{SweepFault}
 
 -- none yet
-pub none_made : (Cuts : Place → Bool → Type 0) (fronts : List ℕ)
-    → (places : List Place) × AreCutsTo Cuts 0 fronts places × (0 ≡ length places)
+pub none_made : (Cuts : FaultPoint → Bool → Type 0) (fronts : List ℕ)
+    → (places : List FaultPoint) × AreCutsTo Cuts 0 fronts places × (0 ≡ length places)
 unfolding AreCutsTo
 none_made Cuts fronts = ([], refl, refl)
 
 -- those of one call more
-call_more : (Cuts : Place → Bool → Type 0) (calls : ℕ) (fronts : List ℕ)
-    (earlier these : List Place) → AreCutsTo Cuts calls fronts earlier
+call_more : (Cuts : FaultPoint → Bool → Type 0) (calls : ℕ) (fronts : List ℕ)
+    (earlier these : List FaultPoint) → AreCutsTo Cuts calls fronts earlier
     → AreCutsOf Cuts (calls + 1) fronts these → AreCutsTo Cuts (calls + 1) fronts (earlier ++ these)
 unfolding AreCutsTo
 call_more Cuts calls fronts earlier these so_far made =
@@ -35,17 +35,17 @@ call_more Cuts calls fronts earlier these so_far made =
     )
 
 -- one more of a call
-pub one_cut_more : (P : Place → Type 0) (call : ℕ) (fronts : List ℕ) (i front : ℕ)
+pub one_cut_more : (P : FaultPoint → Type 0) (call : ℕ) (fronts : List ℕ) (i front : ℕ)
     → i < length fronts → front ≡ get_or fronts i 0
-    → All P (map (cut_place call) (take i fronts)) → P (cut_place call front)
-    → All P (map (cut_place call) (take (i + 1) fronts))
+    → All P (map (cut_point call) (take i fronts)) → P (cut_point call front)
+    → All P (map (cut_point call) (take (i + 1) fronts))
 one_cut_more P call fronts i front within is so_far one =
-    let whole : map (cut_place call) (take (i + 1) fronts)
-    ≡ map (cut_place call) (take i fronts) ++ cut_place call front ∷ []
-    = map_more (cut_place call) fronts i 0 within
-    ∙ ap (λ (f : ℕ). map (cut_place call) (take i fronts) ++ cut_place call f ∷ []) (sym is) in
+    let whole : map (cut_point call) (take (i + 1) fronts)
+    ≡ map (cut_point call) (take i fronts) ++ cut_point call front ∷ []
+    = map_more (cut_point call) fronts i 0 within
+    ∙ ap (λ (f : ℕ). map (cut_point call) (take i fronts) ++ cut_point call f ∷ []) (sym is) in
     subst (All P) (sym whole)
-    (All-push P (map (cut_place call) (take i fronts)) (cut_place call front) so_far one)
+    (All-push P (map (cut_point call) (take i fronts)) (cut_point call front) so_far one)
 
 -- and how many they are
 pub one_call_more : (sweep : Sweep) (calls : ℕ) (fronts : List ℕ) (before cuts : ℕ)
@@ -67,10 +67,10 @@ no_fronts sweep call fronts before none =
 -- the only cut of a call that is no write
 pub one_cut : (sweep : Sweep) (call : ℕ) (fronts others : List ℕ) (first before cuts : ℕ)
     (in_write : Bool) → fronts ≡ first ∷ others → in_write ≡ false
-    → IsSweptAt sweep (cut_place call first) in_write → cuts ≡ before + 1
+    → IsSweptAt sweep (cut_point call first) in_write → cuts ≡ before + 1
     → HasAgreed sweep call fronts before cuts
 one_cut sweep call fronts others first before cuts in_write whole elsewhere made counted =
-    let place = cut_place call first in
+    let place = cut_point call first in
     subst (λ (fs : List ℕ). HasAgreed sweep call fs before cuts) (sym whole) (
       place ∷ [],
       inr (
@@ -84,22 +84,22 @@ one_cut sweep call fronts others first before cuts in_write whole elsewhere made
 
 -- the cuts of a write
 pub all_cuts : (sweep : Sweep) (call : ℕ) (fronts others : List ℕ) (first before mid : ℕ)
-    (in_write : Bool) (result : Result Progress SweepFault) → fronts ≡ first ∷ others
-    → IsSweptAt sweep (cut_place call first) in_write → mid ≡ before + 1
-    → IfOk result (λ now. All (SomeCut (IsSweptAt sweep)) (map (cut_place call) others)
+    (in_write : Bool) (result : Result CutProgress SweepFault) → fronts ≡ first ∷ others
+    → IsSweptAt sweep (cut_point call first) in_write → mid ≡ before + 1
+    → IfOk result (λ now. All (SomeCut (IsSweptAt sweep)) (map (cut_point call) others)
     × (now.cuts ≡ mid + length others))
     → IfOk result (λ now. HasAgreed sweep call fronts before now.cuts)
 all_cuts sweep call fronts others first before mid in_write (Ok now) whole made counted rest =
-    let place = cut_place call first in
+    let place = cut_point call first in
     let P = SomeCut (IsSweptAt sweep) in
     subst (λ (fs : List ℕ). HasAgreed sweep call fs before now.cuts) (sym whole) (
-      place ∷ map (cut_place call) others,
+      place ∷ map (cut_point call) others,
       inl (
         refl,
-        All-append P (place ∷ []) (map (cut_place call) others)
+        All-append P (place ∷ []) (map (cut_point call) others)
             (All-push P [] place (All-nil P) (in_write, made)) rest.0,
       ),
-      omega (arith, counted, rest.1, length-map others (cut_place call)),
+      omega (arith, counted, rest.1, length-map others (cut_point call)),
     )
 all_cuts sweep call fronts others first before mid in_write (Err why) whole made counted rest = tt
 

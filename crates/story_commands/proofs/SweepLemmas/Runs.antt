@@ -6,7 +6,7 @@ use Rattle.std.specs.Prelude.{◌<◌, IfErr, IfOk, Some}
 use Rattle.std.specs.List.{All}
 use Rattle.std.specs.Result.{IsErrAnd}
 use Rattle.wasi_abi.specs.rules.Configs.{Settings}
-use Rattle.sector_disk.specs.declared.place.Place.{Place}
+use Rattle.sector_disk.specs.declared.fault_point.FaultPoint.{FaultPoint}
 use Rattle.record_replay.specs.declared.line_list.NumberedLine.{NumberedLine}
 use Rattle.worker.specs.declared.story.life.PlannedLife.{PlannedLife}
 use Rattle.worker.specs.declared.story.report.LifeReport.{LifeReport}
@@ -49,7 +49,7 @@ same_told w wasm c config l lives reports h i j tells =
     (subst (λ (z : List PlannedLife). TellsLives w c z reports) j tells))
 
 -- the lives of a cut
-pub cut_run : (sweep : Sweep) (place : Place) (given : ℕ) (lives : List PlannedLife)
+pub cut_run : (sweep : Sweep) (place : FaultPoint) (given : ℕ) (lives : List PlannedLife)
     (result : Result (List LifeReport) SweepFault) → IsStarted sweep
     → lives ≡ cut_at [] sweep.part.swept.now sweep.part.told.now place sweep.part.before given
     → IfOk result (λ reports. (earlier : List PlannedLife) (before : List LifeReport)
@@ -233,7 +233,7 @@ cut_ends wasm config lives place plain sweep calls (fault.Differs run) is of beg
 -- the same cuts
 same_runs : (w wasm : List ℕ) (c config : Settings) (e earlier s swept : List PlannedLife)
     (t told : List LifeReport) (l texts : List NumberedLine) (before : ℕ)
-    (Holds : (Place → Bool → Type 0) → Type 0)
+    (Holds : (FaultPoint → Bool → Type 0) → Type 0)
     → w ≡ wasm → c ≡ config → e ≡ earlier → s ≡ swept → t ≡ told → l ≡ texts
     → Holds (IsCutRun w c e s t l before)
     → Holds (IsCutRun wasm config earlier swept told texts before)

@@ -8,7 +8,7 @@ use Rattle.std.proofs.lemmas.List.{drop-drop, drop_at, length-take-le, take-appe
 use Rattle.std.proofs.lemmas.List.Elements.{All-take}
 use Rattle.std.proofs.lemmas.Option.{slice_get_within}
 use Rattle.wasi_abi.specs.rules.Configs.{Settings}
-use Rattle.sector_disk.specs.declared.place.Place.{Place}
+use Rattle.sector_disk.specs.declared.fault_point.FaultPoint.{FaultPoint}
 use Rattle.worker.specs.declared.story.life.PlannedLife.{PlannedLife}
 use Rattle.worker.specs.declared.story.report.LifeReport.{LifeReport}
 use Rattle.worker.specs.declared.story.report.LifeEnd.TheVariants.{Stopped}
@@ -85,7 +85,7 @@ get_behind (x ∷ front) xs zero k is = absurd (omega (arith, is))
 get_behind (x ∷ front) xs (suc n) k is = get_behind front xs n k (omega (arith, is))
 
 -- a cut that was run, and agrees
-pub cut_agrees : (sweep : Sweep) (place : Place) (given : ℕ) (in_write : Bool)
+pub cut_agrees : (sweep : Sweep) (place : FaultPoint) (given : ℕ) (in_write : Bool)
     (reports : List LifeReport) → IsStarted sweep → HasRunCut sweep place given reports
     → front_left 0 reports ≡ Some in_write → AgreesBehind sweep given reports
     → IsSweptAt sweep place in_write

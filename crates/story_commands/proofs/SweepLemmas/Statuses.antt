@@ -1,5 +1,5 @@
 -- From how a sweep went to what the exit status says.
-use Rattle.std.proofs.Common.{◌≡◌, inl, inr, ℕ, List, refl, sym, ap, ◌∙◌, subst, arith}
+use Rattle.std.proofs.Common.{◌≡◌, inl, inr, ℕ, List, refl, sym, ap, ◌∙◌, subst}
 use Rattle.std.specs.Prelude.{Option, Some, None, Result, Ok, Err, IfErr, IfOk, IfSome}
 use Rattle.worker.specs.declared.recover_fault.RecoverFault.{RecoverFault}
 use Rattle.worker.specs.declared.story.life.PlannedLife.{PlannedLife}
@@ -11,6 +11,8 @@ use Rattle.command_words.specs.declared.preparing.Unprepared.TheVariants as unpr
 use Rattle.command_words.specs.rules.Preparations.{IsPreparedAs, status_unprepared}
 use Rattle.command_words.specs.rules.Pieces.{lines_of}
 use Rattle.command_words.specs.rules.Printers.{PrinterState, IsSaid, HasOneFailed, SaysText}
+use Rattle.command_words.specs.declared.status.Status.{Status}
+use Rattle.command_words.specs.declared.status.Status.TheVariants as exit
 use Rattle.story_commands.specs.rules.Stories.{script_line, story_config}
 use Rattle.story_commands.specs.declared.stories.fault.ScriptFault.{ScriptFault}
 use Rattle.story_commands.specs.declared.stories.fault.ScriptFault.TheVariants as unread
@@ -28,101 +30,105 @@ use Rattle.story_commands.specs.laws.CutRuns.{HeedsProgress, IsFoundFirst, IsSwe
 use Rattle.story_commands.specs.laws.SweepEnds.{SaysEnd}
 
 -- what is wrong with a script, by its fault
-pub script_fault_said : (why : ScriptFault) (old : PrinterState) (status : ℕ) (new : PrinterState)
-    → ((number : ℕ) → why ≡ unread.Line number → SaysText (script_line number) 2 old status new)
-    → (why ≡ unread.Memory → IsSaid 5 old status new) → SaysScriptFault old status new
+pub script_fault_said : (why : ScriptFault) (old : PrinterState) (status : Status)
+    (new : PrinterState)
+    → ((number : ℕ) → why ≡ unread.Line number
+    → SaysText (script_line number) exit.Usage old status new)
+    → (why ≡ unread.Memory → IsSaid exit.OutOfMemory old status new)
+    → SaysScriptFault old status new
 script_fault_said (unread.Line number) old status new faulty starved =
     inl (number, faulty number refl)
 script_fault_said unread.Memory old status new faulty starved = inr (inr (starved refl))
 
 module _ (script wasm : List ℕ) (sizes : Sizes) (fronts : List ℕ) (number : Option ℕ)
     (out out' err mid err' : PrinterState) (steady : mid.failed ≡ err.failed) where
-  abbrev pub Says : ℕ → Type 0
+  abbrev pub Says : Status → Type 0
   Says status = TellsSweep script wasm sizes fronts number out out' err err' status
 
   -- a write has failed
-  pub says_seven : HasOneFailed out' err' → Says 7
-  says_seven failed = record {
-    done = λ is. absurd (omega (arith, is));
-    differs = λ is. absurd (omega (arith, is));
-    unswept = λ is. absurd (omega (arith, is));
+  pub says_unwritten : HasOneFailed out' err' → Says exit.Unwritten
+  says_unwritten failed = record {
+    done = λ is. absurd cc;
+    differs = λ is. absurd cc;
+    unswept = λ is. absurd cc;
     heeded = inr (refl, failed);
     known = inr (inr (inr (inr (inr refl))));
   }
 
   -- lives that differ were compared
-  says_one : IsOfScript script wasm sizes number (AreCompared wasm (story_config sizes))
-      → out'.failed ≡ out.failed → err'.failed ≡ mid.failed → Says 1
-  says_one compared same heeds = record {
-    done = λ is. absurd (omega (arith, is));
+  says_different : IsOfScript script wasm sizes number (AreCompared wasm (story_config sizes))
+      → out'.failed ≡ out.failed → err'.failed ≡ mid.failed → Says exit.Different
+  says_different compared same heeds = record {
+    done = λ is. absurd cc;
     differs = λ _. compared;
-    unswept = λ is. absurd (omega (arith, is));
-    heeded = inl ((λ is. omega (arith, is)), same, heeds ∙ steady);
+    unswept = λ is. absurd cc;
+    heeded = inl ((λ is. cc), same, heeds ∙ steady);
     known = inr (inl refl);
   }
 
   -- nothing is cut
-  pub says_two : IsUnsweepable script wasm sizes number err.contents err'.contents
-      → out' ≡ out → err'.failed ≡ mid.failed → Says 2
-  says_two why stays heeds = record {
-    done = λ is. absurd (omega (arith, is));
-    differs = λ is. absurd (omega (arith, is));
+  pub says_usage : IsUnsweepable script wasm sizes number err.contents err'.contents
+      → out' ≡ out → err'.failed ≡ mid.failed → Says exit.Usage
+  says_usage why stays heeds = record {
+    done = λ is. absurd cc;
+    differs = λ is. absurd cc;
     unswept = λ _. (stays, why);
     heeded = inl (
-      (λ is. omega (arith, is)),
+      (λ is. cc),
       ap (λ (p : PrinterState). p.failed) stays,
       heeds ∙ steady,
     );
     known = inr (inr (inl refl));
   }
 
-  says_three : out'.failed ≡ out.failed → err'.failed ≡ mid.failed → Says 3
-  says_three same heeds = record {
-    done = λ is. absurd (omega (arith, is));
-    differs = λ is. absurd (omega (arith, is));
-    unswept = λ is. absurd (omega (arith, is));
-    heeded = inl ((λ is. omega (arith, is)), same, heeds ∙ steady);
+  says_refused : out'.failed ≡ out.failed → err'.failed ≡ mid.failed → Says exit.Refused
+  says_refused same heeds = record {
+    done = λ is. absurd cc;
+    differs = λ is. absurd cc;
+    unswept = λ is. absurd cc;
+    heeded = inl ((λ is. cc), same, heeds ∙ steady);
     known = inr (inr (inr (inl refl)));
   }
 
-  says_five : out'.failed ≡ out.failed → err'.failed ≡ mid.failed → Says 5
-  says_five same heeds = record {
-    done = λ is. absurd (omega (arith, is));
-    differs = λ is. absurd (omega (arith, is));
-    unswept = λ is. absurd (omega (arith, is));
-    heeded = inl ((λ is. omega (arith, is)), same, heeds ∙ steady);
+  says_starved : out'.failed ≡ out.failed → err'.failed ≡ mid.failed → Says exit.OutOfMemory
+  says_starved same heeds = record {
+    done = λ is. absurd cc;
+    differs = λ is. absurd cc;
+    unswept = λ is. absurd cc;
+    heeded = inl ((λ is. cc), same, heeds ∙ steady);
     known = inr (inr (inr (inr (inl refl))));
   }
 
-  pub said_five : (status : ℕ) → IsSaid 5 mid status err' → out' ≡ out → Says status
-  said_five status (inl said) stays =
-      subst Says (sym said.0) (says_five (ap (λ p. p.failed) stays) said.1)
-  said_five status (inr unsaid) stays = subst Says (sym unsaid.0) (says_seven (inr unsaid.1))
+  pub said_starved : (status : Status) → IsSaid exit.OutOfMemory mid status err' → out' ≡ out
+      → Says status
+  said_starved status (inl said) stays =
+      subst Says (sym said.0) (says_starved (ap (λ p. p.failed) stays) said.1)
+  said_starved status (inr unsaid) stays = subst Says (sym unsaid.0) (says_unwritten (inr unsaid.1))
 
   by_why : (why : Unprepared) → out'.failed ≡ out.failed → err'.failed ≡ mid.failed
       → Says (status_unprepared why)
-  by_why (unprepared.Range bound) same heeds = says_three same heeds
-  by_why (unprepared.Text unnamed) same heeds = says_three same heeds
-  by_why (unprepared.Module fault) same heeds = says_three same heeds
-  by_why unprepared.Memory same heeds = says_five same heeds
+  by_why (unprepared.Range bound) same heeds = says_refused same heeds
+  by_why (unprepared.Text unnamed) same heeds = says_refused same heeds
+  by_why (unprepared.Module fault) same heeds = says_refused same heeds
+  by_why unprepared.Memory same heeds = says_starved same heeds
 
   -- a worker that is refused
-  pub refused : (why : Unprepared) (status : ℕ) → IsSaid (status_unprepared why) mid status err'
-      → out' ≡ out → Says status
+  pub refused : (why : Unprepared) (status : Status)
+      → IsSaid (status_unprepared why) mid status err' → out' ≡ out → Says status
   refused why status (inl said) stays =
       subst Says (sym said.0) (by_why why (ap (λ p. p.failed) stays) said.1)
   refused why status (inr unsaid) stays =
-      subst Says (sym unsaid.0) (says_seven (inr unsaid.1))
+      subst Says (sym unsaid.0) (says_unwritten (inr unsaid.1))
 
   -- a cut that differs
   pub differs : (lives : List PlannedLife) (place : ℕ)
       → AreSweptLives (lines_of script) number lives place
       → (prepared : Prepared) → IsPreparedAs (story_config sizes) wasm prepared
       → AreCompared wasm prepared.config lives place
-      → (status : ℕ) → SaysDifference out out' mid err' status → Says status
+      → (status : Status) → SaysDifference out out' mid err' status → Says status
   differs lives place spelled prepared prepares compared status (inl said) =
       subst Says (sym said.0)
-      (says_one (of_script lives place spelled prepared prepares compared) said.1 said.2)
+      (says_different (of_script lives place spelled prepared prepares compared) said.1 said.2)
     where
       of_script : (ls : List PlannedLife) (p : ℕ) → AreSweptLives (lines_of script) number ls p
           → (q : Prepared) → IsPreparedAs (story_config sizes) wasm q
@@ -137,16 +143,16 @@ module _ (script wasm : List ℕ) (sizes : Sizes) (fronts : List ℕ) (number : 
         holds = subst (λ (c : Settings). AreCompared wasm c ls p) prepares.config_is them;
       }
   differs lives place spelled prepared prepares compared status (inr (inl said)) =
-      subst Says (sym said.0) (says_five (ap (λ p. p.failed) said.1) said.2)
+      subst Says (sym said.0) (says_starved (ap (λ p. p.failed) said.1) said.2)
   differs lives place spelled prepared prepares compared status (inr (inr unsaid)) =
-      subst Says (sym unsaid.0) (says_seven unsaid.1)
+      subst Says (sym unsaid.0) (says_unwritten unsaid.1)
 
   -- all cuts agree
   pub swept_whole : (lives : List PlannedLife) (place : ℕ)
       → AreSweptLives (lines_of script) number lives place
       → (prepared : Prepared) → IsPreparedAs (story_config sizes) wasm prepared
       → (cuts count : ℕ) → IsSwept wasm prepared.config lives place fronts cuts count
-      → (status : ℕ) → SaysSwept cuts count out out' mid err' status → Says status
+      → (status : Status) → SaysSwept cuts count out out' mid err' status → Says status
   swept_whole lives place spelled prepared prepares cuts count swept status (inl said) =
       subst Says (sym said.0) (record {
         done = λ is. record {
@@ -162,35 +168,35 @@ module _ (script wasm : List ℕ) (sizes : Sizes) (fronts : List ℕ) (number : 
               prepares.config_is swept;
           printed_whole = said.1.0;
         };
-        differs = λ is. absurd (omega (arith, is));
-        unswept = λ is. absurd (omega (arith, is));
+        differs = λ is. absurd cc;
+        unswept = λ is. absurd cc;
         heeded = inl (
-          (λ is. omega (arith, is)),
+          (λ is. cc),
           said.1.1,
           ap (λ (p : PrinterState). p.failed) said.2 ∙ steady,
         );
         known = inl refl;
       })
   swept_whole lives place spelled prepared prepares cuts count swept status (inr (inl said)) =
-      subst Says (sym said.0) (says_five (ap (λ p. p.failed) said.1) said.2)
+      subst Says (sym said.0) (says_starved (ap (λ p. p.failed) said.1) said.2)
   swept_whole lives place spelled prepared prepares cuts count swept status (inr (inr unsaid)) =
-      subst Says (sym unsaid.0) (says_seven unsaid.1)
+      subst Says (sym unsaid.0) (says_unwritten unsaid.1)
 
 -- the same, where nothing was printed before
 module _ (script wasm : List ℕ) (sizes : Sizes) (fronts : List ℕ) (number : Option ℕ)
     (out out' err err' : PrinterState) where
-  abbrev Now : ℕ → Type 0
+  abbrev Now : Status → Type 0
   Now status = TellsSweep script wasm sizes fronts number out out' err err' status
 
   two : IsUnsweepable script wasm sizes number err.contents err'.contents → out' ≡ out
-      → err'.failed ≡ err.failed → Now 2
-  two = says_two script wasm sizes fronts number out out' err err err' refl
+      → err'.failed ≡ err.failed → Now exit.Usage
+  two = says_usage script wasm sizes fronts number out out' err err err' refl
 
-  seven : HasOneFailed out' err' → Now 7
-  seven = says_seven script wasm sizes fronts number out out' err err err' refl
+  seven : HasOneFailed out' err' → Now exit.Unwritten
+  seven = says_unwritten script wasm sizes fronts number out out' err err err' refl
 
   -- a script that can't be read
-  pub unread_now : (status : ℕ) → SaysScriptFault err status err' → out' ≡ out → Now status
+  pub unread_now : (status : Status) → SaysScriptFault err status err' → out' ≡ out → Now status
   unread_now status (inl (line, inl said)) stays =
       subst Now (sym said.0) (two (inl (line, said.1.0)) stays said.1.1)
   unread_now status (inl (line, inr unsaid)) stays =
@@ -200,14 +206,14 @@ module _ (script wasm : List ℕ) (sizes : Sizes) (fronts : List ℕ) (number : 
   unread_now status (inr (inl (inr unsaid))) stays =
       subst Now (sym unsaid.0) (seven (inr unsaid.1))
   unread_now status (inr (inr said)) stays =
-      said_five script wasm sizes fronts number out out' err err err' refl status said stays
+      said_starved script wasm sizes fronts number out out' err err err' refl status said stays
 
   -- a life that has ended by an error without a cut
   pub planned_now : (lives : List PlannedLife) (place : ℕ)
       → AreSweptLives (lines_of script) number lives place
       → (prepared : Prepared) → IsPreparedAs (story_config sizes) wasm prepared
       → (life : ℕ) (why : RecoverFault) → HasFailedPlan wasm prepared.config lives life why
-      → (status : ℕ) → SaysPlan life why err err' status → out' ≡ out → Now status
+      → (status : Status) → SaysPlan life why err err' status → out' ≡ out → Now status
   planned_now lives place spelled prepared prepares life why failed status (inl said) stays =
       subst Now (sym said.0) (two (inr (inr (inl (record {
         lives = lives;
@@ -223,7 +229,8 @@ module _ (script wasm : List ℕ) (sizes : Sizes) (fronts : List ℕ) (number : 
         );
       })))) stays said.1.1)
   planned_now lives place spelled prepared prepares life why failed status (inr (inl said)) stays =
-      said_five script wasm sizes fronts number out out' err err err' refl status (inl said) stays
+      said_starved script wasm sizes fronts number out out' err err err' refl status (inl said)
+      stays
   planned_now lives place spelled prepared prepares life why failed status (inr (inr un)) stays =
       subst Now (sym un.0) (seven (inr un.1))
 
@@ -232,7 +239,8 @@ module _ (script wasm : List ℕ) (sizes : Sizes) (fronts : List ℕ) (number : 
       → AreSweptLives (lines_of script) number lives place
       → (prepared : Prepared) → IsPreparedAs (story_config sizes) wasm prepared
       → IsDoneAgain wasm prepared.config lives place
-      → (status : ℕ) → SaysText no_upgrade_line 2 err status err' → out' ≡ out → Now status
+      → (status : Status) → SaysText no_upgrade_line exit.Usage err status err' → out' ≡ out
+      → Now status
   upgraded_now lives place spelled prepared prepares again status (inl said) stays =
       subst Now (sym said.0) (two (inr (inr (inr (
         record {
@@ -248,7 +256,7 @@ module _ (script wasm : List ℕ) (sizes : Sizes) (fronts : List ℕ) (number : 
   upgraded_now lives place spelled prepared prepares again status (inr unsaid) stays =
       subst Now (sym unsaid.0) (seven (inr unsaid.1))
 
-  pub refused_now : (why : Unprepared) (status : ℕ)
+  pub refused_now : (why : Unprepared) (status : Status)
       → IsSaid (status_unprepared why) err status err' → out' ≡ out
       → TellsSweep script wasm sizes fronts number out out' err err' status
   refused_now why status said stays =
@@ -263,7 +271,7 @@ pub ended_now : (script wasm : List ℕ) (sizes : Sizes) (fronts : List ℕ) (nu
     → IfOk ended (λ o. IfSome o (λ swept. IsSwept wasm prepared.config lives place fronts
     swept.cuts swept.lines)) → IfErr ended (IsSweepFault wasm prepared.config lives place)
     → HeedsProgress ended err mid → IfErr ended (λ why. IsFoundFirst why → mid ≡ err)
-    → (status : ℕ) → SaysEnd ended out out' mid err' status
+    → (status : Status) → SaysEnd ended out out' mid err' status
     → TellsSweep script wasm sizes fronts number out out' err err' status
 ended_now script wasm sizes fronts number out out' err mid err' lives place spelled prepared
     prepares
@@ -274,17 +282,18 @@ ended_now script wasm sizes fronts number out out' err mid err' lives place spel
     prepares
     (Ok None) ok failed heeds quiet status said =
     subst (TellsSweep script wasm sizes fronts number out out' err err') (sym said.0)
-    (says_seven script wasm sizes fronts number out out' err err err' refl
+    (says_unwritten script wasm sizes fronts number out out' err err err' refl
     (inr (ap (λ (p : PrinterState). p.failed) said.2 ∙ heeds)))
 ended_now script wasm sizes fronts number out out' err mid err' lives place spelled prepared
     prepares
     (Err fault.Memory) ok failed heeds quiet status (inl said, stays) =
-    said_five script wasm sizes fronts number out out' err mid err' heeds status
+    said_starved script wasm sizes fronts number out out' err mid err' heeds status
     (inl (said.0, said.1.1)) stays
 ended_now script wasm sizes fronts number out out' err mid err' lives place spelled prepared
     prepares
     (Err fault.Memory) ok failed heeds quiet status (inr unsaid, stays) =
-    said_five script wasm sizes fronts number out out' err mid err' heeds status (inr unsaid) stays
+    said_starved script wasm sizes fronts number out out' err mid err' heeds status (inr unsaid)
+    stays
 ended_now script wasm sizes fronts number out out' err mid err' lives place spelled prepared
     prepares
     (Err (fault.Plan life why)) ok failed heeds quiet status said =
@@ -296,8 +305,8 @@ ended_now script wasm sizes fronts number out out' err mid err' lives place spel
     (Err (fault.Upgrade run)) ok failed heeds quiet status said =
     upgraded_now script wasm sizes fronts number out out' err err' lives place spelled prepared
     prepares failed status
-    (subst (λ (p : PrinterState). SaysText no_upgrade_line 2 p status err') (quiet tt) said.0)
-    said.1
+    (subst (λ (p : PrinterState). SaysText no_upgrade_line exit.Usage p status err') (quiet tt)
+    said.0) said.1
 ended_now script wasm sizes fronts number out out' err mid err' lives place spelled prepared
     prepares
     (Err (fault.Differs run)) ok failed heeds quiet status said =

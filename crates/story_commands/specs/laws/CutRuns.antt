@@ -3,7 +3,7 @@ use Rattle.std.specs.Prelude.{◌≡◌, ◌≤◌, ℕ, ◌+◌, List, ◌++◌
 use Rattle.std.specs.Prelude.{Bool, true, drop, length, slice_get, take}
 use Rattle.std.specs.List.{All, flat_map}
 use Rattle.wasi_abi.specs.rules.Configs.{Settings}
-use Rattle.sector_disk.specs.declared.place.Place.{Place}
+use Rattle.sector_disk.specs.declared.fault_point.FaultPoint.{FaultPoint}
 use Rattle.record_replay.specs.declared.line_list.NumberedLine.{NumberedLine}
 use Rattle.worker.specs.declared.story.life.PlannedLife.{PlannedLife}
 use Rattle.worker.specs.declared.story.report.LifeReport.{LifeReport}
@@ -63,31 +63,31 @@ pub record IsStarted (sweep : Sweep) : Type 0 where
   pub done : All HasDoneAll sweep.part.told_before.now
 
 -- the lives of a cut of what is swept, after which the worker was given so many answers
-abbrev pub cut_of : Sweep → Place → ℕ → List PlannedLife
-cut_of sweep place given = cut_at sweep.part.earlier.now sweep.part.swept.now
-    sweep.part.told.now place sweep.part.before given
+abbrev pub cut_of : Sweep → FaultPoint → ℕ → List PlannedLife
+cut_of sweep point given = cut_at sweep.part.earlier.now sweep.part.swept.now
+    sweep.part.told.now point sweep.part.before given
 
 -- They were run, and this is told of them from the swept one on. None of these wanted memory.
-pub record HasRunCut (sweep : Sweep) (place : Place) (given : ℕ) (reports : List LifeReport)
+pub record HasRunCut (sweep : Sweep) (point : FaultPoint) (given : ℕ) (reports : List LifeReport)
     : Type 0 where
-  pub tells : TellsLives sweep.wasm.now sweep.config.now (cut_of sweep place given)
+  pub tells : TellsLives sweep.wasm.now sweep.config.now (cut_of sweep point given)
       (sweep.part.told_before.now ++ reports)
   pub fed : All HadMemory reports
 
 -- they were run, with the power cut inside of a write or elsewhere, and agree
-abbrev pub IsSweptAt : Sweep → Place → Bool → Type 0
-IsSweptAt sweep place in_write = IsCutRun sweep.wasm.now sweep.config.now sweep.part.earlier.now
-    sweep.part.swept.now sweep.part.told.now sweep.texts.now sweep.part.before place in_write
+abbrev pub IsSweptAt : Sweep → FaultPoint → Bool → Type 0
+IsSweptAt sweep point in_write = IsCutRun sweep.wasm.now sweep.config.now sweep.part.earlier.now
+    sweep.part.swept.now sweep.part.told.now sweep.texts.now sweep.part.before point in_write
 
 -- so many cuts were made of the calls up to this one, and agree
 abbrev pub HaveAgreed : Sweep → ℕ → List ℕ → ℕ → Type 0
-HaveAgreed sweep calls fronts cuts = (places : List Place)
-    × AreCutsTo (IsSweptAt sweep) calls fronts places × (cuts ≡ length places)
+HaveAgreed sweep calls fronts cuts = (points : List FaultPoint)
+    × AreCutsTo (IsSweptAt sweep) calls fronts points × (cuts ≡ length points)
 
 -- behind so many cuts those of this call were made, and agree
 abbrev pub HasAgreed : Sweep → ℕ → List ℕ → ℕ → ℕ → Type 0
-HasAgreed sweep call fronts before cuts = (places : List Place)
-    × AreCutsOf (IsSweptAt sweep) call fronts places × (cuts ≡ before + length places)
+HasAgreed sweep call fronts before cuts = (points : List FaultPoint)
+    × AreCutsOf (IsSweptAt sweep) call fronts points × (cuts ≡ before + length points)
 
 -- so many calls were begun in the life at this place
 abbrev pub CallsBegun : List LifeReport → ℕ → ℕ → Type 0
@@ -116,9 +116,9 @@ pub record IsToldPlain (wasm : List ℕ) (config : Settings) (lives : List Plann
 -- a cut up to this call was run
 abbrev pub IsCutFault : Sweep → ℕ → SweepFault → Type 0
 IsCutFault sweep calls fault.Memory = Unit {0}
-IsCutFault sweep calls (fault.Differs run) = (place : Place) × (given : ℕ)
-    × (place.call ≤ calls) × (run.lives ≡ cut_of sweep place given)
-    × HasRunCut sweep place given run.reports
+IsCutFault sweep calls (fault.Differs run) = (point : FaultPoint) × (given : ℕ)
+    × (point.call ≤ calls) × (run.lives ≡ cut_of sweep point given)
+    × HasRunCut sweep point given run.reports
 IsCutFault sweep calls other = ⊥
 
 -- the lives after a cut were run without one

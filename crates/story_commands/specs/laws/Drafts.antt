@@ -60,19 +60,19 @@ put_in (said.Act act) life = Some (record {
   refuse = life.refuse;
   tears = life.tears;
 })
-put_in (said.Stop place) life = if is_none life.stop then Some (record {
+put_in (said.Stop point) life = if is_none life.stop then Some (record {
   answers = life.answers;
   acts = life.acts;
-  stop = Some place;
+  stop = Some point;
   fail = life.fail;
   refuse = life.refuse;
   tears = life.tears;
 }) else None
-put_in (said.Fail place) life = if is_none life.fail then Some (record {
+put_in (said.Fail point) life = if is_none life.fail then Some (record {
   answers = life.answers;
   acts = life.acts;
   stop = life.stop;
-  fail = Some place;
+  fail = Some point;
   refuse = life.refuse;
   tears = life.tears;
 }) else None
@@ -108,8 +108,8 @@ put_line said.Life draft =
     Some (record { lives = lives_so_far draft; life = empty_life; is_begun = true })
 put_line (said.Answer answer) draft = put_behind (said.Answer answer) draft
 put_line (said.Act act) draft = put_behind (said.Act act) draft
-put_line (said.Stop place) draft = put_behind (said.Stop place) draft
-put_line (said.Fail place) draft = put_behind (said.Fail place) draft
+put_line (said.Stop point) draft = put_behind (said.Stop point) draft
+put_line (said.Fail point) draft = put_behind (said.Fail point) draft
 put_line (said.Refuse number) draft = put_behind (said.Refuse number) draft
 put_line (said.Tears fronts) draft = put_behind (said.Tears fronts) draft
 

@@ -10,7 +10,7 @@ use Rattle.std.specs.Str.Parse.{digits_value}
 use Rattle.hex.specs.Hex.{decode_of}
 use Rattle.wasi_abi.specs.declared.answer.Answer.{Answer}
 use Rattle.wasi_abi.specs.declared.answer.Answer.TheVariants as answer
-use Rattle.sector_disk.specs.declared.place.Place.{Place}
+use Rattle.sector_disk.specs.declared.fault_point.FaultPoint.{FaultPoint}
 use Rattle.worker.specs.declared.story.life.PlannedAct.{PlannedAct}
 use Rattle.worker.specs.declared.story.life.PlannedAct.TheVariants as planned
 use Rattle.worker.specs.declared.story.life.PlannedLife.{PlannedLife}
@@ -50,20 +50,20 @@ abbrev pub front_spelled : List ℕ → Option ℕ
 front_spelled digits = option_and_then up_to_a_sector (number_spelled digits)
 
 -- a call from 1 on, and the front that it leaves
-abbrev pub place_at : ℕ → ℕ → Option Place
-place_at call front =
+abbrev pub point_at : ℕ → ℕ → Option FaultPoint
+point_at call front =
     if nat_lt 0 call then Some (record { call = call; front = front }) else None
 
 -- the digits of a call, and those of a front
-abbrev pub place_behind : List ℕ × Option (List ℕ) → Option Place
-place_behind (digits, None) = None
-place_behind (digits, Some behind) =
-    option_and_then (λ call. option_and_then (place_at call) (front_spelled behind))
+abbrev pub point_behind : List ℕ × Option (List ℕ) → Option FaultPoint
+point_behind (digits, None) = None
+point_behind (digits, Some behind) =
+    option_and_then (λ call. option_and_then (point_at call) (front_spelled behind))
     (number_spelled digits)
 
 -- the digits of a call, a space and those of a front
-abbrev pub place_spelled : List ℕ → Option Place
-place_spelled text = place_behind (split_once 32 text)
+abbrev pub point_spelled : List ℕ → Option FaultPoint
+point_spelled text = point_behind (split_once 32 text)
 
 -- the digits of the steps of a batch, and those of its `most`: fewer lines may wait where it asks
 abbrev pub batch_behind : List ℕ × Option (List ℕ) → Option PlannedAct
@@ -115,11 +115,11 @@ said_with_number word n =
     else if bytes_eq word (codes "slice") then Some (said.Act (planned.Slice n))
     else None
 
--- what a word, a space, and a place, a count, the numbers of a batch or a number say
+-- what a word, a space, and a fault point, a count, the numbers of a batch or a number say
 abbrev pub said_counted : List ℕ → List ℕ → Option ScriptLine
 said_counted word rest =
-    if bytes_eq word (codes "stop") then option_map said.Stop (place_spelled rest)
-    else if bytes_eq word (codes "fail") then option_map said.Fail (place_spelled rest)
+    if bytes_eq word (codes "stop") then option_map said.Stop (point_spelled rest)
+    else if bytes_eq word (codes "fail") then option_map said.Fail (point_spelled rest)
     else if bytes_eq word (codes "refuse") then option_map said.Refuse (count_spelled rest)
     else if bytes_eq word (codes "batch") then option_map said.Act (batch_spelled rest)
     else option_and_then (said_with_number word) (number_spelled rest)
@@ -159,14 +159,14 @@ abbrev pub act_said : ScriptLine → List PlannedAct
 act_said (said.Act act) = act ∷ []
 act_said _ = []
 
--- the place of a stop that a line says, if it says one
-abbrev pub stop_said : ScriptLine → List Place
-stop_said (said.Stop place) = place ∷ []
+-- the fault point of a stop that a line says, if it says one
+abbrev pub stop_said : ScriptLine → List FaultPoint
+stop_said (said.Stop point) = point ∷ []
 stop_said _ = []
 
--- the place of a call that fails which a line says, if it says one
-abbrev pub fail_said : ScriptLine → List Place
-fail_said (said.Fail place) = place ∷ []
+-- the fault point of a call that fails which a line says, if it says one
+abbrev pub fail_said : ScriptLine → List FaultPoint
+fail_said (said.Fail point) = point ∷ []
 fail_said _ = []
 
 -- the number of a refused release that a line says, if it says one

@@ -28,6 +28,8 @@ use Rattle.command_words.specs.rules.Pieces.{lines_of}
 use Rattle.command_words.specs.rules.Printers.{PrinterState, HeedsBoth}
 use Rattle.command_words.specs.rules.Texts.{named_number}
 use Rattle.command_words.specs.rules.Texts.{printed}
+use Rattle.command_words.specs.declared.status.Status.{Status}
+use Rattle.command_words.specs.declared.status.Status.TheVariants as exit
 use Rattle.story_commands.specs.rules.Scripts.{IsScript, IsFaultAt}
 
 -- ---- the text
@@ -124,16 +126,18 @@ pub record IsStoryRefused (script wasm : List ℕ) (sizes : Sizes) : Type 0 wher
   pub spelled : IsScript (lines_of script) lives
   pub why : Unprepared
   pub unprepared : IsUnprepared (story_config sizes) wasm why
-  pub refused : status_unprepared why ≡ 3
+  pub refused : status_unprepared why ≡ exit.Refused
 
--- 0: the story is told. 2: a line of the script is faulty. 3: the worker is refused. 5: there is no
--- memory. 7: a write of a printer has failed. Nothing is printed on the output but a whole story,
--- and nothing on the error output beside one.
+-- `Done`: the story is told. `Usage`: a line of the script is faulty. `Refused`: the worker is
+-- refused. `OutOfMemory`: there is no memory. `Unwritten`: a write of a printer has failed. Nothing
+-- is printed on the output but a whole story, and nothing on the error output beside one.
 pub record TellsStory (script wasm : List ℕ) (sizes : Sizes) (out out' err err' : PrinterState)
-    (status : ℕ) : Type 0 where
-  pub told : status ≡ 0 → IsStoryPrinted script wasm sizes out.contents out'.contents × (err' ≡ err)
-  pub faulty : status ≡ 2 → IsLineReported script err.contents err'.contents × (out' ≡ out)
-  pub refused : status ≡ 3 → IsStoryRefused script wasm sizes × (out' ≡ out)
-  pub starved : status ≡ 5 → out' ≡ out
+    (status : Status) : Type 0 where
+  pub told : status ≡ exit.Done → IsStoryPrinted script wasm sizes out.contents out'.contents
+      × (err' ≡ err)
+  pub faulty : status ≡ exit.Usage → IsLineReported script err.contents err'.contents × (out' ≡ out)
+  pub refused : status ≡ exit.Refused → IsStoryRefused script wasm sizes × (out' ≡ out)
+  pub starved : status ≡ exit.OutOfMemory → out' ≡ out
   pub heeded : HeedsBoth out out' err err' status
-  pub known : (status ≡ 0) ⊎ (status ≡ 2) ⊎ (status ≡ 3) ⊎ (status ≡ 5) ⊎ (status ≡ 7)
+  pub known : (status ≡ exit.Done) ⊎ (status ≡ exit.Usage) ⊎ (status ≡ exit.Refused)
+      ⊎ (status ≡ exit.OutOfMemory) ⊎ (status ≡ exit.Unwritten)

@@ -15,6 +15,8 @@ use Rattle.command_words.specs.rules.Printers.{PrinterState, IsSaid, SaysText}
 use Rattle.command_words.specs.rules.Printers.{HeedsBoth}
 use Rattle.command_words.specs.rules.Reports.{SaysLine, obstacle_words}
 use Rattle.command_words.specs.rules.Texts.{named_number}
+use Rattle.command_words.specs.declared.status.Status.{Status}
+use Rattle.command_words.specs.declared.status.Status.TheVariants as exit
 use Rattle.story_commands.specs.rules.Stories.{error_name, script_line, story_config}
 use Rattle.story_commands.specs.rules.Sweeps.{AreCompared, AreSweptLives, HasFailedPlan}
 use Rattle.story_commands.specs.rules.Sweeps.{IsDoneAgain, IsSwept}
@@ -67,11 +69,11 @@ pub record IsSweepDone (script wasm : List ℕ) (sizes : Sizes) (fronts : List �
   pub printed_whole : Appends out out' (swept_line cuts count)
 
 -- what is wrong with a script is printed, or memory is wanted for it
-abbrev pub SaysScriptFault : PrinterState → ℕ → PrinterState → Type 0
+abbrev pub SaysScriptFault : PrinterState → Status → PrinterState → Type 0
 SaysScriptFault old status new =
-    ((number : ℕ) × SaysText (script_line number) 2 old status new)
-    ⊎ SaysLine (obstacle_words NoLife) 2 old status new
-    ⊎ IsSaid 5 old status new
+    ((number : ℕ) × SaysText (script_line number) exit.Usage old status new)
+    ⊎ SaysLine (obstacle_words NoLife) exit.Usage old status new
+    ⊎ IsSaid exit.OutOfMemory old status new
 
 -- The script spells lives that nothing befalls, the module is accepted, and this is so of them.
 pub record IsOfScript (script wasm : List ℕ) (sizes : Sizes) (number : Option ℕ)
@@ -96,16 +98,17 @@ IsUnsweepable script wasm sizes number err err' =
     ⊎ (IsOfScript script wasm sizes number (IsDoneAgain wasm (story_config sizes))
     × Appends err err' no_upgrade_line)
 
--- 0: all cuts were run, and agree. 1: these lives were run that differ. 2: nothing was cut, and it
--- is told why. 7 comes just where a write of a printer has failed. The others are 3 and 5.
+-- `Done`: all cuts were run, and agree. `Different`: these lives were run that differ. `Usage`:
+-- nothing was cut, and it is told why. `Unwritten` comes just where a write of a printer has
+-- failed. The others are `Refused` and `OutOfMemory`.
 pub record TellsSweep (script wasm : List ℕ) (sizes : Sizes) (fronts : List ℕ)
-    (number : Option ℕ) (out out' err err' : PrinterState) (status : ℕ) : Type 0 where
-  pub done : status ≡ 0
+    (number : Option ℕ) (out out' err err' : PrinterState) (status : Status) : Type 0 where
+  pub done : status ≡ exit.Done
       → IsSweepDone script wasm sizes fronts number out.contents out'.contents
-  pub differs : status ≡ 1
+  pub differs : status ≡ exit.Different
       → IsOfScript script wasm sizes number (AreCompared wasm (story_config sizes))
-  pub unswept : status ≡ 2 → (out' ≡ out)
+  pub unswept : status ≡ exit.Usage → (out' ≡ out)
       × IsUnsweepable script wasm sizes number err.contents err'.contents
   pub heeded : HeedsBoth out out' err err' status
-  pub known : (status ≡ 0) ⊎ (status ≡ 1) ⊎ (status ≡ 2) ⊎ (status ≡ 3) ⊎ (status ≡ 5)
-      ⊎ (status ≡ 7)
+  pub known : (status ≡ exit.Done) ⊎ (status ≡ exit.Different) ⊎ (status ≡ exit.Usage)
+      ⊎ (status ≡ exit.Refused) ⊎ (status ≡ exit.OutOfMemory) ⊎ (status ≡ exit.Unwritten)

@@ -9,7 +9,7 @@ use Rattle.std.specs.List.{All, Contains, flat_map, list_any}
 use Rattle.std.specs.Option.{option_to_list}
 use Rattle.wasi_abi.specs.declared.answer.Answer.{Answer}
 use Rattle.wasi_abi.specs.rules.Configs.{Settings}
-use Rattle.sector_disk.specs.declared.place.Place.{Place}
+use Rattle.sector_disk.specs.declared.fault_point.FaultPoint.{FaultPoint}
 use Rattle.record_replay.specs.declared.line_list.NumberedLine.{NumberedLine}
 use Rattle.worker.specs.declared.story.life.PlannedAct.{PlannedAct}
 use Rattle.worker.specs.declared.story.life.PlannedAct.TheVariants.{Slice, Upgrade}
@@ -132,20 +132,20 @@ answers_kept (life ∷ lives) told = kept_in told life.answers ++ answers_kept l
 
 -- ---- the lives of a cut
 
--- the same life, with the power cut at this place
-abbrev pub stopped_at : Place → PlannedLife → PlannedLife
-stopped_at place life = record {
+-- the same life, with the power cut at this point
+abbrev pub stopped_at : FaultPoint → PlannedLife → PlannedLife
+stopped_at point life = record {
   answers = life.answers;
   acts = life.acts;
-  stop = Some place;
+  stop = Some point;
   fail = life.fail;
   refuse = life.refuse;
   tears = life.tears;
 }
 
--- the first of these lives, with the power cut at this place
-abbrev pub first_stopped : Place → List PlannedLife → List PlannedLife
-first_stopped place lives = option_to_list (option_map (stopped_at place) (slice_get lives 0))
+-- the first of these lives, with the power cut at this point
+abbrev pub first_stopped : FaultPoint → List PlannedLife → List PlannedLife
+first_stopped point lives = option_to_list (option_map (stopped_at point) (slice_get lives 0))
 
 -- what a life is told to do
 abbrev pub acts_of : PlannedLife → List PlannedAct
@@ -182,10 +182,10 @@ lives_after swept told before given =
 
 -- The lives of a cut: those before the swept one, that one with the power cut, and those after it.
 -- `told` is what the run without a cut has told from the swept life on.
-abbrev pub cut_at : (earlier swept : List PlannedLife) → (told : List LifeReport) → Place
+abbrev pub cut_at : (earlier swept : List PlannedLife) → (told : List LifeReport) → FaultPoint
     → (before given : ℕ) → List PlannedLife
-cut_at earlier swept told place before given =
-    (earlier ++ first_stopped place swept) ++ lives_after swept told before given
+cut_at earlier swept told point before given =
+    (earlier ++ first_stopped point swept) ++ lives_after swept told before given
 
 -- ---- which cuts
 
@@ -194,25 +194,25 @@ abbrev pub default_fronts : List ℕ
 default_fronts = codes "0,1,256,511,512"
 
 -- a cut at this call, which leaves so many bytes of a write
-abbrev pub cut_place : ℕ → ℕ → Place
-cut_place call front = record { call = call; front = front }
+abbrev pub cut_point : ℕ → ℕ → FaultPoint
+cut_point call front = record { call = call; front = front }
 
 -- a cut that was made, inside of a write or elsewhere
-abbrev pub SomeCut : (Place → Bool → Type 0) → Place → Type 0
-SomeCut Cuts place = (in_write : Bool) × Cuts place in_write
+abbrev pub SomeCut : (FaultPoint → Bool → Type 0) → FaultPoint → Type 0
+SomeCut Cuts point = (in_write : Bool) × Cuts point in_write
 
 -- The cuts of a call, with each of these fronts. One that was made outside of a write leaves no
 -- front, so it is the only one.
-abbrev pub AreCutsOf : (Place → Bool → Type 0) → ℕ → List ℕ → List Place → Type 0
-AreCutsOf Cuts call fronts places =
-    ((places ≡ map (cut_place call) fronts) × All (SomeCut Cuts) places)
-    ⊎ ((places ≡ map (cut_place call) (take 1 fronts)) × All (λ place. Cuts place false) places)
+abbrev pub AreCutsOf : (FaultPoint → Bool → Type 0) → ℕ → List ℕ → List FaultPoint → Type 0
+AreCutsOf Cuts call fronts points =
+    ((points ≡ map (cut_point call) fronts) × All (SomeCut Cuts) points)
+    ⊎ ((points ≡ map (cut_point call) (take 1 fronts)) × All (λ point. Cuts point false) points)
 
 -- those of each call from 1 to this one
-unfoldable pub AreCutsTo : (Place → Bool → Type 0) → ℕ → List ℕ → List Place → Type 0
-AreCutsTo Cuts zero fronts places = places ≡ []
-AreCutsTo Cuts (suc calls) fronts places = (earlier : List Place) × (these : List Place)
-    × (places ≡ earlier ++ these) × AreCutsTo Cuts calls fronts earlier
+unfoldable pub AreCutsTo : (FaultPoint → Bool → Type 0) → ℕ → List ℕ → List FaultPoint → Type 0
+AreCutsTo Cuts zero fronts points = points ≡ []
+AreCutsTo Cuts (suc calls) fronts points = (earlier : List FaultPoint) × (these : List FaultPoint)
+    × (points ≡ earlier ++ these) × AreCutsTo Cuts calls fronts earlier
     × AreCutsOf Cuts (suc calls) fronts these
 
 -- ---- what is compared
@@ -245,12 +245,12 @@ end_at place reports = option_map (λ (report : LifeReport). report.ended) (slic
 -- given, and did all that they were told. Of all lines each number has one text, none is missing,
 -- and the first texts are these.
 pub record IsCutRun (wasm : List ℕ) (config : Settings) (earlier swept : List PlannedLife)
-    (told : List LifeReport) (texts : List NumberedLine) (before : ℕ) (place : Place)
+    (told : List LifeReport) (texts : List NumberedLine) (before : ℕ) (point : FaultPoint)
     (in_write : Bool) : Type 0
   where
     pub given : ℕ
     pub reports : List LifeReport
-    pub tells : TellsLives wasm config (cut_at earlier swept told place before given) reports
+    pub tells : TellsLives wasm config (cut_at earlier swept told point before given) reports
     pub done : All HasDoneAll (take (length earlier) reports)
     pub stopped : end_at (length earlier) reports ≡ Some Stopped
     pub front : front_left (length earlier) reports ≡ Some in_write
@@ -260,8 +260,9 @@ pub record IsCutRun (wasm : List ℕ) (config : Settings) (earlier swept : List 
     pub agrees : AreTextsOf (texts ++ more) (flat_map lines_told reports)
 
 -- The lives were run without a cut, were opened, and did all that they were told. Then they were
--- run with each cut of the life at this place: of a read or a sync with one, of a write with one for
--- each front. Those are so many cuts, and of the lines so many numbers. `before` is how many answers come before an upgrade that is done again.
+-- run with each cut of the life at this place: of a read or a sync with one, of a write with one
+-- for each front. Those are so many cuts, and of the lines so many numbers. `before` is how many
+-- answers come before an upgrade that is done again.
 pub record IsSwept (wasm : List ℕ) (config : Settings) (lives : List PlannedLife) (place : ℕ)
     (fronts : List ℕ) (cuts lines : ℕ) : Type 0 where
   pub plain : List LifeReport
@@ -273,7 +274,7 @@ pub record IsSwept (wasm : List ℕ) (config : Settings) (lives : List PlannedLi
   pub life : LifeReport
   pub life_is : slice_get plain place ≡ Some life
   pub before : ℕ
-  pub made : List Place
+  pub made : List FaultPoint
   pub runs : AreCutsTo (IsCutRun wasm config (take place lives) (drop place lives)
       (drop place plain) texts before) life.calls fronts made
   pub cuts_are : cuts ≡ length made
@@ -314,7 +315,7 @@ pub record IsCutOf (wasm : List ℕ) (config : Settings) (lives : List PlannedLi
   pub finished : All HasDoneAll plain
   pub life : LifeReport
   pub life_is : slice_get plain place ≡ Some life
-  pub at : Place
+  pub at : FaultPoint
   pub within : at.call ≤ life.calls
   pub before : ℕ
   pub given : ℕ

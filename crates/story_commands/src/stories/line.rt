@@ -1,6 +1,6 @@
 //! What a line of a script says.
 
-use sector_disk::Place;
+use sector_disk::FaultPoint;
 use wasi_abi::Answer;
 use wasm_syntax::ItemList;
 use worker::story::PlannedAct;
@@ -14,9 +14,9 @@ pub enum ScriptLine {
     /// The worker is told to do this, after what it was told before.
     Act { act: PlannedAct },
     /// The power is cut at this call.
-    Stop { place: Place },
+    Stop { point: FaultPoint },
     /// This call of the disk fails.
-    Fail { place: Place },
+    Fail { point: FaultPoint },
     /// The outlet refuses the release of this number, from 1 on.
     Refuse { number: u64 },
     /// So much the cut keeps of the earlier writes, in bytes. There is at least one number.

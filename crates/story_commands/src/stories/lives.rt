@@ -7,9 +7,9 @@ ghost use Rattle.story_commands.specs.laws.Drafts.{put_behind, put_line, put_tex
 ghost use Rattle.story_commands.specs.declared.stories.line.ScriptLine.TheVariants as said;
 
 use crate::stories::draft::Draft;
+use crate::stories::keywords::read_line;
 use crate::stories::line::ScriptLine;
-use crate::stories::words::read_line;
-use sector_disk::Place;
+use sector_disk::FaultPoint;
 use std::alloc::{AllocError, Global};
 use std::mem;
 use wasi_abi::Answer;
@@ -52,23 +52,23 @@ pub(super) fn close(alloc: Global, draft: &mut Draft) -> Result<(), AllocError>
     Ok(())
 }
 
-fn put_stop(life: &mut PlannedLife, place: Place) -> bool
-    ensures { Comes result (put_in (said.Stop place) life.old) life.new }
+fn put_stop(life: &mut PlannedLife, point: FaultPoint) -> bool
+    ensures { Comes result (put_in (said.Stop point) life.old) life.new }
 {
     if life.stop.is_some() {
         return false;
     }
-    life.stop = Some(place);
+    life.stop = Some(point);
     true
 }
 
-fn put_fail(life: &mut PlannedLife, place: Place) -> bool
-    ensures { Comes result (put_in (said.Fail place) life.old) life.new }
+fn put_fail(life: &mut PlannedLife, point: FaultPoint) -> bool
+    ensures { Comes result (put_in (said.Fail point) life.old) life.new }
 {
     if life.fail.is_some() {
         return false;
     }
-    life.fail = Some(place);
+    life.fail = Some(point);
     true
 }
 
@@ -114,8 +114,8 @@ fn put_into(life: &mut PlannedLife, line: ScriptLine) -> Result<bool, AllocError
         ScriptLine::Life => Ok(false),
         ScriptLine::Answer { answer } => put_answer(life, answer),
         ScriptLine::Act { act } => put_act(life, act),
-        ScriptLine::Stop { place } => Ok(put_stop(life, place)),
-        ScriptLine::Fail { place } => Ok(put_fail(life, place)),
+        ScriptLine::Stop { point } => Ok(put_stop(life, point)),
+        ScriptLine::Fail { point } => Ok(put_fail(life, point)),
         ScriptLine::Refuse { number } => Ok(put_refusal(life, number)),
         ScriptLine::Tears { fronts } => Ok(put_tears(life, fronts)),
     }

@@ -3,18 +3,18 @@
 mod calm;
 mod draft;
 mod fault;
+mod keywords;
 mod line;
 mod lives;
 mod numbers;
 mod script;
 mod spelling;
 mod telling;
-mod words;
 
 pub(crate) use calm::read_calm_script;
 pub use fault::ScriptFault;
+pub(crate) use keywords::read_fronts;
 pub use line::ScriptLine;
 pub use script::read_script;
 pub(crate) use spelling::spell_error;
 pub use telling::{report_script, tell};
-pub(crate) use words::read_fronts;

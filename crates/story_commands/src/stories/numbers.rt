@@ -5,10 +5,10 @@ ghost use Rattle.std.specs.List.{list_all};
 ghost use Rattle.std.specs.Char.{is_ascii_digit};
 ghost use Rattle.story_commands.specs.rules.Scripts.{number_spelled, count_spelled};
 ghost use Rattle.story_commands.specs.rules.Scripts.{front_spelled};
-ghost use Rattle.story_commands.specs.rules.Scripts.{batch_spelled, place_spelled};
+ghost use Rattle.story_commands.specs.rules.Scripts.{batch_spelled, point_spelled};
 
 use command_words::split_once;
-use sector_disk::Place;
+use sector_disk::FaultPoint;
 use worker::story::PlannedAct;
 
 /// The number of bytes of a sector.
@@ -56,8 +56,8 @@ pub(super) fn read_front(digits: &[u8]) -> Option<u16>
 }
 
 /// A call, from 1 on, a space and the front that it leaves.
-pub(super) fn read_place(text: &[u8]) -> Option<Place>
-    ensures { result ≡ place_spelled text.now }
+pub(super) fn read_point(text: &[u8]) -> Option<FaultPoint>
+    ensures { result ≡ point_spelled text.now }
 {
     let (digits, behind) = split_once(text, b' ');
     let call = read_number(digits)?;
@@ -65,7 +65,7 @@ pub(super) fn read_place(text: &[u8]) -> Option<Place>
     if call == 0 {
         return None;
     }
-    Some(Place { call, front })
+    Some(FaultPoint { call, front })
 }
 
 /// The steps of a batch, a space and its `most`, from 1 on: fewer lines may wait where it asks.

@@ -1,7 +1,8 @@
 //! `wasmhost story`.
 
-ghost use Rattle.std.specs.Prelude.{◌≡◌, ◌≤◌, ℕ, IfOk};
+ghost use Rattle.std.specs.Prelude.{◌≡◌, ℕ, IfOk};
 ghost use Rattle.command_words.specs.rules.Printers.{IsSaid, SaysText};
+ghost use Rattle.command_words.specs.declared.status.Status.TheVariants as exit;
 ghost use Rattle.story_commands.specs.declared.stories.fault.ScriptFault.TheVariants.{Line};
 ghost use Rattle.story_commands.specs.declared.stories.fault.ScriptFault.TheVariants.{Memory};
 ghost use Rattle.story_commands.specs.rules.Stories.{TellsStory, script_line};
@@ -11,8 +12,9 @@ ghost use Rattle.story_commands.specs.rules.Stories.{story_text};
 use crate::stories::fault::ScriptFault;
 use crate::stories::script::read_script;
 use crate::stories::spelling::spell_lives;
-use command_words::status::{NO_MEMORY, UNWRITTEN, USAGE};
-use command_words::{Obstacle, Printer, Sizes, prepare, report, report_unprepared, say_text};
+use command_words::{
+    Obstacle, Printer, Sizes, Status, prepare, report, report_unprepared, say_text,
+};
 use std::alloc::Global;
 use std::io::{self, Write};
 use worker::story::{LifeReport, StoryFault, story};
@@ -27,21 +29,20 @@ fn text_of(alloc: Global, reports: &[LifeReport]) -> io::Result<Vec<u8>>
 }
 
 /// Writes which line of the script is faulty, and answers the exit status.
-fn say_faulty_line<E: Write + Drop>(err: &mut Printer<E>, number: u64) -> u8
-    ensures said { SaysText (script_line number) 2 err.old result err.new }
-    ensures known { result ≤ 7 }
+fn say_faulty_line<E: Write + Drop>(err: &mut Printer<E>, number: u64) -> Status
+    ensures { SaysText (script_line number) exit.Usage err.old result err.new }
 {
     match writeln!(err, "failed script line {number}") {
-        Ok(()) => USAGE,
-        Err(_) => UNWRITTEN,
+        Ok(()) => Status::Usage,
+        Err(_) => Status::Unwritten,
     }
 }
 
 /// Writes what is wrong with a script, and answers the exit status.
-pub fn report_script<E: Write + Drop>(err: &mut Printer<E>, fault: ScriptFault) -> u8
+pub fn report_script<E: Write + Drop>(err: &mut Printer<E>, fault: ScriptFault) -> Status
     ensures faulty { (number : ℕ) → fault ≡ Line number
-        → SaysText (script_line number) 2 err.old result err.new }
-    ensures starved { fault ≡ Memory → IsSaid 5 err.old result err.new }
+        → SaysText (script_line number) exit.Usage err.old result err.new }
+    ensures starved { fault ≡ Memory → IsSaid exit.OutOfMemory err.old result err.new }
 {
     match fault {
         ScriptFault::Line { number } => say_faulty_line(err, number),
@@ -50,13 +51,12 @@ pub fn report_script<E: Write + Drop>(err: &mut Printer<E>, fault: ScriptFault) 
 }
 
 /// Writes why there is no report, and answers the exit status.
-fn say_story_fault<E: Write + Drop>(err: &mut Printer<E>, fault: StoryFault) -> u8
-    ensures said { IsSaid 5 err.old result err.new }
-    ensures known { result ≤ 7 }
+fn say_story_fault<E: Write + Drop>(err: &mut Printer<E>, fault: StoryFault) -> Status
+    ensures { IsSaid exit.OutOfMemory err.old result err.new }
 {
     match writeln!(err, "failed {fault}") {
-        Ok(()) => NO_MEMORY,
-        Err(_) => UNWRITTEN,
+        Ok(()) => Status::OutOfMemory,
+        Err(_) => Status::Unwritten,
     }
 }
 
@@ -66,9 +66,8 @@ fn say_lives<W: Write + Drop, E: Write + Drop>(
     reports: &[LifeReport],
     out: &mut Printer<W>,
     err: &mut Printer<E>,
-) -> u8
-    ensures says { SaysLives reports.now out.old out.new err.old err.new result }
-    ensures known { result ≤ 7 }
+) -> Status
+    ensures { SaysLives reports.now out.old out.new err.old err.new result }
 {
     match text_of(alloc, reports) {
         Ok(text) => say_text(out, text.as_slice()),
@@ -79,10 +78,10 @@ fn say_lives<W: Write + Drop, E: Write + Drop>(
 /// Tells the lives that a script spells, of a worker of the module that the bytes spell. It is of
 /// these sizes, and its name is its one argument. Each life's line on the output says how it was
 /// opened, and after that are its lines as a run prints them. Nothing is printed there before the
-/// last life is over. Answers the exit status: 0 where the story is told, 2 for a faulty line of
-/// the script, 3 for a refused configuration or module, 5 for out of memory, 7 where a write of a
-/// printer has failed.
-#[tactic(auto, using(crate::proofs::TellingLemmas::line_told, crate::proofs::TellingLemmas::refused_told, crate::proofs::TellingLemmas::lives_told, crate::proofs::TellingLemmas::memory_told, crate::proofs::TellingLemmas::starved_told))]
+/// last life is over. Answers the exit status: `Done` where the story is told, `Usage` for a faulty
+/// line of the script, `Refused` for a refused configuration or module, `OutOfMemory`, `Unwritten`
+/// where a write of a printer has failed.
+#[tactic(auto, using(crate::proofs::TellingLemmas::told_rules))]
 pub fn tell<W: Write + Drop, E: Write + Drop>(
     alloc: Global,
     script: &[u8],
@@ -90,9 +89,8 @@ pub fn tell<W: Write + Drop, E: Write + Drop>(
     sizes: Sizes,
     out: &mut Printer<W>,
     err: &mut Printer<E>,
-) -> u8
-    ensures tells { TellsStory script.now wasm.now sizes out.old out.new err.old err.new result }
-    ensures known { result ≤ 7 }
+) -> Status
+    ensures { TellsStory script.now wasm.now sizes out.old out.new err.old err.new result }
 {
     let lives = match read_script(alloc, script) {
         Ok(lives) => lives,

@@ -2,7 +2,7 @@
 
 ghost use Rattle.std.specs.Prelude.{◌≡◌, ◌+◌, IfErr, IfOk, IfSome, OnErr, OnOk, length, map, true};
 ghost use Rattle.std.specs.List.{All};
-ghost use Rattle.story_commands.specs.rules.Sweeps.{SomeCut, cut_place};
+ghost use Rattle.story_commands.specs.rules.Sweeps.{SomeCut, cut_point};
 ghost use Rattle.story_commands.specs.laws.CutRuns.{HasAgreed, HaveAgreed, HeedsProgress};
 ghost use Rattle.story_commands.specs.laws.CutRuns.{IsCutFault, IsStarted, IsSweptAt};
 
@@ -10,12 +10,12 @@ use crate::sweeping::cutting::{MadeCut, Sweep, try_cut};
 use crate::sweeping::fault::SweepFault;
 use crate::sweeping::running::Runner;
 use command_words::Printer;
-use sector_disk::Place;
+use sector_disk::FaultPoint;
 use std::io::{self, Write};
 
 /// How far a sweep has come.
 #[derive(Clone, Copy)]
-pub(super) struct Progress {
+pub(super) struct CutProgress {
     /// How many cuts were made.
     pub(super) cuts: u64,
     /// The newest of them.
@@ -26,17 +26,17 @@ pub(super) struct Progress {
 fn step(
     runner: &mut Runner,
     sweep: &Sweep<'_>,
-    place: Place,
-    so_far: Progress,
-) -> Result<Progress, SweepFault>
+    point: FaultPoint,
+    so_far: CutProgress,
+) -> Result<CutProgress, SweepFault>
     requires { IsStarted sweep.now }
-    ensures agrees { IfOk result (λ now. IsSweptAt sweep.now place now.newest.in_write
+    ensures agrees { IfOk result (λ now. IsSweptAt sweep.now point now.newest.in_write
         × (now.cuts ≡ so_far.cuts + 1)) }
-    ensures failed { IfErr result (IsCutFault sweep.now place.call) }
+    ensures failed { IfErr result (IsCutFault sweep.now point.call) }
 {
-    let newest = try_cut(runner, sweep, place, so_far.newest.given)?;
+    let newest = try_cut(runner, sweep, point, so_far.newest.given)?;
     match so_far.cuts.checked_add(1) {
-        Some(cuts) => Ok(Progress { cuts, newest }),
+        Some(cuts) => Ok(CutProgress { cuts, newest }),
         None => Err(SweepFault::Memory),
     }
 }
@@ -47,20 +47,20 @@ fn sweep_fronts(
     sweep: &Sweep<'_>,
     fronts: &[u16],
     call: u64,
-    so_far: Progress,
-) -> Result<Progress, SweepFault>
+    so_far: CutProgress,
+) -> Result<CutProgress, SweepFault>
     requires { IsStarted sweep.now }
     ensures agree { IfOk result (λ now. All (SomeCut (IsSweptAt sweep.now))
-        (map (cut_place call) fronts.now) × (now.cuts ≡ so_far.cuts + length fronts.now)) }
+        (map (cut_point call) fronts.now) × (now.cuts ≡ so_far.cuts + length fronts.now)) }
     ensures failed { IfErr result (IsCutFault sweep.now call) }
 {
     let mut now = so_far;
     for front in fronts {
-        let place = Place {
+        let point = FaultPoint {
             call,
             front: *front,
         };
-        now = step(runner, sweep, place, now)?;
+        now = step(runner, sweep, point, now)?;
     }
     Ok(now)
 }
@@ -72,8 +72,8 @@ fn sweep_call(
     sweep: &Sweep<'_>,
     fronts: &[u16],
     call: u64,
-    so_far: Progress,
-) -> Result<Progress, SweepFault>
+    so_far: CutProgress,
+) -> Result<CutProgress, SweepFault>
     requires { IsStarted sweep.now }
     ensures agree { IfOk result (λ now. HasAgreed sweep.now call fronts.now so_far.cuts now.cuts) }
     ensures failed { IfErr result (IsCutFault sweep.now call) }
@@ -81,11 +81,11 @@ fn sweep_call(
     let Some((first, others)) = fronts.split_first() else {
         return Ok(so_far);
     };
-    let place = Place {
+    let point = FaultPoint {
         call,
         front: *first,
     };
-    let now = step(runner, sweep, place, so_far)?;
+    let now = step(runner, sweep, point, so_far)?;
     if !now.newest.in_write {
         return Ok(now);
     }
@@ -121,7 +121,7 @@ pub(super) fn sweep_calls<E: Write + Drop>(
     ensures failed { IfErr result (IsCutFault sweep.now calls) }
     ensures heeded { HeedsProgress result err.old err.new }
 {
-    let mut now = Progress {
+    let mut now = CutProgress {
         cuts: 0,
         newest: MadeCut {
             given: 0,

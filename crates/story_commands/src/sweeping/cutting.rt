@@ -11,7 +11,7 @@ use crate::sweeping::judging::{agrees, front_left, is_stopped};
 use crate::sweeping::planning::{SweptPart, plan_cut, plan_rest};
 use crate::sweeping::running::{RunLives, Runner};
 use record_replay::NumberedLine;
-use sector_disk::Place;
+use sector_disk::FaultPoint;
 use std::alloc::Global;
 use wasi_abi::Config;
 use wasm_syntax::ItemList;
@@ -34,14 +34,14 @@ pub(super) struct Sweep<'a> {
 fn run_cut(
     runner: &mut Runner,
     sweep: &Sweep<'_>,
-    place: Place,
+    point: FaultPoint,
     given: u64,
 ) -> Result<ItemList<LifeReport>, SweepFault>
     requires { IsStarted sweep.now }
-    ensures run { IfOk result (HasRunCut sweep.now place given) }
+    ensures run { IfOk result (HasRunCut sweep.now point given) }
     ensures failed { IfErr result (λ fault. fault ≡ Memory) }
 {
-    let lives = plan_rest(runner.alloc, &sweep.part, place, given)?;
+    let lives = plan_rest(runner.alloc, &sweep.part, point, given)?;
     runner.run_from(sweep.start, sweep.wasm, sweep.config, lives.as_slice())
 }
 
@@ -81,14 +81,14 @@ pub(super) struct MadeCut {
 fn differing(
     alloc: Global,
     sweep: &Sweep<'_>,
-    place: Place,
+    point: FaultPoint,
     given: u64,
     reports: ItemList<LifeReport>,
 ) -> SweepFault
-    requires { HasRunCut sweep.now place given reports }
-    ensures { IsCutFault sweep.now place.call result }
+    requires { HasRunCut sweep.now point given reports }
+    ensures { IsCutFault sweep.now point.call result }
 {
-    match plan_cut(alloc, &sweep.part, place, given) {
+    match plan_cut(alloc, &sweep.part, point, given) {
         Ok(lives) => SweepFault::Differs {
             run: RunLives { lives, reports },
         },
@@ -100,20 +100,20 @@ fn differing(
 fn judge(
     alloc: Global,
     sweep: &Sweep<'_>,
-    place: Place,
+    point: FaultPoint,
     given: u64,
     reports: ItemList<LifeReport>,
 ) -> Result<MadeCut, SweepFault>
     requires started { IsStarted sweep.now }
-    requires run { HasRunCut sweep.now place given reports }
-    ensures agrees { IfOk result (λ made. IsSweptAt sweep.now place made.in_write) }
-    ensures failed { IfErr result (IsCutFault sweep.now place.call) }
+    requires run { HasRunCut sweep.now point given reports }
+    ensures agrees { IfOk result (λ made. IsSweptAt sweep.now point made.in_write) }
+    ensures failed { IfErr result (IsCutFault sweep.now point.call) }
 {
     let front = front_left(reports.as_slice(), 0);
     let is_same = is_same(alloc, sweep, given, reports.as_slice())?;
     match front {
         Some(in_write) if is_same => Ok(MadeCut { given, in_write }),
-        _ => Err(differing(alloc, sweep, place, given, reports)),
+        _ => Err(differing(alloc, sweep, point, given, reports)),
     }
 }
 
@@ -122,19 +122,19 @@ fn judge(
 pub(super) fn try_cut(
     runner: &mut Runner,
     sweep: &Sweep<'_>,
-    place: Place,
+    point: FaultPoint,
     guess: u64,
 ) -> Result<MadeCut, SweepFault>
     requires { IsStarted sweep.now }
-    ensures agrees { IfOk result (λ made. IsSweptAt sweep.now place made.in_write) }
-    ensures failed { IfErr result (IsCutFault sweep.now place.call) }
+    ensures agrees { IfOk result (λ made. IsSweptAt sweep.now point made.in_write) }
+    ensures failed { IfErr result (IsCutFault sweep.now point.call) }
 {
-    let reports = run_cut(runner, sweep, place, guess)?;
+    let reports = run_cut(runner, sweep, point, guess)?;
     match given_to(reports.as_slice(), 1) {
         Some(given) if given != guess => {
-            let again = run_cut(runner, sweep, place, given)?;
-            judge(runner.alloc, sweep, place, given, again)
+            let again = run_cut(runner, sweep, point, given)?;
+            judge(runner.alloc, sweep, point, given, again)
         }
-        _ => judge(runner.alloc, sweep, place, guess, reports),
+        _ => judge(runner.alloc, sweep, point, guess, reports),
     }
 }

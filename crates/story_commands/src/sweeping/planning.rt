@@ -9,7 +9,7 @@ ghost use Rattle.story_commands.specs.rules.Sweeps.{is_upgrade, lives_after, sto
 ghost use Rattle.story_commands.specs.rules.Sweeps.{upgrade_first, upgrading_life};
 
 use crate::sweeping::giving::{answers_kept, behind, copy_answers, front_of, given_at};
-use sector_disk::Place;
+use sector_disk::FaultPoint;
 use std::alloc::{AllocError, Global};
 use wasi_abi::Answer;
 use wasm_syntax::ItemList;
@@ -165,12 +165,16 @@ pub(super) fn copy_life(alloc: Global, life: &PlannedLife) -> Result<PlannedLife
     })
 }
 
-/// The same life, with the power cut at this place.
-fn stopped_at(alloc: Global, life: &PlannedLife, place: Place) -> Result<PlannedLife, AllocError>
-    ensures { IfOk result (λ stopped. stopped ≡ stopped_at place life.now) }
+/// The same life, with the power cut at this point.
+fn stopped_at(
+    alloc: Global,
+    life: &PlannedLife,
+    point: FaultPoint,
+) -> Result<PlannedLife, AllocError>
+    ensures { IfOk result (λ stopped. stopped ≡ stopped_at point life.now) }
 {
     let mut stopped = copy_life(alloc, life)?;
-    stopped.stop = Some(place);
+    stopped.stop = Some(point);
     Ok(stopped)
 }
 
@@ -201,17 +205,17 @@ pub(super) fn and_idle(
     Ok(all)
 }
 
-/// Puts the first of these lives behind a list, with the power cut at this place.
+/// Puts the first of these lives behind a list, with the power cut at this point.
 fn push_stopped(
     alloc: Global,
     list: &mut ItemList<PlannedLife>,
     lives: &[PlannedLife],
-    place: Place,
+    point: FaultPoint,
 ) -> Result<(), AllocError>
-    ensures { OnOk result (list.new ≡ list.old ++ first_stopped place lives.now) }
+    ensures { OnOk result (list.new ≡ list.old ++ first_stopped point lives.now) }
 {
     if let Some(life) = lives.first() {
-        let stopped = stopped_at(alloc, life, place)?;
+        let stopped = stopped_at(alloc, life, point)?;
         list.push(stopped)?;
     }
     Ok(())
@@ -223,13 +227,13 @@ fn push_cut(
     alloc: Global,
     list: &mut ItemList<PlannedLife>,
     part: &SweptPart<'_>,
-    place: Place,
+    point: FaultPoint,
     given: u64,
 ) -> Result<(), AllocError>
-    ensures { OnOk result (list.new ≡ cut_at list.old part.now.swept.now part.now.told.now place
+    ensures { OnOk result (list.new ≡ cut_at list.old part.now.swept.now part.now.told.now point
         part.now.before given) }
 {
-    push_stopped(alloc, list, part.swept, place)?;
+    push_stopped(alloc, list, part.swept, point)?;
     push_after(alloc, list, part, given)
 }
 
@@ -237,14 +241,14 @@ fn push_cut(
 pub(super) fn plan_cut(
     alloc: Global,
     part: &SweptPart<'_>,
-    place: Place,
+    point: FaultPoint,
     given: u64,
 ) -> Result<ItemList<PlannedLife>, AllocError>
     ensures { IfOk result (λ lives. lives ≡ cut_at part.now.earlier.now part.now.swept.now
-        part.now.told.now place part.now.before given) }
+        part.now.told.now point part.now.before given) }
 {
     let mut lives = copy_lives(alloc, part.earlier)?;
-    push_cut(alloc, &mut lives, part, place, given)?;
+    push_cut(alloc, &mut lives, part, point, given)?;
     Ok(lives)
 }
 
@@ -252,14 +256,14 @@ pub(super) fn plan_cut(
 pub(super) fn plan_rest(
     alloc: Global,
     part: &SweptPart<'_>,
-    place: Place,
+    point: FaultPoint,
     given: u64,
 ) -> Result<ItemList<PlannedLife>, AllocError>
-    ensures { IfOk result (λ lives. lives ≡ cut_at [] part.now.swept.now part.now.told.now place
+    ensures { IfOk result (λ lives. lives ≡ cut_at [] part.now.swept.now part.now.told.now point
         part.now.before given) }
 {
     let mut lives = ItemList::new(alloc);
-    push_cut(alloc, &mut lives, part, place, given)?;
+    push_cut(alloc, &mut lives, part, point, given)?;
     Ok(lives)
 }
 

@@ -1,14 +1,15 @@
 //! The lives of a sweep, read from a script.
 
-ghost use Rattle.std.specs.Prelude.{◌≤◌, ◌⊎◌, IfOk};
+ghost use Rattle.std.specs.Prelude.{◌⊎◌, IfOk};
 ghost use Rattle.command_words.specs.rules.Pieces.{lines_of};
 ghost use Rattle.command_words.specs.rules.Printers.{IsSaid};
+ghost use Rattle.command_words.specs.declared.status.Status.TheVariants as exit;
 ghost use Rattle.story_commands.specs.rules.Sweeps.{AreSweptLives};
 ghost use Rattle.story_commands.specs.rules.SweepTexts.{SaysScriptFault};
 
 use crate::stories::{ScriptFault, read_calm_script, report_script};
 use crate::sweeping::choosing::swept_place;
-use command_words::{Obstacle, Printer, report};
+use command_words::{Obstacle, Printer, Status, report};
 use std::alloc::Global;
 use std::io::Write;
 use wasm_syntax::ItemList;
@@ -51,9 +52,9 @@ pub fn read_sweep(
 }
 
 /// Writes what is wrong with the script of a sweep, and answers the exit status.
-pub fn report_sweep_script<E: Write + Drop>(err: &mut Printer<E>, fault: SweepScriptFault) -> u8
-    ensures known { result ≤ 7 }
-    ensures said { IsSaid 2 err.old result err.new ⊎ IsSaid 5 err.old result err.new }
+pub fn report_sweep_script<E: Write + Drop>(err: &mut Printer<E>, fault: SweepScriptFault) -> Status
+    ensures said { IsSaid exit.Usage err.old result err.new
+        ⊎ IsSaid exit.OutOfMemory err.old result err.new }
     ensures words { SaysScriptFault err.old result err.new }
 {
     match fault {

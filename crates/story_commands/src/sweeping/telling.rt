@@ -1,6 +1,6 @@
 //! The command, from a script to an exit status.
 
-ghost use Rattle.std.specs.Prelude.{◌≡◌, ◌<◌, ◌≤◌, ℕ, IfOk, List, length};
+ghost use Rattle.std.specs.Prelude.{◌≡◌, ◌<◌, ℕ, IfOk, List, length};
 ghost use Rattle.command_words.specs.rules.Pieces.{lines_of};
 ghost use Rattle.story_commands.specs.Said.{SaysDifference, SaysPlan, SaysSwept};
 ghost use Rattle.story_commands.specs.rules.Sweeps.{AreSweptLives};
@@ -12,9 +12,8 @@ use crate::sweeping::fault::SweepFault;
 use crate::sweeping::reading::{SweptLives, read_sweep, report_sweep_script};
 use crate::sweeping::spelling::{spell_script, spell_swept};
 use crate::sweeping::whole_sweep::{SweepJob, Swept, sweep_lives};
-use command_words::status::{DIFFERENT, UNWRITTEN, USAGE};
 use command_words::{
-    Obstacle, Printer, Sizes, prepare, report, report_unprepared, say_line, say_text,
+    Obstacle, Printer, Sizes, Status, prepare, report, report_unprepared, say_line, say_text,
 };
 use std::alloc::Global;
 use std::io::{self, Write};
@@ -46,9 +45,8 @@ fn say_swept<W: Write + Drop, E: Write + Drop>(
     swept: Swept,
     out: &mut Printer<W>,
     err: &mut Printer<E>,
-) -> u8
-    ensures known { result ≤ 7 }
-    ensures said { SaysSwept swept.cuts swept.lines out.old out.new err.old err.new result }
+) -> Status
+    ensures { SaysSwept swept.cuts swept.lines out.old out.new err.old err.new result }
 {
     match swept_text(alloc, swept) {
         Ok(text) => say_text(out, text.as_slice()),
@@ -69,16 +67,16 @@ fn say_difference<W: Write + Drop, E: Write + Drop>(
     lives: &[PlannedLife],
     out: &mut Printer<W>,
     err: &mut Printer<E>,
-) -> u8
+) -> Status
     ensures { SaysDifference out.old out.new err.old err.new result }
 {
     let Ok(text) = script_of(alloc, lives) else {
         return report(err, Obstacle::Memory);
     };
-    if say_text(out, text.as_slice()) != 0 {
-        return UNWRITTEN;
+    match say_text(out, text.as_slice()) {
+        Status::Done => say_line(err, Status::Different, DIFFERS),
+        _ => Status::Unwritten,
     }
-    say_line(err, DIFFERENT, DIFFERS)
 }
 
 /// What is said of lives that differ.
@@ -104,17 +102,16 @@ fn say_plan<E: Write + Drop>(
     number: u64,
     why: RecoverFault,
     err: &mut Printer<E>,
-) -> u8
-    ensures known { result ≤ 7 }
-    ensures said { SaysPlan number why err.old err.new result }
+) -> Status
+    ensures { SaysPlan number why err.old err.new result }
 {
     let Ok(text) = plan_text(alloc, number, why) else {
         return report(err, Obstacle::Memory);
     };
-    if say_text(err, text.as_slice()) != 0 {
-        return UNWRITTEN;
+    match say_text(err, text.as_slice()) {
+        Status::Done => Status::Usage,
+        _ => Status::Unwritten,
     }
-    USAGE
 }
 
 /// Prints how a sweep has ended, and answers the exit status.
@@ -123,16 +120,15 @@ fn say_end<W: Write + Drop, E: Write + Drop>(
     ended: Result<Option<Swept>, SweepFault>,
     out: &mut Printer<W>,
     err: &mut Printer<E>,
-) -> u8
-    ensures known { result ≤ 7 }
-    ensures said { SaysEnd ended out.old out.new err.old err.new result }
+) -> Status
+    ensures { SaysEnd ended out.old out.new err.old err.new result }
 {
     match ended {
         Ok(Some(swept)) => say_swept(alloc, swept, out, err),
-        Ok(None) => UNWRITTEN,
+        Ok(None) => Status::Unwritten,
         Err(SweepFault::Memory) => report(err, Obstacle::Memory),
         Err(SweepFault::Plan { number, why }) => say_plan(alloc, number, why, err),
-        Err(SweepFault::Upgrade { run: _run }) => say_line(err, USAGE, NO_UPGRADE),
+        Err(SweepFault::Upgrade { run: _run }) => say_line(err, Status::Usage, NO_UPGRADE),
         Err(SweepFault::Differs { run }) => {
             say_difference(alloc, run.lives.as_slice(), out, err)
         }
@@ -147,13 +143,12 @@ fn sweep_read<W: Write + Drop, E: Write + Drop>(
     choice: SweepChoice<'_>,
     out: &mut Printer<W>,
     err: &mut Printer<E>,
-) -> u8
+) -> Status
     requires { swept.now.place < length swept.now.lives }
-    ensures tells { (script : List ℕ)
+    ensures { (script : List ℕ)
         → AreSweptLives (lines_of script) choice.entry.life swept.now.lives swept.now.place
         → TellsSweep script wasm.now choice.entry.sizes choice.entry.fronts.now choice.entry.life
         out.old out.new err.old err.new result }
-    ensures known { result ≤ 7 }
 {
     match prepare(alloc, wasm, choice.sizes, &[], &[]) {
         Ok(prepared) => {
@@ -175,10 +170,10 @@ fn sweep_read<W: Write + Drop, E: Write + Drop>(
 /// Sweeps the lives that a script spells, of a worker of the module that the bytes spell. It is of
 /// these sizes, and its name is its one argument. They are run without a cut, and then with the
 /// power cut at each call of the disk in one of them, for each of these fronts. Answers the exit
-/// status: 0 where all cuts agree with the run without one, 1 where one differs, 2 for a script
-/// that can't be swept, 3 for a refused configuration or module, 5 for out of memory, 7 where a
-/// write of a printer has failed. A script can't be swept if a life of it ends by an error, or if
-/// its upgrade can't be done again after a cut.
+/// status: `Done` where all cuts agree with the run without one, `Different` where one differs,
+/// `Usage` for a script that can't be swept, `Refused` for a refused configuration or module,
+/// `OutOfMemory`, `Unwritten` where a write of a printer has failed. A script can't be swept if a
+/// life of it ends by an error, or if its upgrade can't be done again after a cut.
 #[tactic(auto, using(crate::proofs::SweepLemmas::Statuses::unread_now))]
 pub fn tell_sweep<W: Write + Drop, E: Write + Drop>(
     alloc: Global,
@@ -187,10 +182,9 @@ pub fn tell_sweep<W: Write + Drop, E: Write + Drop>(
     choice: SweepChoice<'_>,
     out: &mut Printer<W>,
     err: &mut Printer<E>,
-) -> u8
-    ensures tells { TellsSweep script.now wasm.now choice.entry.sizes choice.entry.fronts.now
+) -> Status
+    ensures { TellsSweep script.now wasm.now choice.entry.sizes choice.entry.fronts.now
         choice.entry.life out.old out.new err.old err.new result }
-    ensures known { result ≤ 7 }
 {
     match read_sweep(alloc, script, choice.life) {
         Ok(swept) => {

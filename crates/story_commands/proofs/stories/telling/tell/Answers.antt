@@ -6,8 +6,8 @@ use Rattle.story_commands.specs.Said.{SaysLives}
 use Rattle.story_commands.proofs.TellingLemmas.{lives_told}
 use Rattle.story_commands.proofs.stories.telling.tell.Goals as goal
 
-pub returns-in-Ok-story-clause-tells : goal.returns-in-Ok-story-clause-tells
-returns-in-Ok-story-clause-tells g c =
+pub returns-in-Ok-story : goal.returns-in-Ok-story
+returns-in-Ok-story g c =
     let wasm = c.args.wasm.now in
     let out = c.args.out.now in
     let out' = c.say_lives.new.out in
@@ -21,4 +21,4 @@ returns-in-Ok-story-clause-tells g c =
     (subst (λ (z : List PlannedLife). TellsLives wasm prepared.config z told.lives)
     c.as_slice.ensures c.in-Ok-story.ensures) status
     (subst (λ (z : List LifeReport). SaysLives z out out' err err' status)
-    c.as_slice-in-Ok-story.ensures c.say_lives.ensures.says)
+    c.as_slice-in-Ok-story.ensures c.say_lives.ensures)

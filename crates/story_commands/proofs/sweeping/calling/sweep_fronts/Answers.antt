@@ -1,7 +1,7 @@
 use Rattle.std.proofs.Common.{◌≡◌, ℕ, ◌+◌, List, arith, ap, length, map, refl, subst, ◌∙◌}
 use Rattle.std.specs.List.{All}
 use Rattle.std.proofs.lemmas.List.{take_all}
-use Rattle.story_commands.specs.rules.Sweeps.{SomeCut, cut_place}
+use Rattle.story_commands.specs.rules.Sweeps.{SomeCut, cut_point}
 use Rattle.story_commands.specs.laws.CutRuns.{IsSweptAt}
 use Rattle.story_commands.proofs.SweepLemmas.CutLists.{one_cut_more}
 use Rattle.story_commands.proofs.sweeping.calling.sweep_fronts.Goals as goal
@@ -20,7 +20,7 @@ returns-clause-agree c =
     let all : c.loop-front.front-index ≡ length fronts =
     omega (arith, c.loop-front-test.false, c.loop-front.auto.front-index-end) in (
       subst (λ (fs : List ℕ). All (SomeCut (IsSweptAt c.args.sweep.now))
-          (map (cut_place c.args.call) fs))
+          (map (cut_point c.args.call) fs))
           (take_all c.loop-front.front-index fronts c.loop-front-test.false)
           c.loop-front.invariant.0,
       c.loop-front.invariant.1 ∙ ap (λ (n : ℕ). c.args.so_far.cuts + n) all,

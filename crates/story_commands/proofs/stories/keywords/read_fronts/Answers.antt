@@ -4,7 +4,7 @@ use Rattle.std.specs.Prelude.{option_copied, option_map}
 use Rattle.command_words.proofs.PieceLemmas.{some_shorter}
 use Rattle.story_commands.specs.rules.Scripts.{fronts_between}
 use Rattle.story_commands.proofs.ScriptLemmas.Fronts.{no_front, last_front, next_front}
-use Rattle.story_commands.proofs.stories.words.read_fronts.Goals as goal
+use Rattle.story_commands.proofs.stories.keywords.read_fronts.Goals as goal
 
 pub returns-in_default : goal.returns-in_default
 returns-in_default c = no_front c.args.separator c.loop-front.fronts c.loop-front.rest.now _ _ _

@@ -1,4 +1,4 @@
-//! Lines of a script, by their first words.
+//! Lines of a script, by their keywords: their first words.
 
 ghost use Rattle.std.specs.Prelude.{◌≡◌, IfOk, option_and_then};
 ghost use Rattle.story_commands.specs.rules.Scripts.{said_by, said_alone, said_counted, said_with};
@@ -7,7 +7,7 @@ ghost use Rattle.story_commands.specs.rules.Scripts.{fronts_between};
 ghost use Rattle.story_commands.specs.rules.Scripts.{number_spelled};
 
 use crate::stories::line::ScriptLine;
-use crate::stories::numbers::{read_batch, read_count, read_front, read_number, read_place};
+use crate::stories::numbers::{read_batch, read_count, read_front, read_number, read_point};
 use command_words::split_once;
 use hex::FromHexError;
 use std::alloc::{AllocError, Global};
@@ -112,17 +112,17 @@ fn read_numbered(word: &[u8], rest: &[u8]) -> Option<ScriptLine>
     say_number(word, number)
 }
 
-/// What a word and the place, the count, the numbers of a batch or the number after its space say.
+/// What a word and the point, the count, the numbers of a batch or the number after its space say.
 fn read_counted(word: &[u8], rest: &[u8]) -> Option<ScriptLine>
     ensures { result ≡ said_counted word.now rest.now }
 {
     if word == b"stop".as_slice() {
-        let place = read_place(rest)?;
-        return Some(ScriptLine::Stop { place });
+        let point = read_point(rest)?;
+        return Some(ScriptLine::Stop { point });
     }
     if word == b"fail".as_slice() {
-        let place = read_place(rest)?;
-        return Some(ScriptLine::Fail { place });
+        let point = read_point(rest)?;
+        return Some(ScriptLine::Fail { point });
     }
     if word == b"refuse".as_slice() {
         let number = read_count(rest)?;

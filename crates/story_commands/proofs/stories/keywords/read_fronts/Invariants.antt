@@ -1,7 +1,7 @@
 use Rattle.std.proofs.Common.{◌≡◌, ◌++◌, length}
 use Rattle.std.specs.Prelude.{option_map}
 use Rattle.story_commands.specs.rules.Scripts.{fronts_between}
-use Rattle.story_commands.proofs.stories.words.read_fronts.Given as goal
+use Rattle.story_commands.proofs.stories.keywords.read_fronts.Given as goal
 
 abbrev pub invariant-loop-front : goal.invariant-loop-front
 invariant-loop-front l = option_map (λ more. l.fronts ++ more)
