@@ -2,7 +2,7 @@
 
 use crate::asking::ECHO;
 use crate::rows::assert_row;
-use command_words::{Printer, check_bytes};
+use command_words::{Printer, Status, check_bytes};
 use hex::decode;
 use std::alloc::Global;
 use std::test::Fail;
@@ -79,7 +79,7 @@ pub(crate) fn bytes_of(alloc: Global, texts: &[&str]) -> Result<Vec<u8>, Fail> {
 }
 
 /// Texts of a module, the status, and the line.
-type Row = (&'static [&'static str], u8, &'static str);
+type Row = (&'static [&'static str], Status, &'static str);
 
 fn is_told_so(alloc: Global, row: &Row) -> Result<bool, Fail> {
     let bytes = bytes_of(alloc, row.0)?;
@@ -98,10 +98,10 @@ fn is_told_so(alloc: Global, row: &Row) -> Result<bool, Fail> {
 }
 
 const MODULES: &[Row] = &[
-    (&[], 3, "refused B1 Malformed at 0\n"),
-    (&[HEADER], 3, "refused L1 NoStart\n"),
-    (&[BEFORE_CODE, EMPTY_BODY], 0, "accepted\n"),
-    (&HELLO, 0, "accepted\n"),
+    (&[], Status::Refused, "refused B1 Malformed at 0\n"),
+    (&[HEADER], Status::Refused, "refused L1 NoStart\n"),
+    (&[BEFORE_CODE, EMPTY_BODY], Status::Done, "accepted\n"),
+    (&HELLO, Status::Done, "accepted\n"),
 ];
 
 const SIZES: &[Row] = &[
@@ -114,7 +114,7 @@ const SIZES: &[Row] = &[
             EXPORTS,
             EMPTY_BODY,
         ],
-        0,
+        Status::Done,
         "accepted\n",
     ),
     (
@@ -126,7 +126,7 @@ const SIZES: &[Row] = &[
             EXPORTS,
             EMPTY_BODY,
         ],
-        3,
+        Status::Refused,
         "refused B1 Malformed at 9\n",
     ),
     (
@@ -138,7 +138,7 @@ const SIZES: &[Row] = &[
             EXPORTS,
             EMPTY_BODY,
         ],
-        3,
+        Status::Refused,
         "refused B1 Malformed at 9\n",
     ),
 ];
@@ -146,45 +146,53 @@ const SIZES: &[Row] = &[
 const BODIES: &[Row] = &[
     (
         &[BEFORE_CODE, "0a06010401017d0b"],
-        3,
+        Status::Refused,
         "refused B2 Float at 50\nf32 in function 0; \
          printf has floats, but not with -lc-printscan-no-floating-point\n",
     ),
     (
         &[BEFORE_CODE, "0a0c010a00 4101047f41010b1a0b"],
-        3,
+        Status::Refused,
         "refused V1 Typing\n",
     ),
     (
         &[BEFORE_CODE, "0a0a010800 41002803001a0b"],
-        3,
+        Status::Refused,
         "refused V3 Limits\n",
     ),
 ];
 
 /// Other faults of the decoder and the validator, and a module without a memory for the host.
 const FAULTS: &[Row] = &[
-    (&["0061736d02000000"], 3, "refused B1 Malformed at 4\n"),
+    (
+        &["0061736d02000000"],
+        Status::Refused,
+        "refused B1 Malformed at 4\n",
+    ),
     (
         &[HEADER, "01050160017d00"],
-        3,
+        Status::Refused,
         "refused B2 Float at 13\nf32 in type 0 of no function; \
          printf has floats, but not with -lc-printscan-no-floating-point\n",
     ),
     (
         &[HEADER, "010401608102"],
-        3,
+        Status::Refused,
         "refused B3 Limit\nmore than 256 parameters in one type, at byte 12\n",
     ),
-    (&[BEFORE_CODE, "0a0601040010050b"], 3, "refused V2 Index\n"),
+    (
+        &[BEFORE_CODE, "0a0601040010050b"],
+        Status::Refused,
+        "refused V2 Index\n",
+    ),
     (
         &[BEFORE_EXPORTS, TWO_STARTS, EMPTY_BODY],
-        3,
+        Status::Refused,
         "refused V4 DuplicateExport\n",
     ),
     (
         &[BEFORE_EXPORTS, NO_MEMORY, EMPTY_BODY],
-        3,
+        Status::Refused,
         "refused L2 NoMemory\n",
     ),
 ];
@@ -194,23 +202,23 @@ const FAULTS: &[Row] = &[
 const HOST: &[Row] = &[
     (
         &[HEADER, TYPES, UNKNOWN_CALL, BEHIND_IMPORTS],
-        3,
+        Status::Refused,
         "refused L3 UnknownImport\nimport env.f isn't one of the 31 calls\n",
     ),
     (
         &[HEADER, TYPES, CALL_WITHOUT_CODE, BEHIND_IMPORTS],
-        3,
+        Status::Refused,
         "refused L4 ImportType\n\
          import wasi_snapshot_preview1.proc_exit has another type than this call\n",
     ),
     (
         &[BEFORE_CODE, EMPTY_BODY, "0b09010041ffff030b0100"],
-        0,
+        Status::Done,
         "accepted\n",
     ),
     (
         &[BEFORE_CODE, EMPTY_BODY, "0b090100418080040b0100"],
-        3,
+        Status::Refused,
         "refused L5 InitRange\n",
     ),
     (
@@ -222,7 +230,7 @@ const HOST: &[Row] = &[
             EXPORTS,
             EMPTY_BODY,
         ],
-        0,
+        Status::Done,
         "accepted\n",
     ),
     (
@@ -234,7 +242,7 @@ const HOST: &[Row] = &[
             EXPORTS,
             EMPTY_BODY,
         ],
-        3,
+        Status::Refused,
         "refused L6 TooManyPages\nbegins with 257 pages, and a worker has at most 256\n",
     ),
 ];
@@ -244,26 +252,42 @@ const CUSTOM: &str = "0005046e616d65";
 
 /// Sections twice, out of order, too long and too short, and custom sections everywhere.
 const SECTIONS: &[Row] = &[
-    (&[HEADER, "0cff"], 3, "refused B1 Malformed at 8\n"),
-    (&[HEADER, TYPES, TYPES], 3, "refused B1 Malformed at 14\n"),
+    (
+        &[HEADER, "0cff"],
+        Status::Refused,
+        "refused B1 Malformed at 8\n",
+    ),
+    (
+        &[HEADER, TYPES, TYPES],
+        Status::Refused,
+        "refused B1 Malformed at 14\n",
+    ),
     (
         &[BEFORE_EXPORTS, MEMORIES],
-        3,
+        Status::Refused,
         "refused B1 Malformed at 23\n",
     ),
     (
         &[HEADER, FUNCTIONS, TYPES],
-        3,
+        Status::Refused,
         "refused B1 Malformed at 12\n",
     ),
-    (&[HEADER, "010501600000"], 3, "refused B1 Malformed at 9\n"),
-    (&[HEADER, "010301600000"], 3, "refused B1 Malformed at 13\n"),
+    (
+        &[HEADER, "010501600000"],
+        Status::Refused,
+        "refused B1 Malformed at 9\n",
+    ),
+    (
+        &[HEADER, "010301600000"],
+        Status::Refused,
+        "refused B1 Malformed at 13\n",
+    ),
     (
         &[
             HEADER, CUSTOM, TYPES, CUSTOM, FUNCTIONS, CUSTOM, MEMORIES, CUSTOM, EXPORTS, CUSTOM,
             EMPTY_BODY, CUSTOM,
         ],
-        0,
+        Status::Done,
         "accepted\n",
     ),
 ];
@@ -281,7 +305,7 @@ fn modules_are_told(rt: HostRuntime) -> Result<(), Fail> {
 }
 
 /// The status of `check` on these bytes.
-fn status_of(alloc: Global, bytes: &[u8]) -> u8 {
+fn status_of(alloc: Global, bytes: &[u8]) -> Status {
     let out = &mut Printer::new(Vec::new(alloc), false);
     check_bytes(alloc, bytes, 256, false, out)
 }
@@ -293,9 +317,13 @@ const CODE_END: usize = 173;
 
 /// Whether a prefix of `ECHO` is accepted where it should be, and else refused.
 fn is_front_told_so(alloc: Global, bytes: &[u8], end: usize) -> bool {
-    let is_whole = end == CODE_END || end == ECHO_LENGTH;
+    let wanted = if end == CODE_END || end == ECHO_LENGTH {
+        Status::Done
+    } else {
+        Status::Refused
+    };
     match bytes.get(..end) {
-        Some(front) => status_of(alloc, front) == if is_whole { 0 } else { 3 },
+        Some(front) => status_of(alloc, front) == wanted,
         None => false,
     }
 }
@@ -315,7 +343,7 @@ fn fronts(rt: HostRuntime) -> Result<(), Fail> {
 }
 
 /// The statuses of the small module and of a prefix of it, both in one room of 8 bytes.
-fn statuses_without_room(alloc: Global) -> [u8; 2] {
+fn statuses_without_room(alloc: Global) -> [Status; 2] {
     let mut room = [0u8; 8];
     let room: &mut [u8] = &mut room;
     let mut out = Printer::new(room, false);
@@ -328,7 +356,11 @@ fn statuses_without_room(alloc: Global) -> [u8; 2] {
 #[test]
 fn output_without_room(rt: HostRuntime) {
     let statuses = statuses_without_room(rt.alloc());
-    assert_row(&rt, statuses == [7, 7], &statuses);
+    assert_row(
+        &rt,
+        statuses == [Status::Unwritten, Status::Unwritten],
+        &statuses,
+    );
 }
 
 /// That the small module is accepted, in a room for its line that takes no memory.
@@ -336,8 +368,8 @@ fn accept_small(alloc: Global) -> Result<(), Refused> {
     let mut room = [0u8; 32];
     let room: &mut [u8] = &mut room;
     match check_bytes(alloc, &SMALL, 256, false, &mut Printer::new(room, false)) {
-        0 => Ok(()),
-        5 => Err(Refused::Memory),
+        Status::Done => Ok(()),
+        Status::OutOfMemory => Err(Refused::Memory),
         _ => Err(Refused::Otherwise),
     }
 }

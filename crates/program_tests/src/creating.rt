@@ -4,7 +4,7 @@ use crate::asking::ECHO;
 use crate::check::{BEFORE_CODE, HEADER, HELLO, bytes_of};
 use crate::lines::Flushed;
 use crate::rows::assert_row;
-use command_words::{Prepared, Printer, Sizes, prepare, report_unprepared};
+use command_words::{Prepared, Printer, Sizes, Status, prepare, report_unprepared};
 use disk_commands::create_on;
 use sector_disk::MemDisk;
 use std::alloc::Global;
@@ -88,13 +88,13 @@ fn is_refused_so(alloc: Global, row: &Refused) -> Result<bool, Fail> {
     let wasm = bytes_of(alloc, row.0.0)?;
     let mut err = Vec::new(alloc);
     let status = match prepare(alloc, wasm.as_slice(), sizes_of(row.0.1), &[], &[row.1]) {
-        Ok(_prepared) => 0,
+        Ok(_prepared) => Status::Done,
         Err(fault) => {
             let err = &mut Printer::new(&mut err, false);
             report_unprepared(alloc, wasm.as_slice(), fault, err)
         }
     };
-    Ok(status == 3 && err.as_slice() == row.2.as_bytes())
+    Ok(status == Status::Refused && err.as_slice() == row.2.as_bytes())
 }
 
 #[test]
@@ -106,11 +106,11 @@ fn a_creation_is_refused_before_its_disk_is_made(rt: HostRuntime) -> Result<(), 
 }
 
 /// Sectors of a disk; and the status, the output and the error output of a creation on it.
-type Created = (u64, u8, &'static str, &'static str);
+type Created = (u64, Status, &'static str, &'static str);
 
 static CREATED: [Created; 2] = [
-    (4676, 0, "created 4676 sectors\n", ""),
-    (4675, 3, "", "failed Y3 TooSmall\n"),
+    (4676, Status::Done, "created 4676 sectors\n", ""),
+    (4675, Status::Refused, "", "failed Y3 TooSmall\n"),
 ];
 
 /// Whether a creation on such a disk ends so, with its output flushed.

@@ -1,4 +1,4 @@
-//! What a test says of a row that isn't so. It stands here once, for each `assert!` is dear to
+//! What a test says of a row that isn't so. One `assert!` serves all rows, for each is dear to
 //! prove.
 
 use std::fmt::Debug;

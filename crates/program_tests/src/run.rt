@@ -7,7 +7,7 @@ use crate::rows::assert_row;
 use crate::serving::{Unwatched, pace_of};
 use crate::show::{SECTORS, WRITES, blank_disk, create, fresh_disk};
 use command_words::{
-    BufferedLines, LineOutlet, Prepared, Printer, RequestSource, Sizes, Unprepared, prepare,
+    BufferedLines, LineOutlet, Prepared, Printer, RequestSource, Sizes, Status, Unprepared, prepare,
 };
 use disk_commands::{Drive, Pace, Worker, create_on, serve};
 use record_replay::{AnswerList, LineList, Now};
@@ -30,8 +30,45 @@ const REMAINDER: [&str; 2] = [BEFORE_CODE, "0a0e010c00 418080808078417f6f1a 0b"]
 /// A load at 4,294,967,295 with offset 1.
 const FAR_LOAD: [&str; 2] = [BEFORE_CODE, "0a0a010800 417f2802011a 0b"];
 
-/// A function that calls itself.
+/// A function that calls itself. With 512 frames it traps.
 const ENDLESS: [&str; 2] = [BEFORE_CODE, "0a0601040010000b"];
+
+/// Its last words, with 32 of its frames.
+const ENDLESS_WORDS: &str = "trapped stack exhausted
+at function 0, opcode 0
+at function 0, opcode 0
+at function 0, opcode 0
+at function 0, opcode 0
+at function 0, opcode 0
+at function 0, opcode 0
+at function 0, opcode 0
+at function 0, opcode 0
+at function 0, opcode 0
+at function 0, opcode 0
+at function 0, opcode 0
+at function 0, opcode 0
+at function 0, opcode 0
+at function 0, opcode 0
+at function 0, opcode 0
+at function 0, opcode 0
+at function 0, opcode 0
+at function 0, opcode 0
+at function 0, opcode 0
+at function 0, opcode 0
+at function 0, opcode 0
+at function 0, opcode 0
+at function 0, opcode 0
+at function 0, opcode 0
+at function 0, opcode 0
+at function 0, opcode 0
+at function 0, opcode 0
+at function 0, opcode 0
+at function 0, opcode 0
+at function 0, opcode 0
+at function 0, opcode 0
+at function 0, opcode 0
+and 480 more frames
+";
 
 /// All of `hello`.
 pub(crate) const HELLO_BYTES: [u8; 168] = [
@@ -68,7 +105,7 @@ pub(crate) fn status_of<W: Write + Drop, E: Write + Drop>(
     pace: Pace,
     outlet: &mut LineOutlet<W>,
     err: &mut Printer<E>,
-) -> u8 {
+) -> Status {
     let mut source = empty_source(alloc);
     let drive = Drive {
         pace,
@@ -80,23 +117,41 @@ pub(crate) fn status_of<W: Write + Drop, E: Write + Drop>(
 }
 
 /// Texts of a module, steps of a slice, and what is printed: lines, last words, and the status.
-type Case = (&'static [&'static str], u64, &'static str, &'static str, u8);
+type Case = (
+    &'static [&'static str],
+    u64,
+    &'static str,
+    &'static str,
+    Status,
+);
 
 static PRINTED: [Case; 8] = [
-    (&HELLO, 100_000, "1 o hi\n", "exited 7\n", 0),
-    (&HELLO, 1, "1 o hi\n", "exited 7\n", 0),
-    (&EMPTY, 1, "", "exited 0\n", 0),
-    (&UNREACHABLE, 100, "", "trapped unreachable\n", 0),
-    (&QUOTIENT, 2, "", "trapped integer overflow\n", 0),
-    (&REMAINDER, 100, "", "exited 0\n", 0),
+    (&HELLO, 100_000, "1 o hi\n", "exited 7\n", Status::Done),
+    (&HELLO, 1, "1 o hi\n", "exited 7\n", Status::Done),
+    (&EMPTY, 1, "", "exited 0\n", Status::Done),
+    (
+        &UNREACHABLE,
+        100,
+        "",
+        "trapped unreachable\nat function 0, opcode 0\n",
+        Status::Done,
+    ),
+    (
+        &QUOTIENT,
+        2,
+        "",
+        "trapped integer overflow\nat function 0, opcode 2\n",
+        Status::Done,
+    ),
+    (&REMAINDER, 100, "", "exited 0\n", Status::Done),
     (
         &FAR_LOAD,
         100,
         "",
-        "trapped out of bounds memory access\n",
-        0,
+        "trapped out of bounds memory access\nat function 0, opcode 1\n",
+        Status::Done,
     ),
-    (&ENDLESS, 100, "", "trapped stack exhausted\n", 0),
+    (&ENDLESS, 100, "", ENDLESS_WORDS, Status::Done),
 ];
 
 /// Slices between two checkpoints.
@@ -234,7 +289,7 @@ fn status_in(
     pace: Pace,
     lines: &mut [u8],
     words: &mut [u8],
-) -> Result<u8, Refused> {
+) -> Result<Status, Refused> {
     let Ok(mut outlet) = LineOutlet::new(alloc, lines) else {
         return Err(Refused::Memory);
     };
@@ -259,9 +314,9 @@ static WANTS: [&[u8]; 10] = [
 ];
 
 /// What a command has come to that isn't done, by its status and its words.
-pub(crate) fn refused_by(status: u8, words: &[u8]) -> Refused {
+pub(crate) fn refused_by(status: Status, words: &[u8]) -> Refused {
     for want in &WANTS {
-        if status == 5 && words.starts_with(want) {
+        if status == Status::OutOfMemory && words.starts_with(want) {
             return Refused::Memory;
         }
     }
@@ -294,7 +349,7 @@ fn create_hello(alloc: Global, disk: &mut MemDisk, prepared: &Prepared) -> Resul
         &mut Printer::new(&mut out[..], false),
         &mut Printer::new(&mut err[..], false),
     );
-    if status == 0 && out.starts_with(b"created 4676 sectors\n\0") {
+    if status == Status::Done && out.starts_with(b"created 4676 sectors\n\0") {
         return Ok(());
     }
     if out[0] == 0 {
@@ -320,7 +375,10 @@ fn run_hello(alloc: Global, disk: &mut MemDisk) -> Result<(), Refused> {
     let mut lines = [0u8; 32];
     let mut words = [0u8; 32];
     let status = status_in(alloc, disk, pace, &mut lines, &mut words)?;
-    if status == 0 && lines.starts_with(b"1 o hi\n\0") && words.starts_with(b"exited 7\n\0") {
+    if status == Status::Done
+        && lines.starts_with(b"1 o hi\n\0")
+        && words.starts_with(b"exited 7\n\0")
+    {
         return Ok(());
     }
     Err(refused_by(status, &words))
@@ -347,14 +405,18 @@ fn whole_run(rt: HostRuntime) -> Result<(), Refused> {
 }
 
 /// The room for the line of `hello`, that for its last words, and its status then.
-static ROOMS: [(usize, usize, u8); 3] = [(4, 32, 7), (32, 4, 7), (32, 32, 0)];
+static ROOMS: [(usize, usize, Status); 3] = [
+    (4, 32, Status::Unwritten),
+    (32, 4, Status::Unwritten),
+    (32, 32, Status::Done),
+];
 
 /// Whether a run on this disk ends so in so much room.
 fn is_status_within(
     alloc: Global,
     disk: &mut MemDisk,
     pace: Pace,
-    row: &(usize, usize, u8),
+    row: &(usize, usize, Status),
 ) -> bool {
     let mut lines = [0u8; 32];
     let mut words = [0u8; 32];
@@ -368,7 +430,7 @@ fn is_status_within(
 }
 
 /// The same of a fresh worker.
-fn ends_so_within(alloc: Global, row: &(usize, usize, u8)) -> Result<bool, Fail> {
+fn ends_so_within(alloc: Global, row: &(usize, usize, Status)) -> Result<bool, Fail> {
     let pace = pace_of(100, EVERY, 1)?;
     let mut disk = fresh_disk(alloc, &HELLO)?;
     let is_so = is_status_within(alloc, &mut disk, pace, row);

@@ -5,7 +5,7 @@ use crate::lines::{Flushed, NoClock, OUTSIDE};
 use crate::rows::assert_row;
 use crate::run::status_of;
 use crate::show::{Shown, after_one_slice, fresh_disk, shows};
-use command_words::{BufferedLines, LineOutlet, Printer, RequestSource};
+use command_words::{BufferedLines, LineOutlet, Printer, RequestSource, Status};
 use disk_commands::{Drive, Pace, Watcher, Worker, serve};
 use record_replay::Now;
 use sector_disk::MemDisk;
@@ -48,7 +48,7 @@ fn status_on<E: Write + Drop>(
     alloc: Global,
     disk: &mut MemDisk,
     err: &mut Printer<E>,
-) -> Result<Option<u8>, Fail> {
+) -> Result<Option<Status>, Fail> {
     let pace = pace_of(FUEL, EVERY, 1)?;
     let mut outlet = LineOutlet::new(alloc, Vec::new(alloc))?;
     let status = status_of(alloc, disk, pace, &mut outlet, err);
@@ -77,7 +77,7 @@ fn is_told_so(alloc: Global, row: &Told) -> Result<bool, Fail> {
     let is_told = err.out.as_slice() == row.1.as_bytes();
     drop(disk);
     drop(err);
-    Ok(status? == Some(0) && is_told)
+    Ok(status? == Some(Status::Done) && is_told)
 }
 
 #[test]
@@ -96,24 +96,24 @@ fn a_worker_runs_on_untold(rt: HostRuntime) -> Result<(), Fail> {
     let status = status_on(rt.alloc(), &mut disk, &mut Printer::new(room, true));
     drop(disk);
     let status = status?;
-    assert_row(&rt, status == Some(7), &status);
+    assert_row(&rt, status == Some(Status::Unwritten), &status);
     Ok(())
 }
 
 /// The lines that one sync may serve in a run, its request lines, the lines that it prints, what it
 /// tells, and its status.
-type Run = (u64, &'static [u8], &'static [u8], &'static str, u8);
+type Run = (u64, &'static [u8], &'static [u8], &'static str, Status);
 
 /// A line that was taken is dropped by its number. One that is ahead of its number ends the run.
 static ON_ONE_DISK: [Run; 3] = [
-    (1, b"1 r a\n", b"1 o a\n", "parked\n", 0),
-    (1, b"1 r a\n2 r b\n", b"2 o b\n", "parked\n", 0),
+    (1, b"1 r a\n", b"1 o a\n", "parked\n", Status::Done),
+    (1, b"1 r a\n2 r b\n", b"2 o b\n", "parked\n", Status::Done),
     (
         64,
         b"2 r b\n3 r c\n4 r d\n",
         b"3 o c\n4 o d\n",
         "parked\n",
-        0,
+        Status::Done,
     ),
 ];
 
@@ -122,14 +122,14 @@ static AHEAD: Run = (
     b"1 r hello\n1 r other\n3 r x\n",
     b"1 o hello\n",
     "refused request 3, wanted 2\n",
-    6,
+    Status::BadLine,
 );
 
 /// What is on the disk after these runs: each of them saves as it opens and as it ends.
 const BEHIND: Shown = Shown {
     out: "generation 7 steps 93 answers 4 lines 4 records 0 version 1\n",
     err: "",
-    status: 0,
+    status: Status::Done,
 };
 
 /// Whether a run on the disk does so.

@@ -4,10 +4,10 @@ use crate::asking::{ECHO, config, hello};
 use crate::check::bytes_of;
 use crate::lines::Flushed;
 use crate::rows::assert_row;
-use command_words::Printer;
+use command_words::{Printer, Status};
 use disk_commands::{Worker, survey};
 use record_replay::{AnswerList, LineList};
-use sector_disk::{Disk, FaultDisk, MemDisk, Place};
+use sector_disk::{Disk, FaultDisk, FaultPoint, MemDisk};
 use std::alloc::Global;
 use std::test::Fail;
 
@@ -21,7 +21,7 @@ pub(crate) const WRITES: usize = 2_371;
 pub(crate) struct Shown {
     pub out: &'static str,
     pub err: &'static str,
-    pub status: u8,
+    pub status: Status,
 }
 
 /// Whether just that is shown of a disk, and flushed.
@@ -171,7 +171,7 @@ static COURSES: [Course; 5] = [
         shown: Shown {
             out: "generation 1 steps 0 answers 0 lines 0 records 0 version 1\n",
             err: "",
-            status: 0,
+            status: Status::Done,
         },
     },
     Course {
@@ -181,7 +181,7 @@ static COURSES: [Course; 5] = [
         shown: Shown {
             out: "generation 1 steps 0 answers 0 lines 0 records 1 version 1\n",
             err: "",
-            status: 0,
+            status: Status::Done,
         },
     },
     Course {
@@ -191,7 +191,7 @@ static COURSES: [Course; 5] = [
         shown: Shown {
             out: "generation 2 steps 6 answers 1 lines 0 records 0 version 1\n",
             err: "",
-            status: 0,
+            status: Status::Done,
         },
     },
     Course {
@@ -201,7 +201,7 @@ static COURSES: [Course; 5] = [
         shown: Shown {
             out: "generation 2 steps 20 answers 1 lines 1 records 0 version 1\n",
             err: "",
-            status: 0,
+            status: Status::Done,
         },
     },
     Course {
@@ -211,7 +211,7 @@ static COURSES: [Course; 5] = [
         shown: Shown {
             out: "generation 3 steps 20 answers 1 lines 1 records 0 version 1\n",
             err: "",
-            status: 0,
+            status: Status::Done,
         },
     },
 ];
@@ -226,8 +226,8 @@ fn the_saved_process_is_shown(rt: HostRuntime) -> Result<(), Fail> {
 
 /// What is shown of a disk of zeros, which stops or fails at a call.
 struct Trouble {
-    stop: Option<Place>,
-    fail: Option<Place>,
+    stop: Option<FaultPoint>,
+    fail: Option<FaultPoint>,
     shown: Shown,
 }
 
@@ -238,34 +238,34 @@ static TROUBLES: [Trouble; 4] = [
         shown: Shown {
             out: "",
             err: "failed Y1 NotAWorker\n",
-            status: 3,
+            status: Status::Refused,
         },
     },
     Trouble {
         stop: None,
-        fail: Some(Place { call: 1, front: 0 }),
+        fail: Some(FaultPoint { call: 1, front: 0 }),
         shown: Shown {
             out: "",
             err: "failed K2 Io\n",
-            status: 4,
+            status: Status::IoError,
         },
     },
     Trouble {
-        stop: Some(Place { call: 1, front: 0 }),
+        stop: Some(FaultPoint { call: 1, front: 0 }),
         fail: None,
         shown: Shown {
             out: "",
             err: "failed K3 Cut\n",
-            status: 4,
+            status: Status::IoError,
         },
     },
     Trouble {
-        stop: Some(Place { call: 2, front: 0 }),
+        stop: Some(FaultPoint { call: 2, front: 0 }),
         fail: None,
         shown: Shown {
             out: "",
             err: "failed K3 Cut\n",
-            status: 4,
+            status: Status::IoError,
         },
     },
 ];
@@ -286,7 +286,7 @@ fn a_disk_without_a_worker_is_refused(rt: HostRuntime) -> Result<(), Fail> {
 }
 
 /// The status where the output, or the error output, has so much room.
-fn status_in(alloc: Global, disk: &mut MemDisk, out: &mut [u8], err: &mut [u8]) -> u8 {
+fn status_in(alloc: Global, disk: &mut MemDisk, out: &mut [u8], err: &mut [u8]) -> Status {
     let mut out = Printer::new(out, false);
     let mut err = Printer::new(err, false);
     survey(alloc, disk, &mut out, &mut err)
@@ -294,15 +294,15 @@ fn status_in(alloc: Global, disk: &mut MemDisk, out: &mut [u8], err: &mut [u8]) 
 
 /// Whether the disk of a fresh worker is shown, and not one of zeros; so much room, and the status.
 /// The line has 59 bytes, and the fault 21.
-static ROOMS: [(bool, usize, u8); 4] = [
-    (true, 59, 0),
-    (true, 58, 7),
-    (false, 21, 3),
-    (false, 20, 7),
+static ROOMS: [(bool, usize, Status); 4] = [
+    (true, 59, Status::Done),
+    (true, 58, Status::Unwritten),
+    (false, 21, Status::Refused),
+    (false, 20, Status::Unwritten),
 ];
 
 /// Whether that is so of this disk, with the room for what is printed of it and none for the other.
-fn is_status_in(alloc: Global, disk: &mut MemDisk, row: &(bool, usize, u8)) -> bool {
+fn is_status_in(alloc: Global, disk: &mut MemDisk, row: &(bool, usize, Status)) -> bool {
     let mut room = [0u8; 64];
     match room.get_mut(..row.1) {
         Some(room) if row.0 => status_in(alloc, disk, room, &mut []) == row.2,
@@ -311,7 +311,7 @@ fn is_status_in(alloc: Global, disk: &mut MemDisk, row: &(bool, usize, u8)) -> b
     }
 }
 
-fn is_told_in(alloc: Global, row: &(bool, usize, u8)) -> Result<bool, Fail> {
+fn is_told_in(alloc: Global, row: &(bool, usize, Status)) -> Result<bool, Fail> {
     let mut disk = if row.0 {
         fresh_disk(alloc, &ECHO)?
     } else {

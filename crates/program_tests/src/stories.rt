@@ -4,7 +4,7 @@ use crate::asking::ECHO;
 use crate::check::bytes_of;
 use crate::rows::assert_row;
 use crate::run::{HELLO_BYTES, Refused, refused_by};
-use command_words::{Printer, Sizes};
+use command_words::{Printer, Sizes, Status};
 use std::alloc::Global;
 use std::test::Fail;
 use story_commands::{ScriptFault, read_script, tell};
@@ -16,7 +16,7 @@ type Asked = (&'static [&'static str], [u64; 3]);
 const SMALL_ECHO: Asked = (&ECHO, [1, 1, 64]);
 
 /// A script of a worker; the exit status, and the output and the error output of its story.
-type Told = (Asked, &'static str, u8, &'static str, &'static str);
+type Told = (Asked, &'static str, Status, &'static str, &'static str);
 
 /// The disk of `echo` takes 206 calls until its worker is created. The next one writes the first
 /// sector of the journal, in which the record of `hello` ends at byte 505.
@@ -24,11 +24,11 @@ type Told = (Asked, &'static str, u8, &'static str, &'static str);
 /// The images are those of a fresh worker, of one that has taken `hello` in its sixth step, and of
 /// one that has then taken `world`, 22 steps later.
 static TOLD: [Told; 11] = [
-    (SMALL_ECHO, "", 0, "", ""),
+    (SMALL_ECHO, "", Status::Done, "", ""),
     (
         SMALL_ECHO,
         "life\nrequest hello\nslice 20\nlife\n",
-        0,
+        Status::Done,
         "life 1 created\n\
          1 o hello\n\
          life 2 recovered generation 2 steps 6 answers 1 lines 0 \
@@ -38,7 +38,7 @@ static TOLD: [Told; 11] = [
     (
         SMALL_ECHO,
         "life\nrequest hello\nslice 20\nstop 207 504\nlife\nrequest world\nslice 20\n",
-        0,
+        Status::Done,
         "life 1 created\n\
          life 2 recovered generation 2 steps 0 answers 0 lines 0 \
          image 5ad2a2bb20898655431222989de2ca89ed0824085c16667851cce4f749d8d791\n\
@@ -48,7 +48,7 @@ static TOLD: [Told; 11] = [
     (
         SMALL_ECHO,
         "life\nrequest hello\nslice 20\nstop 207 505\nlife\nslice 0\n",
-        0,
+        Status::Done,
         "life 1 created\n\
          life 2 recovered generation 2 steps 6 answers 1 lines 0 \
          image 5cbdfc1d641493c2a7bb501dacac8c5c45cedec86d2557d8f1f96db1ea6e7cfe\n",
@@ -58,7 +58,7 @@ static TOLD: [Told; 11] = [
     (
         SMALL_ECHO,
         "life\nrequest hello\nrequest world\nbatch 42 2\nstop 207 505\nlife\nslice 14\n",
-        0,
+        Status::Done,
         "life 1 created\n\
          life 2 recovered generation 2 steps 28 answers 2 lines 1 \
          image 136aea21c9c078ca7f11615e57a0a23628c604665dc23a2a64c0957aa7fdfd12\n\
@@ -69,7 +69,7 @@ static TOLD: [Told; 11] = [
     (
         SMALL_ECHO,
         "life\nslice 20\nrequest hello\nlife\nslice 14",
-        0,
+        Status::Done,
         "life 1 created\n\
          1 o hello\n\
          life 2 recovered generation 2 steps 6 answers 1 lines 0 \
@@ -80,32 +80,38 @@ static TOLD: [Told; 11] = [
     (
         SMALL_ECHO,
         "life\nstop 1 0\nlife\n",
-        0,
+        Status::Done,
         "life 1 not opened\nlife 2 created\n",
         "",
     ),
     (
         SMALL_ECHO,
         "life\nslice 20\nhello\n",
-        2,
+        Status::Usage,
         "",
         "failed script line 3\n",
     ),
     (
         (&[], [0, 1, 64]),
         "slice 20\nlife\n",
-        2,
+        Status::Usage,
         "",
         "failed script line 1\n",
     ),
     (
         (&[], [0, 1, 64]),
         "life\n",
-        3,
+        Status::Refused,
         "",
         "failed C1 Range\n--pages is from 1 to 256\n",
     ),
-    ((&[], [1, 1, 64]), "life\n", 3, "", "failed B1 Malformed\n"),
+    (
+        (&[], [1, 1, 64]),
+        "life\n",
+        Status::Refused,
+        "",
+        "failed B1 Malformed\n",
+    ),
 ];
 
 /// A script, and its first faulty line if there is one.
@@ -225,11 +231,11 @@ static STARVED: [&[u8]; 2] = [
 ];
 
 /// What a story has come to that should tell the line of `hello`.
-fn judge_story(status: u8, out: &[u8], err: &[u8]) -> Result<(), Refused> {
-    if status == 0 && out.starts_with(b"life 1 created\n1 o hi\n\0") {
+fn judge_story(status: Status, out: &[u8], err: &[u8]) -> Result<(), Refused> {
+    if status == Status::Done && out.starts_with(b"life 1 created\n1 o hi\n\0") {
         return Ok(());
     }
-    if status == 0 && STARVED.iter().any(|text| out.starts_with(text)) {
+    if status == Status::Done && STARVED.iter().any(|text| out.starts_with(text)) {
         return Err(Refused::Memory);
     }
     if out.starts_with(b"\0") {

@@ -3,28 +3,29 @@
 //!
 //! # Promises
 //!
-//! - Each function that answers an exit status answers 7 at most. No clause says more of the
-//!   program.
+//! - An exit status is one of the eight of `Status`, by its type. `main` turns it into its number.
+//!   No clause says more of the program.
 //!
-//! What the commands promise of bytes, disks, readers and writers is said in these crates. This one
-//! brings these to them:
+//! What the commands promise of bytes, disks, readers and writers is said in these crates. The
+//! program brings these to them:
 //!
-//! - It reads the command line, and opens the modules and scripts that it names. What the words say
-//!   of a creation, a run or an upgrade it hands on whole.
+//! - The command line is read, and the modules and scripts that it names are opened. What the words
+//!   say of a creation, a run or an upgrade is handed on whole.
 //! - `check` and `create` hand over a module's bytes. The rest of `create` is `create_disk`.
-//! - `story` and `sweep` hand over all bytes of a script, and a module's bytes. They read them in
-//!   this order.
+//! - `story` and `sweep` hand over all bytes of a script, and then a module's bytes, read in this
+//!   order.
 //! - `run` and `upgrade` are `run_file` and `upgrade_file`, and `show`, `inspect`, `files` and
 //!   `history` are `look_at_file`, which open the disk's file. `save` is `save_file`, which makes
-//!   one, too. One host holds it at a time. `run` also hands over the lines of the standard input
-//!   and the machine's clock.
-//! - Before all that it takes the numbers of standard streams that are closed (`StreamNumbers`), so
-//!   that no file that it opens gets one. No clause says so: `scripts/runs/closed-streams` does.
+//!   one, too, and `files --all` is `extract_file`, which makes a folder. One host holds the disk
+//!   at a time, and with `--live` others only look at it. `run` also hands over the lines of the
+//!   standard input and the machine's clock.
+//! - Before all that the numbers of standard streams that are closed are taken (`StreamNumbers`),
+//!   so that no file gets one. No clause says so: `scripts/runs/closed-streams` shows it.
 //! - A file that can't be read is told by `report_unread`, want of memory by `report`, and a fault
 //!   of the words by `report_words`. An output that can't be written is told by `report_output`,
-//!   but for `create`, `run`, `upgrade` and `save`, which tell it themselves.
-//! - Each command is handed fresh printers, of which no write has failed. That of the error output
-//!   is told whether it is a terminal.
+//!   but for `create`, `run`, `upgrade`, `save` and `files --all`, which tell it themselves.
+//! - Each command is handed fresh printers, of which no write has failed. The error output's
+//!   printer is told whether it is a terminal.
 //!
 //! # Definitions to read
 //!
@@ -34,19 +35,18 @@
 //!
 //! Of the crates here only this one has the runtime's handle: the words of the command line, files,
 //! standard streams, the clock and the allocator. All else is lent to the commands. A disk in a
-//! file is `sector_disk`'s. It takes memory for the words, the file, the reader's buffer and a
+//! file is `sector_disk`'s. Memory is taken for the words, the file, the reader's buffer and a
 //! line.
 #![tactic(auto)]
 
-ghost use Rattle.std.specs.Prelude.{◌≤◌};
-
 use command_words::{
-    BufferedLines, CheckOrder, CreateOrder, LineOutlet, Obstacle, Order, Printer, RunOrder, Sizes,
-    StoryOrder, SweepOrder, WordsFault, check_module, read_module, read_words, report,
-    report_output, report_words,
+    BufferedLines, CheckOrder, CreateOrder, FilesOrder, LineOutlet, Obstacle, Order, Printer,
+    RunOrder, Sizes, Status, StoryOrder, SweepOrder, WordsFault, check_module, read_module,
+    read_words, report, report_output, report_words,
 };
 use disk_commands::{
-    Look, System, create_disk, look_at_file, report_unread, run_file, save_file, upgrade_file,
+    Look, Seen, System, create_disk, extract_file, look_at_file, report_unread, run_file,
+    save_file, upgrade_file,
 };
 use std::alloc::Global;
 use std::env::{self, FillError};
@@ -67,14 +67,12 @@ const NULL_DEVICE: &str = "/dev/null";
 fn save<R: Files<File = File>, W: Write + Drop, E: Write + Drop>(
     rt: &R,
     alloc: Global,
-    disk: &str,
+    seen: Seen<'_>,
     copy: &str,
     out: &mut W,
     err: &mut Printer<E>,
-) -> u8
-    ensures { result ≤ 7 }
-{
-    save_file(alloc, rt, disk, copy, &mut Printer::new(out, false), err)
+) -> Status {
+    save_file(alloc, rt, seen, copy, &mut Printer::new(out, false), err)
 }
 
 /// How many bytes of its input a run reads ahead.
@@ -129,9 +127,7 @@ impl<R: Env> Env for TextArguments<'_, R> {
 }
 
 /// Tells which argument is the first one that isn't UTF-8.
-fn report_argument<R: Env, E: Write + Drop>(rt: &R, alloc: Global, err: &mut Printer<E>) -> u8
-    ensures { result ≤ 7 }
-{
+fn report_argument<R: Env, E: Write + Drop>(rt: &R, alloc: Global, err: &mut Printer<E>) -> Status {
     let texts = TextArguments { rt };
     match env::args(&(&texts, alloc)) {
         Ok(before) => report(err, Obstacle::NoText(before.len())),
@@ -157,9 +153,7 @@ fn check<R: Files, W: Write + Drop, E: Write + Drop>(
     order: &CheckOrder<'_>,
     out: &mut W,
     err: &mut Printer<E>,
-) -> u8
-    ensures { result ≤ 7 }
-{
+) -> Status {
     match read_file(rt, alloc, order.path) {
         Ok(wasm) => {
             let wasm = wasm.as_slice();
@@ -178,9 +172,7 @@ fn create<R: Files<File = File>, W: Write + Drop, E: Write + Drop>(
     order: &CreateOrder<'_>,
     out: &mut W,
     err: &mut Printer<E>,
-) -> u8
-    ensures { result ≤ 7 }
-{
+) -> Status {
     match read_file(rt, alloc, order.module) {
         Ok(wasm) => {
             let out = &mut Printer::new(out, false);
@@ -190,20 +182,47 @@ fn create<R: Files<File = File>, W: Write + Drop, E: Write + Drop>(
     }
 }
 
-/// Says what is asked for of the disk in a file.
+/// Says what is asked for of the disk in a file, or of a picture of it.
 fn look_at_disk<R: Files<File = File>, W: Write + Drop, E: Write + Drop>(
     rt: &R,
     alloc: Global,
-    path: &str,
+    seen: Seen<'_>,
     look: Look<'_>,
     out: &mut W,
     err: &mut Printer<E>,
-) -> u8
-    ensures { result ≤ 7 }
-{
+) -> Status {
     let out = &mut Printer::new(out, false);
-    let status = look_at_file(alloc, rt, path, look, out, err);
+    let status = look_at_file(alloc, rt, seen, look, out, err);
     report_output(out, status, err)
+}
+
+/// Writes the files of the worker of a disk into a new folder.
+fn extract<R: Files<File = File>, W: Write + Drop, E: Write + Drop>(
+    rt: &R,
+    alloc: Global,
+    seen: Seen<'_>,
+    folder: &str,
+    out: &mut W,
+    err: &mut Printer<E>,
+) -> Status {
+    extract_file(alloc, rt, seen, folder, &mut Printer::new(out, false), err)
+}
+
+/// Says what is asked for of the files of the worker of a disk.
+fn look_at_files<R: Files<File = File>, W: Write + Drop, E: Write + Drop>(
+    rt: &R,
+    alloc: Global,
+    seen: Seen<'_>,
+    asked: FilesOrder<'_>,
+    out: &mut W,
+    err: &mut Printer<E>,
+) -> Status {
+    let path = match asked {
+        FilesOrder::List => None,
+        FilesOrder::File(path) => Some(path),
+        FilesOrder::Tree(folder) => return extract(rt, alloc, seen, folder, out, err),
+    };
+    look_at_disk(rt, alloc, seen, Look::Files { path }, out, err)
 }
 
 /// How many bytes of its input a run reads ahead, of whose lines one sync may serve so many.
@@ -218,9 +237,7 @@ fn run<R: Files<File = File> + Input + Clock, W: Write + Drop, E: Write + Drop>(
     order: &RunOrder<'_>,
     out: &mut W,
     err: &mut Printer<E>,
-) -> u8
-    ensures { result ≤ 7 }
-{
+) -> Status {
     let Ok(mut outlet) = LineOutlet::new(alloc, out) else {
         return report(err, Obstacle::Memory);
     };
@@ -243,9 +260,7 @@ fn upgrade<R: Files<File = File>, W: Write + Drop, E: Write + Drop>(
     path: &str,
     out: &mut W,
     err: &mut Printer<E>,
-) -> u8
-    ensures { result ≤ 7 }
-{
+) -> Status {
     let Ok(mut outlet) = LineOutlet::new(alloc, out) else {
         return report(err, Obstacle::Memory);
     };
@@ -259,9 +274,7 @@ fn report_module<E: Write + Drop>(
     path: &str,
     error: io::Error,
     err: &mut Printer<E>,
-) -> u8
-    ensures { result ≤ 7 }
-{
+) -> Status {
     match read_script(alloc, script) {
         Ok(_) => report_unread(err, path, error),
         Err(fault) => report_script(err, fault),
@@ -275,9 +288,7 @@ fn story<R: Files, W: Write + Drop, E: Write + Drop>(
     order: &StoryOrder<'_>,
     out: &mut W,
     err: &mut Printer<E>,
-) -> u8
-    ensures { result ≤ 7 }
-{
+) -> Status {
     let script = match read_whole_file(rt, alloc, order.script) {
         Ok(script) => script,
         Err(error) => return report_unread(err, order.script, error),
@@ -305,9 +316,7 @@ fn report_unswept<E: Write + Drop>(
     order: &SweepOrder<'_>,
     error: io::Error,
     err: &mut Printer<E>,
-) -> u8
-    ensures { result ≤ 7 }
-{
+) -> Status {
     match read_sweep(alloc, script, order.life) {
         Ok(_) => report_unread(err, order.module, error),
         Err(fault) => report_sweep_script(err, fault),
@@ -321,9 +330,7 @@ fn sweep<R: Files, W: Write + Drop, E: Write + Drop>(
     order: &SweepOrder<'_>,
     out: &mut W,
     err: &mut Printer<E>,
-) -> u8
-    ensures { result ≤ 7 }
-{
+) -> Status {
     let fronts = match fronts_of(alloc, order.fronts) {
         Ok(fronts) => fronts,
         Err(obstacle) => return report(err, obstacle),
@@ -356,19 +363,70 @@ fn explain<W: Write + Drop, E: Write + Drop>(
     fault: &WordsFault,
     out: &mut W,
     err: &mut Printer<E>,
-) -> u8
-    ensures { result ≤ 7 }
-{
+) -> Status {
     let out = &mut Printer::new(out, false);
     let status = report_words(alloc, fault, out, err);
     report_output(out, status, err)
 }
 
+/// Does what the words ask for. Answers the exit status.
+fn obey<R, W: Write + Drop, E: Write + Drop>(
+    rt: &R,
+    alloc: Global,
+    order: Order<'_>,
+    out: &mut W,
+    err: &mut Printer<E>,
+) -> Status
+where
+    R: Clock + Files<File = File> + Input,
+{
+    match order {
+        Order::Check(order) => check(rt, alloc, &order, out, err),
+        Order::Create(order) => create(rt, alloc, &order, out, err),
+        Order::Run(order) => run(rt, alloc, &order, out, err),
+        Order::Show { path, is_live } => {
+            look_at_disk(rt, alloc, Seen { path, is_live }, Look::Survey, out, err)
+        }
+        Order::Inspect {
+            path,
+            as_json,
+            is_live,
+        } => {
+            let look = Look::Facts { as_json };
+            look_at_disk(rt, alloc, Seen { path, is_live }, look, out, err)
+        }
+        Order::Files {
+            disk: path,
+            asked,
+            is_live,
+        } => look_at_files(rt, alloc, Seen { path, is_live }, asked, out, err),
+        Order::History {
+            path,
+            as_story,
+            is_live,
+        } => {
+            let look = Look::History { as_story };
+            look_at_disk(rt, alloc, Seen { path, is_live }, look, out, err)
+        }
+        Order::Upgrade { path } => upgrade(rt, alloc, path, out, err),
+        Order::Save {
+            disk: path,
+            copy,
+            is_live,
+        } => save(rt, alloc, Seen { path, is_live }, copy, out, err),
+        Order::Story(order) => story(rt, alloc, &order, out, err),
+        Order::Sweep(order) => sweep(rt, alloc, &order, out, err),
+    }
+}
+
 /// Runs the command line, and answers the exit status.
-fn status_of<R, W: Write + Drop, E: Write + Drop>(rt: &R, out: &mut W, err: &mut Printer<E>) -> u8
+fn status_of<R, W: Write + Drop, E: Write + Drop>(
+    rt: &R,
+    out: &mut W,
+    err: &mut Printer<E>,
+) -> Status
 where
     R: AllocGlobal + Clock + Env + Files<File = File> + Input,
-    ensures { result ≤ 7 }
 {
     let alloc = rt.alloc();
     let words: Vec<String> = match env::args(rt) {
@@ -382,33 +440,16 @@ where
         Err(_) => return report_argument(rt, alloc, err),
     };
     match read_words(alloc, words.as_slice()) {
-        Ok(Order::Check(order)) => check(rt, alloc, &order, out, err),
-        Ok(Order::Create(order)) => create(rt, alloc, &order, out, err),
-        Ok(Order::Run(order)) => run(rt, alloc, &order, out, err),
-        Ok(Order::Show { path }) => look_at_disk(rt, alloc, path, Look::Survey, out, err),
-        Ok(Order::Inspect { path, as_json }) => {
-            look_at_disk(rt, alloc, path, Look::Facts { as_json }, out, err)
-        }
-        Ok(Order::Files { disk, path }) => {
-            look_at_disk(rt, alloc, disk, Look::Files { path }, out, err)
-        }
-        Ok(Order::History { path, as_story }) => {
-            look_at_disk(rt, alloc, path, Look::History { as_story }, out, err)
-        }
-        Ok(Order::Upgrade { path }) => upgrade(rt, alloc, path, out, err),
-        Ok(Order::Save { disk, copy }) => save(rt, alloc, disk, copy, out, err),
-        Ok(Order::Story(order)) => story(rt, alloc, &order, out, err),
-        Ok(Order::Sweep(order)) => sweep(rt, alloc, &order, out, err),
+        Ok(order) => obey(rt, alloc, order, out, err),
         Err(fault) => explain(alloc, &fault, out, err),
     }
 }
 
 /// Takes the numbers of closed standard streams, and then runs the command line. Returns the exit
 /// status.
-fn guarded<R, W: Write + Drop, E: Write + Drop>(rt: &R, out: &mut W, err: &mut Printer<E>) -> u8
+fn guarded<R, W: Write + Drop, E: Write + Drop>(rt: &R, out: &mut W, err: &mut Printer<E>) -> Status
 where
     R: AllocGlobal + Clock + Env + Files<File = File> + Input,
-    ensures { result ≤ 7 }
 {
     match StreamNumbers::take(rt) {
         Ok(_taken) => status_of(rt, out, err),
@@ -420,5 +461,6 @@ fn main(rt: HostRuntime) -> ExitCode {
     let err = rt.stderr();
     let is_terminal = err.is_terminal();
     let err = &mut Printer::new(err, is_terminal);
-    ExitCode::from(guarded(&rt, &mut rt.stdout(), err))
+    let status = guarded(&rt, &mut rt.stdout(), err);
+    ExitCode::from(status.code())
 }

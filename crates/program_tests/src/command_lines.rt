@@ -1,78 +1,88 @@
 //! Command lines and what is said of them.
 
 use crate::rows::assert_row;
+use command_words::Status::{self, Done, Usage};
 use command_words::{CreateOrder, Order, RunOrder, StoryOrder, WordsFault, read_words};
 use std::alloc::Global;
 use std::test::Fail;
 
-/// Words, and the status of what is read: 0 for an order.
-type StatusRow = (&'static [&'static str], u8);
+/// Words, and the status of what is read, which is `Done` for an order.
+type StatusRow = (&'static [&'static str], Status);
 
-static STATUSES: [StatusRow; 47] = [
-    (&["wasmhost"], 2),
-    (&["wasmhost", "open", "a"], 2),
-    (&["wasmhost", "check"], 2),
-    (&["wasmhost", "check", "/dev/null"], 0),
-    (&["wasmhost", "check", "a", "b"], 2),
-    (&["wasmhost", "create", "a.disk"], 2),
-    (&["wasmhost", "create", "a.disk", "a.wasm", "b"], 2),
+static STATUSES: [StatusRow; 50] = [
+    (&["wasmhost"], Usage),
+    (&["wasmhost", "open", "a"], Usage),
+    (&["wasmhost", "check"], Usage),
+    (&["wasmhost", "check", "/dev/null"], Done),
+    (&["wasmhost", "check", "a", "b"], Usage),
+    (&["wasmhost", "create", "a.disk"], Usage),
+    (&["wasmhost", "create", "a.disk", "a.wasm", "b"], Usage),
     (
         &["wasmhost", "create", "a.disk", "a.wasm", "--pages", "-1"],
-        2,
+        Usage,
     ),
     (
         &["wasmhost", "create", "a.disk", "a.wasm", "--pages", "0"],
-        0,
+        Done,
     ),
-    (&["wasmhost", "create", "a.disk", "a.wasm", "--device"], 0),
+    (
+        &["wasmhost", "create", "a.disk", "a.wasm", "--device"],
+        Done,
+    ),
     (
         &["wasmhost", "create", "b.disk", "a.wasm", "--from", "a.disk"],
-        0,
+        Done,
     ),
-    (&["wasmhost", "create", "b.disk", "a.wasm", "--from"], 2),
-    (&["wasmhost", "create", "--help"], 0),
-    (&["wasmhost", "run"], 2),
-    (&["wasmhost", "run", "-h"], 0),
-    (&["wasmhost", "run", "a.disk", "--fuel", "0"], 2),
-    (&["wasmhost", "run", "a.disk", "--every", "0"], 2),
-    (&["wasmhost", "run", "a.disk", "--batch", "0"], 2),
-    (&["wasmhost", "run", "a.disk", "--batch=65536"], 0),
-    (&["wasmhost", "run", "a.disk", "--batch=65537"], 2),
-    (&["wasmhost", "run", "a.disk", "--metrics", "a.prom"], 0),
-    (&["wasmhost", "run", "a.disk", "--metrics"], 2),
-    (&["wasmhost", "run", "a.disk", "--", "b"], 2),
-    (&["wasmhost", "show", "a.disk"], 0),
-    (&["wasmhost", "show"], 2),
-    (&["wasmhost", "inspect", "a.disk"], 0),
-    (&["wasmhost", "inspect", "a.disk", "a"], 2),
-    (&["wasmhost", "inspect", "a.disk", "--json"], 0),
-    (&["wasmhost", "show", "a.disk", "--json"], 2),
-    (&["wasmhost", "files", "a.disk"], 0),
-    (&["wasmhost", "files", "a.disk", "a/b"], 0),
-    (&["wasmhost", "files"], 2),
-    (&["wasmhost", "history", "a.disk"], 0),
-    (&["wasmhost", "history", "a.disk", "--story"], 0),
-    (&["wasmhost", "history"], 2),
-    (&["wasmhost", "upgrade", "a.disk"], 0),
-    (&["wasmhost", "upgrade"], 2),
-    (&["wasmhost", "save", "a.disk", "b.disk"], 0),
-    (&["wasmhost", "save", "a.disk"], 2),
-    (&["wasmhost", "story", "a.story", "a.wasm"], 0),
-    (&["wasmhost", "story"], 2),
-    (&["wasmhost", "story", "a.story"], 2),
-    (&["wasmhost", "story", "a.story", "a.wasm", "b"], 2),
-    (&["wasmhost", "story", "a.story", "a.wasm", "--pages=a"], 2),
+    (&["wasmhost", "create", "b.disk", "a.wasm", "--from"], Usage),
+    (&["wasmhost", "create", "--help"], Done),
+    (&["wasmhost", "run"], Usage),
+    (&["wasmhost", "run", "-h"], Done),
+    (&["wasmhost", "run", "a.disk", "--fuel", "0"], Usage),
+    (&["wasmhost", "run", "a.disk", "--every", "0"], Usage),
+    (&["wasmhost", "run", "a.disk", "--batch", "0"], Usage),
+    (&["wasmhost", "run", "a.disk", "--batch=65536"], Done),
+    (&["wasmhost", "run", "a.disk", "--batch=65537"], Usage),
+    (&["wasmhost", "run", "a.disk", "--metrics", "a.prom"], Done),
+    (&["wasmhost", "run", "a.disk", "--metrics"], Usage),
+    (&["wasmhost", "run", "a.disk", "--", "b"], Usage),
+    (&["wasmhost", "show", "a.disk"], Done),
+    (&["wasmhost", "show"], Usage),
+    (&["wasmhost", "inspect", "a.disk"], Done),
+    (&["wasmhost", "inspect", "a.disk", "a"], Usage),
+    (&["wasmhost", "inspect", "a.disk", "--json"], Done),
+    (&["wasmhost", "show", "a.disk", "--json"], Usage),
+    (&["wasmhost", "files", "a.disk"], Done),
+    (&["wasmhost", "files", "a.disk", "a/b"], Done),
+    (&["wasmhost", "files", "a.disk", "--all", "b"], Done),
+    (&["wasmhost", "files", "a.disk", "a", "--all", "b"], Usage),
+    (&["wasmhost", "files"], Usage),
+    (&["wasmhost", "history", "a.disk"], Done),
+    (&["wasmhost", "history", "a.disk", "--story"], Done),
+    (&["wasmhost", "history"], Usage),
+    (&["wasmhost", "upgrade", "a.disk"], Done),
+    (&["wasmhost", "upgrade"], Usage),
+    (&["wasmhost", "save", "a.disk", "b.disk"], Done),
+    (&["wasmhost", "save", "a.disk", "b.disk", "--live"], Done),
+    (&["wasmhost", "save", "a.disk"], Usage),
+    (&["wasmhost", "story", "a.story", "a.wasm"], Done),
+    (&["wasmhost", "story"], Usage),
+    (&["wasmhost", "story", "a.story"], Usage),
+    (&["wasmhost", "story", "a.story", "a.wasm", "b"], Usage),
+    (
+        &["wasmhost", "story", "a.story", "a.wasm", "--pages=a"],
+        Usage,
+    ),
     (
         &["wasmhost", "story", "a.story", "a.wasm", "--fuel", "1"],
-        2,
+        Usage,
     ),
-    (&["wasmhost", "story", "--help"], 0),
-    (&["wasmhost", "--help"], 0),
+    (&["wasmhost", "story", "--help"], Done),
+    (&["wasmhost", "--help"], Done),
 ];
 
-fn status_of(read: &Result<Order<'_>, WordsFault>) -> u8 {
+fn status_of(read: &Result<Order<'_>, WordsFault>) -> Status {
     match read {
-        Ok(_) => 0,
+        Ok(_) => Done,
         Err(fault) => fault.status(),
     }
 }
@@ -249,7 +259,7 @@ fn is_story(order: &StoryOrder<'_>, meant: &Meant) -> bool {
 fn is_meant(order: &Order<'_>, meant: &Meant) -> bool {
     match order {
         Order::Check(order) => matches!(meant, Meant::Check(wanted) if order.path == *wanted),
-        Order::Show { path } => matches!(meant, Meant::Show(wanted) if path == wanted),
+        Order::Show { path, .. } => matches!(meant, Meant::Show(wanted) if path == wanted),
         Order::Create(order) => is_creation(order, meant),
         Order::Run(order) => is_run(order, meant),
         Order::Story(order) => is_story(order, meant),
