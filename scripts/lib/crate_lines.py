@@ -22,8 +22,10 @@ def crates():
     return {name: [it for it in words if it in named] for name, words in named.items()}
 
 
-def below(direct):
+def below():
     """By crate all crates that it uses, directly or not, each after its own."""
+    direct = crates()
+
     def reached(name, found):
         for it in direct[name]:
             if it not in found:

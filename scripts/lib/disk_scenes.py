@@ -14,7 +14,7 @@ from model.chacha import taken
 from model.disk_form import (
     END, MONOTONIC, ONE, RANDOM, REALTIME, REQUEST, SECTOR, TWO, Form, echo_image, record)
 from lib.guest_runs import ECHO, printed, request_lines
-from lib.small_modules import EXITS, TRAPS
+from lib.small_modules import EXITS, TRAPS, frame_lines
 from lib.disk_steps import (
     ANYTHING, ANY_TEXTS, Bytes, Command, EXISTS, FOLDER, FRESH, LEAST, Locked, MISSING, NoFile,
     PAGES, SMALL, SameFacts, TOO_LARGE, UNENDED, busy, counted, created, disk_of, field, filled,
@@ -477,15 +477,15 @@ def trap_file(number):
     return f"trap{number}.wasm"
 
 
-def trap_scene(number, name, module, steps):
-    """A scene of a worker that traps, and stays so."""
+def trap_scene(number, name, module, steps, frames):
+    """A scene of a worker that traps, and stays so. Its frames are told once."""
     form_of = Form(module, 1, 1, 64)
     disk = form_of.created(form.fresh_image())
     form_of.commit(disk, 2, form.fresh_image())
     form_of.commit(disk, 3, form.trapped_image(steps, number))
     words = f"trapped {name}\n"
     return words.strip(), [
-        created(trap_file(number), total=form_of.total), runs(b"1 r a\n", "", words),
+        created(trap_file(number), total=form_of.total), runs(b"1 r a\n", "", words + frame_lines(frames)),
         Bytes(bytes(disk)), shows(counted(3, steps, 0, 0, 0)), inspected("nothing"), SameFacts(),
         runs(b"1 r a\nnothing", "", words), shows(counted(5, steps, 0, 0, 0))]
 

@@ -12,12 +12,16 @@ import subprocess
 import time
 
 from lib.guest_runs import SECONDS, scratch
+from lib.not_tried import not_tried
+
+# A user who isn't root, and has no file here.
+NOBODY = 65_534
 
 
 @dataclasses.dataclass
 class Step:
-    """A command, how it has to end, and the files that it may make or change. Of one that is killed
-    nothing is compared but that."""
+    """A command, how it has to end, and the files that it may make or change. An output that is
+    None may be any. Of one that is killed nothing is compared but that."""
 
     words: list
     status: int = 0
@@ -54,10 +58,26 @@ class Front:
 
 
 @dataclasses.dataclass
+class Tree:
+    """All that a folder must have, by paths from it on: files with their bytes, folders with
+    None."""
+
+    path: str
+    wanted: dict
+
+
+@dataclasses.dataclass
 class Locked:
     """A step, while somebody else has the lock of a disk."""
 
     path: str
+    step: Step
+
+
+@dataclasses.dataclass
+class AsNobody:
+    """A step of a user who isn't root, and may only read here."""
+
     step: Step
 
 
@@ -81,6 +101,21 @@ def written(path, data):
 def linked(path, to):
     """A symbolic link."""
     return Act(lambda folder: os.symlink(to, os.path.join(folder, path)))
+
+
+def allowed(path, mode):
+    """Other permissions of a file, or of a folder that is made where there is none."""
+    def act(folder):
+        place = os.path.join(folder, path)
+        if not os.path.exists(place):
+            os.mkdir(place)
+        os.chmod(place, mode)
+    return Act(act)
+
+
+def nobody():
+    """How a command is begun by that user, where this one is root."""
+    return {"user": NOBODY, "group": NOBODY, "extra_groups": []} if os.geteuid() == 0 else {}
 
 
 def cut_to(path, length):
@@ -113,6 +148,17 @@ def content(path):
         return file.read()
 
 
+def all_below(top):
+    """All that is in a folder and below, by paths from it on. A folder has None."""
+    found = {}
+    for at, folders, files in os.walk(top):
+        for name in [*folders, *files]:
+            path = os.path.join(at, name)
+            is_folder = stat.S_ISDIR(os.lstat(path).st_mode)
+            found[os.path.relpath(path, top)] = None if is_folder else content(path)
+    return found
+
+
 class Stage:
     """A folder with the modules, and what is done in it."""
 
@@ -126,37 +172,55 @@ class Stage:
         """All that is in the folder."""
         return {it: content(os.path.join(self.folder, it)) for it in os.listdir(self.folder)}
 
-    def ended(self, step):
-        """How a command ends: status, output and error output. One that is killed runs for a
-        moment."""
+    def wait_for_change(self, before):
+        """Waits until the folder has other contents, or until that takes too long."""
+        end = time.monotonic() + SECONDS
+        while self.contents() == before and time.monotonic() < end:
+            time.sleep(0.01)
+
+    def ended(self, step, **user):
+        """How a command ends: status, output and error output. One that is killed runs for a moment
+        after it has changed a file."""
         with contextlib.ExitStack() as stack:
             pipes = {"stdout": subprocess.PIPE, "stderr": subprocess.PIPE}
             if step.into:
                 pipes["stdout"] = stack.enter_context(open(step.into, "wb"))
             if step.is_killed:
+                before = self.contents()
                 ran = stack.enter_context(subprocess.Popen(
                     [self.program, *step.words], cwd=self.folder, stdin=subprocess.PIPE, **pipes))
+                self.wait_for_change(before)
                 time.sleep(0.5)
                 ran.kill()
                 return step.status, step.out, step.err
             ran = subprocess.run([self.program, *step.words], cwd=self.folder, check=False,
-                                 timeout=SECONDS, input=step.given, **pipes)
+                                 timeout=SECONDS, input=step.given, **pipes, **user)
         return ran.returncode, ran.stdout or b"", ran.stderr
 
-    def step_fault(self, step):
+    def step_fault(self, step, **user):
         """What is wrong with a command, or none."""
         before = self.contents()
-        found, after = self.ended(step), self.contents()
+        found, after = self.ended(step, **user), self.contents()
         wanted = [step.status, *(
             it.encode() if isinstance(it, str) and not step.is_killed else it
             for it in (step.out, step.err))]
-        if [*found] != wanted:
+        if any(it not in (None, met) for it, met in zip(wanted, found)):
             return f"{step.words}: {[*found]}, wanted {wanted}"[:1_000]
         changed = {it for it in {*before, *after} if before.get(it) != after.get(it)}
         if not changed <= {*step.changes}:
             return f"{step.words}: it has changed {changed - {*step.changes}}"
         lacking = [it for it in step.changes if it not in after]
         return f"{step.words}: there is no {lacking}" if lacking else None
+
+    def nobody_fault(self, step):
+        """What is wrong with a command of a user who may only read, or none."""
+        os.chmod(self.folder, 0o755)
+        try:
+            return self.step_fault(step, **nobody())
+        except PermissionError as why:
+            not_tried("program-rows", f"the program can't be run as another user: {why}",
+                      f"{step.words[0]} without permission to write")
+            return None
 
     def show_fault(self, path, words):
         """What is wrong with a command that reads a disk which `show` refuses, or none."""
@@ -172,6 +236,8 @@ class Stage:
         match step:
             case Step():
                 return self.step_fault(step)
+            case AsNobody(behind):
+                return self.nobody_fault(behind)
             case AsShow(path, words):
                 return self.show_fault(path, words)
             case Act(act):
@@ -179,6 +245,10 @@ class Stage:
             case Bytes(path, wanted):
                 found = content(os.path.join(self.folder, path))
                 return None if found == wanted else f"{path} has other bytes"
+            case Tree(path, wanted):
+                found = all_below(os.path.join(self.folder, path))
+                paths = [it for it in {*found, *wanted} if found.get(it, 0) != wanted.get(it, 0)]
+                return f"{path}: it has others than wanted: {sorted(paths)}" if paths else None
             case Front(path, whole, length):
                 found, other = (content(os.path.join(self.folder, it)) for it in (path, whole))
                 return None if found == other[:length] else f"{path} has other bytes than {whole}"

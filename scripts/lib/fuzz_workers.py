@@ -57,7 +57,7 @@ def modules():
     found = {"echo": ECHO, "hello": read("crates", "wasmhost", "data", "hello.wasm")}
     found |= {"asks": asks(), "nested": nested()}
     found |= {f"small {number}": it for number, it in enumerate(ACCEPTED)}
-    found |= {name: module for name, module, _ in TRAPS}
+    found |= {name: module for name, module, *_ in TRAPS}
     for folder in ("examples", "bench"):
         names = sorted(it for it in os.listdir(os.path.join(ROOT, folder)) if it.endswith(".wasm"))
         found |= {name: read(folder, name) for name in names}

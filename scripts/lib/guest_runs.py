@@ -16,8 +16,8 @@ EXAMPLES = os.path.join(ROOT, "examples")
 # recovery that wants memory, or a call of the worker (N4).
 NO_MEMORY, WANT_OF_MEMORY = 5, re.compile(rb"failed ([A-Z][0-9]) Memory\n")
 
-# How long one run may take.
-SECONDS = 60
+# How long one run may take: much longer than any does, on however slow a machine.
+SECONDS = 300
 
 # A folder in memory, where syncs cost nothing, and how many bytes have to be free there.
 IN_MEMORY, FREE = "/dev/shm", 1 << 30

@@ -34,7 +34,7 @@ static long refused = 0;
 
 // The files of a child's outputs and of all ends, and whether each allocation is refused. A child
 // has so many seconds.
-enum { LONGEST_PATH = 512, SECONDS = 60 };
+enum { LONGEST_PATH = 512, SECONDS = 600 };
 static char output_paths[2][LONGEST_PATH], ends_path[LONGEST_PATH];
 static int is_each_refused = 0;
 

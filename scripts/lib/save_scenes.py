@@ -4,11 +4,15 @@ import os
 
 from lib.disk_steps import SMALL
 from lib.folder_scenes import (
-    Act, AsShow, Front, Locked, Step, cut_to, damaged, linked, moved, written)
+    Act, AsNobody, AsShow, Front, Locked, Step, Tree, allowed, cut_to, damaged, linked, moved,
+    written)
 from lib.guest_runs import ECHO, EXAMPLES
 from model.disk_form import SECTOR, TWO, Form
 
 DISK, COPY = "worker.disk", "copy.disk"
+
+# The longest path that the system takes, behind many dots.
+LONGEST = f"{'./' * 2_043}{COPY}"
 
 with open(os.path.join(EXAMPLES, "notebook.wasm"), "rb") as opened:
     NOTEBOOK = opened.read()
@@ -19,6 +23,7 @@ MODULES = {"echo.wasm": ECHO, "notebook.wasm": NOTEBOOK}
 LEAST, LONGER, USUAL = SMALL.total, Form(ECHO, 1, 1, 133).total, Form(NOTEBOOK, 16, 16, 256).total
 
 EXISTS, MISSING, FOLDER = "file exists", "no such file or directory", "is a directory"
+LONG, FORBIDDEN = "file name too long", "permission denied"
 BUSY = "another host is using this disk"
 
 
@@ -107,6 +112,9 @@ COPIES = [
         created(), longer(), saves(), same(), saves(disk=COPY, copy="again"),
         Front("again", COPY)]),
     ("a disk that a link leads to", [created(), linked("link", DISK), saves(disk="link"), same()]),
+    ("the longest path", [
+        created(), Step(["save", DISK, LONGEST], out=f"saved {LEAST} sectors\n", changes=(COPY,)),
+        same()]),
     ("what was refused can be called again", [
         created(), written(COPY, b""), unopened(COPY, EXISTS), moved(COPY, "mine"), saves(),
         same()]),
@@ -124,7 +132,14 @@ REFUSED = [
     ("the copy can't be made", [
         created(), *(unopened(path, why, copy=path) for path, why in (
             ("missing/copy", MISSING), ("", MISSING), ("echo.wasm/a", "not a directory"),
-            ("a/", FOLDER), ("x" * 256, "file name too long")))]),
+            ("a/", FOLDER), ("x" * 256, LONG), (f"./{LONGEST}", LONG)))]),
+    ("who may not write makes no copy", [
+        created(), allowed(DISK, 0o666), allowed("closed", 0o555),
+        *(AsNobody(unopened(it, FORBIDDEN, copy=it)) for it in ("closed/copy", COPY))]),
+    # A new entry isn't made durable where its folder can't be read.
+    ("who may write to a folder and not read it makes no copy", [
+        created(), allowed(DISK, 0o666), allowed("hidden", 0o333),
+        AsNobody(unopened("hidden/copy", FORBIDDEN, copy="hidden/copy")), Tree("hidden", {})]),
     ("another worker's disk stays", [
         created(), saves(), runs(b"1 r a\n", "1 o a\n", disk=COPY), unopened(COPY, EXISTS)]),
     ("somebody else has the disk", [

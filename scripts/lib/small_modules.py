@@ -230,20 +230,41 @@ ACCEPTED = [
     calls_from_table(b"", elements=[behind(0) + wasm.vector([wasm.unsigned(0)])]),
 ]
 
-# The traps by their numbers, from 1 on: the name, a module that comes to it, and after how many
-# steps. The one that traps counts.
+# As many frames as a run tells of a worker that has trapped.
+TOLD_FRAMES = 32
+
+
+def frame_lines(frames):
+    """What a run says of frames, the innermost one first: of each the number of its function, the
+    position of an opcode in the body, and a name or none."""
+    lines = [f"at function {number}{f' ({name})' if name else ''}, opcode {position}\n"
+             for number, position, name in frames]
+    told, more = "".join(lines[:TOLD_FRAMES]), len(lines) - TOLD_FRAMES
+    return told + (f"and {more} more frame{'s' * (more > 1)}\n" if more > 0 else "")
+
+
+def first_at(position):
+    """The frames of a module whose only function traps at this opcode."""
+    return [(0, position, None)]
+
+
+# The traps by their numbers, from 1 on: the name, a module that comes to it, after how many steps,
+# and its frames. The step that traps counts.
 TRAPS = [
-    ("unreachable", small(wasm.UNREACHABLE), 1),
-    ("integer divide by zero", small(wasm.i32(1) + wasm.i32(0) + I32_DIV_S + wasm.DROP), 3),
-    ("integer overflow", small(wasm.i32(-(1 << 31)) + wasm.i32(-1) + I32_DIV_S + wasm.DROP), 3),
-    ("out of bounds memory access", small(wasm.i32(-1) + I32_LOAD + b"\x02\x01" + wasm.DROP), 2),
-    ("undefined element", calls_from_table(called(1, 0)), 2),
-    ("uninitialized element", calls_from_table(called(0, 0)), 2),
+    ("unreachable", small(wasm.UNREACHABLE), 1, first_at(0)),
+    ("integer divide by zero", small(wasm.i32(1) + wasm.i32(0) + I32_DIV_S + wasm.DROP), 3,
+     first_at(2)),
+    ("integer overflow", small(wasm.i32(-(1 << 31)) + wasm.i32(-1) + I32_DIV_S + wasm.DROP), 3,
+     first_at(2)),
+    ("out of bounds memory access", small(wasm.i32(-1) + I32_LOAD + b"\x02\x01" + wasm.DROP), 2,
+     first_at(1)),
+    ("undefined element", calls_from_table(called(1, 0)), 2, first_at(1)),
+    ("uninitialized element", calls_from_table(called(0, 0)), 2, first_at(1)),
     ("indirect call type mismatch", calls_from_table(
         wasm.i32(0) + called(0, 1), types=[NOTHING, TAKES_ONE],
-        elements=[behind(0) + wasm.vector([wasm.unsigned(0)])]), 3),
+        elements=[behind(0) + wasm.vector([wasm.unsigned(0)])]), 3, first_at(2)),
     # The call that would make frame 513.
-    ("stack exhausted", small(wasm.CALL + wasm.unsigned(0)), 512),
+    ("stack exhausted", small(wasm.CALL + wasm.unsigned(0)), 512, first_at(0) * 512),
 ]
 
 # Where `ASKS` keeps its times, its random bytes and their newline, and the count of what it wrote.

@@ -435,11 +435,13 @@ NEVER = str(1 << 62)
 # A guest in an endless loop, and the steps of a slice of it.
 SPINS, FUEL = small(b"\x03\x40\x0c\x00\x0b"), 1_000
 
-# The line of such a guest after whole slices. By how many seconds two of them may be apart, and how
-# many are looked at.
-SPINNING = re.compile(rb"generation 2 steps ([0-9]+)000 answers 0 lines 0 requests 0 "
+# The line of such a guest after whole slices, and how many lines are looked at.
+SPINNING = re.compile(rb"generation 3 steps (0|[0-9]+000) answers 0 lines 0 requests 0 "
                       rb"journal_left 64 running\n")
-APART, LOOKS = 3, 4
+LOOKS = 5
+
+# For how many seconds a file is looked at that has to stay as it is.
+STILL = 3
 
 # Draws, looks at both clocks and reads a request, and does all that again. It writes seven lines up
 # to the first request, and six from there to the next one.
@@ -447,9 +449,9 @@ OUTSIDE = re.compile(rb"generation 3 steps [0-9]+ answers 7 lines 13 requests 1 
                      rb"journal_left 64 parked\n")
 
 
-def moved(path, seen_last):
-    """The next bytes of a file that aren't these, or none where it stays as it is too long."""
-    end = time.monotonic() + APART
+def moved(path, seen_last, seconds=SECONDS):
+    """The next bytes of a file that aren't these, or none where it stays as it is so long."""
+    end = time.monotonic() + seconds
     while time.monotonic() < end:
         with contextlib.suppress(FileNotFoundError), open(path, "rb") as file:
             found = file.read()
@@ -460,19 +462,21 @@ def moved(path, seen_last):
 
 
 def spinning_fault(program):
-    """What is wrong with the file of a guest in an endless loop: its steps grow."""
+    """What is wrong with the file of a guest in an endless loop. It is there before the first slice
+    ends, and then its steps grow."""
+    first, found = stands(2, 0, 0, 0), []
     with stage(program, {"spins.wasm": filled(SPINS)}) as folder:
         ended_in(folder, [program, "create", "spins.disk", "spins.wasm", *LEAST])
-        words = "spins.disk", "--status", FILE, "--fuel", str(FUEL), "--every", NEVER
-        with begun(program, folder, *words):
-            path = os.path.join(folder, FILE)
-            found = [comes_to(path, stands(2, 0, 0, 0))]
-            found += [moved(path, found[-1])]
-            while len(found) < LOOKS and found[-1]:
-                found.append(moved(path, found[-1]))
-    steps = [SPINNING.fullmatch(it or b"") for it in found[1:]]
-    if found[0] != stands(2, 0, 0, 0) or None in steps:
-        return f"status file of a guest in an endless loop: {found}"
+        path = os.path.join(folder, FILE)
+        words = "spins.disk", "--status", FILE, "--every", NEVER, "--fuel"
+        with begun(program, folder, *words, NEVER):
+            before = comes_to(path, first)
+        with begun(program, folder, *words, str(FUEL)):
+            while len(found) < LOOKS and None not in found:
+                found.append(moved(path, [first, *found][-1]))
+    steps = [SPINNING.fullmatch(it or b"") for it in found]
+    if before != first or None in steps:
+        return f"status file of a guest in an endless loop: {before}, {found}"
     counts = [int(it[1]) for it in steps]
     return None if counts == sorted(set(counts)) else f"steps of an endless loop: {counts}"
 
@@ -492,7 +496,7 @@ def still_fault(program):
             with begun(program, folder, *words) as run:
                 found = comes_to(path, before)
                 first = seen(path)
-                is_still = moved(path, found) is None and seen(path) == first
+                is_still = moved(path, found, STILL) is None and seen(path) == first
                 out, second = told(run, b"1 r a\n"), comes_to(path, behind)
                 end, last = over(run), seen(path).content
         result = found, is_still, out, second, end, last

@@ -222,7 +222,8 @@ GOING_ON = [
         runs(b"1 r a\n2 e\n3 r b\n", "2 o b\n", disk=NEW)]),
     ("one that has trapped: the request is taken", [
         created("risky.wasm"), runs(b"1 r a\n2 r z\n3 r c\n", "1 o a\n",
-                                    "trapped unreachable\nrequests not taken: 1\n"),
+                                    "trapped unreachable\nat function 2, opcode 17\n"
+                                    "requests not taken: 1\n"),
         succeeds(2, 1), runs(b"1 r a\n2 r z\n3 r z\n", "2 o z\n", disk=NEW)]),
     ("one of version 2, whose widening counts as an answer once more", [
         created(sizes=LONGER), runs(b"1 r a\n", "1 o a\n"), upgraded(),

@@ -14,7 +14,7 @@ INDENT, PROMPT = "    ", "$ "
 HEREDOC = re.compile(r"<<'?(\w+)")
 
 # How long one command may take.
-SECONDS = 300
+SECONDS = 1_200
 
 
 @dataclasses.dataclass
