@@ -24,7 +24,8 @@ ghost use Rattle.disk_commands.specs.laws.Copied.{CopiesStandForTheSame};
 ghost use Rattle.disk_commands.specs.laws.Copied.{SavedFilesStandForTheSame};
 ghost use Rattle.disk_commands.specs.laws.DiskCauses.{RefusalsHaveReasons, StatusesHaveCauses};
 ghost use Rattle.disk_commands.specs.laws.LargestDisks.{LargestDisksArePictured};
-ghost use Rattle.disk_commands.specs.laws.Released.{ReleasedLinesArePrinted, UnwrittenIsAFailedWrite};
+ghost use Rattle.disk_commands.specs.laws.Released.{ReleasedLinesArePrinted};
+ghost use Rattle.disk_commands.specs.laws.Released.{UnwrittenIsAFailedWrite};
 ghost use Rattle.disk_commands.specs.rules.ServedOnDisk.{handing};
 
 use record_replay::Outlet;
