@@ -5,8 +5,7 @@ use Rattle.std.specs.Prelude.{Ok, Err, reverse, map, slice_get}
 use Rattle.wasm_syntax.specs.declared.value.Value.{Value}
 use Rattle.wasm_syntax.specs.declared.module.Module.{Module}
 use Rattle.wasm_rules.specs.Types.{number_in}
-use Rattle.wasm_rules.specs.Configuration.{Configuration, Thread, Outcome, Goes, Traps, Asks}
-use Rattle.wasm_rules.specs.Configuration.{Stuck}
+use Rattle.wasm_rules.specs.Configuration.{Configuration, Thread, Outcome, Goes, Traps, Asks, Stuck}
 use Rattle.wasm_rules.specs.Steps.{counted_step, stopped, IsEnded}
 use Rattle.wasi_abi.specs.declared.answer.Answer.{Answer}
 use Rattle.wasi_abi.specs.declared.answer.Answer.TheVariants as answer

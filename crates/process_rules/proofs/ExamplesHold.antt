@@ -7,8 +7,7 @@ use Rattle.wasm_syntax.specs.declared.instruction.Instruction.{Instruction}
 use Rattle.wasm_syntax.specs.declared.instruction.Instruction.TheVariants as instr
 use Rattle.wasm_syntax.specs.rules.Sequence.{Sequence, Stop, Plain, Spells}
 use Rattle.wasm_syntax.specs.laws.Examples.{hello, idle, idle_with_code, no_type}
-use Rattle.wasm_rules.specs.Configuration.{Own, Configuration, Thread, LabelOf, FrameOf}
-use Rattle.wasm_rules.specs.Configuration.{Main}
+use Rattle.wasm_rules.specs.Configuration.{Own, Configuration, Thread, LabelOf, FrameOf, Main}
 use Rattle.wasm_rules.specs.laws.Examples.{program_of_hello as hello_program, hello_sequence}
 use Rattle.wasm_rules.specs.laws.Examples.{in_hello, rest_behind_call, const_32, v}
 use Rattle.wasm_rules.specs.Instantiation.{filled_memory, empty_memory}

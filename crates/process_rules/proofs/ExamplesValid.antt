@@ -13,8 +13,7 @@ use Rattle.wasm_syntax.specs.laws.Examples.{no_type, transfer_type, exit_type, o
 use Rattle.wasm_syntax.specs.laws.Examples.{exports_from}
 use Rattle.wasm_rules.specs.laws.Examples.{hello_sequence, rest_behind_call}
 use Rattle.wasm_rules.specs.Typing.{Context, HasType, body_context}
-use Rattle.wasm_rules.specs.Validity.{IsValid, IsMemoryTypeValid, HaveDistinctNames}
-use Rattle.wasm_rules.specs.Validity.{module_context}
+use Rattle.wasm_rules.specs.Validity.{IsValid, IsMemoryTypeValid, HaveDistinctNames, module_context}
 
 pub page_is_valid : AllByRecursion IsMemoryTypeValid (one_page ∷ [])
 page_is_valid = ((lit≤ tt, tt), tt)

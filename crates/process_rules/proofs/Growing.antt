@@ -5,8 +5,7 @@ use Rattle.std.specs.Prelude.{Ok, Err, reverse, map, slice_get}
 use Rattle.wasm_syntax.specs.declared.module.Module.{Module}
 use Rattle.wasm_syntax.specs.declared.value.Value.{Value}
 use Rattle.wasm_rules.specs.Types.{number_in}
-use Rattle.wasm_rules.specs.Configuration.{Configuration, Thread, Outcome, Goes, Traps, Asks}
-use Rattle.wasm_rules.specs.Configuration.{Stuck}
+use Rattle.wasm_rules.specs.Configuration.{Configuration, Thread, Outcome, Goes, Traps, Asks, Stuck}
 use Rattle.wasm_rules.specs.Steps.{counted_step}
 use Rattle.wasi_abi.specs.declared.answer.Answer.{Answer}
 use Rattle.wasi_abi.specs.declared.call.Call.{Call}
@@ -21,8 +20,7 @@ use Rattle.process_rules.specs.Processes.{ProcessState, Guest, IsStart, closed, 
 use Rattle.process_rules.specs.Origins.{succeeding}
 use Rattle.process_rules.specs.Runs.{Next, On, Over, Wants, Nowhere, after_call_rule, after_call}
 use Rattle.process_rules.specs.Runs.{after_counted_step, next_of, stepped, LeadsTo, Moves, none}
-use Rattle.process_rules.specs.Runs.{step, take}
-use Rattle.process_rules.specs.Runs.{widened, widen, succeed}
+use Rattle.process_rules.specs.Runs.{step, take, widened, widen, succeed}
 use Rattle.process_rules.specs.laws.Laws.{RunsCount, RunsEmit}
 
 pub emits_on : (g h k : WasiState) → Emits g h → Emits h k → Emits g k

@@ -22,9 +22,8 @@ use Rattle.wasm_syntax.specs.declared.module.Data.{Data}
 use Rattle.wasm_syntax.specs.rules.Sequence.{Sequence, Plain, InBlock, InLoop, InIf, InIfElse}
 use Rattle.guest_memory.specs.rules.Bytes.{IsByte, bytes_of, page_size, part, with_part}
 use Rattle.guest_memory.proofs.Lists.{all_both, all_take, all_drop, all_replicate, bytes_are}
-use Rattle.wasm_rules.specs.Types.{loaded_type, stored_type, stored_width, bytes_in}
-use Rattle.wasm_rules.specs.Types.{gives_of, takes_of, conversion_takes}
-use Rattle.wasm_rules.specs.Types.{is_same_function_type}
+use Rattle.wasm_rules.specs.Types.{loaded_type, stored_type, stored_width, bytes_in, gives_of}
+use Rattle.wasm_rules.specs.Types.{takes_of, conversion_takes, is_same_function_type}
 use Rattle.wasm_rules.specs.Validity.{IsDataValid, IsValid, memories_of}
 use Rattle.wasm_rules.specs.Configuration.{Callee, Imported, Own, Program, Store, Label}
 use Rattle.wasm_rules.specs.Configuration.{Frame, FrameOf, Thread, Configuration}
@@ -34,8 +33,7 @@ use Rattle.wasm_rules.specs.Effects.{with_result, load_at, store_at, pages_of, g
 use Rattle.wasm_rules.specs.Effects.{copied_at, filled_at, with_written}
 use Rattle.wasm_rules.specs.Instantiation.{offset_of, with_segment, filled_memory}
 use Rattle.wasm_rules.specs.Instantiation.{empty_memory, Begins}
-use Rattle.wasm_rules.specs.Steps.{where_some, topmost, branch, is_exhausted, entered}
-use Rattle.wasm_rules.specs.Steps.{called}
+use Rattle.wasm_rules.specs.Steps.{where_some, topmost, branch, is_exhausted, entered, called}
 use Rattle.wasm_rules.specs.Steps.{calls, signature_of, calls_entry, after_effect, execute}
 use Rattle.wasm_rules.specs.Steps.{counted_step_of, counted_step, exited, begun, exited_by}
 use Rattle.wasm_rules.specs.Steps.{ReducesTo, here, on}

@@ -10,8 +10,7 @@ use Rattle.wasm_syntax.specs.declared.module.ExportItem.{ExportItem}
 use Rattle.wasm_syntax.specs.declared.module.ExportItem.TheVariants as export
 use Rattle.wasm_rules.specs.Validity.{HaveDistinctNames, IsValid}
 use Rattle.wasm_rules.specs.Configuration.{Program, Store, Configuration}
-use Rattle.wasm_rules.specs.Instantiation.{IsProgram}
-use Rattle.wasm_rules.specs.Instantiation.{calls_of, Begins}
+use Rattle.wasm_rules.specs.Instantiation.{IsProgram, calls_of, Begins}
 use Rattle.wasm_rules.specs.Steps.{ReducesTo}
 use Rattle.wasm_rules.specs.Linking.{Exports}
 use Rattle.wasm_rules.proofs.OneProgram.{one_program}
@@ -20,7 +19,7 @@ use Rattle.wasm_rules.proofs.OneStore.{store_once}
 use Rattle.wasi_abi.specs.declared.call.Call.{Call}
 use Rattle.wasi_abi.specs.declared.call.Call.TheVariants as call
 use Rattle.wasi_abi.specs.rules.Configs.{Settings}
-use Rattle.wasi_abi.specs.rules.Calls.{name_of, all_calls}
+use Rattle.wasi_abi.specs.rules.Calls.{name_of}
 use Rattle.file_tree.specs.rules.Files.{is_same_name}
 use Rattle.process_rules.specs.Processes.{ProcessState, Guest, AreCalls, IsStart, closed, host_of}
 use Rattle.wasi_abi.proofs.CallLemmas.{name_of-injective as one_name}
@@ -36,39 +35,6 @@ program_once m pages p q a b = one_program m pages pages p q a b (a.most_pages �
 abbrev pub named : List Call → List ℕ → Option Call
 named [] name = None
 named (c ∷ calls) name = if is_same_name (name_of c) name then Some c else named calls name
-
-found : (c : Call) → named all_calls (name_of c) ≡ Some c
-found call.ArgsGet = refl
-found call.ArgsSizesGet = refl
-found call.EnvironGet = refl
-found call.EnvironSizesGet = refl
-found call.ClockResGet = refl
-found call.ClockTimeGet = refl
-found call.FdClose = refl
-found call.FdDatasync = refl
-found call.FdFdstatGet = refl
-found call.FdFdstatSetFlags = refl
-found call.FdFilestatGet = refl
-found call.FdFilestatSetSize = refl
-found call.FdPread = refl
-found call.FdPrestatGet = refl
-found call.FdPrestatDirName = refl
-found call.FdPwrite = refl
-found call.FdRead = refl
-found call.FdReaddir = refl
-found call.FdSeek = refl
-found call.FdSync = refl
-found call.FdTell = refl
-found call.FdWrite = refl
-found call.PathCreateDirectory = refl
-found call.PathFilestatGet = refl
-found call.PathOpen = refl
-found call.PathRemoveDirectory = refl
-found call.PathRename = refl
-found call.PathUnlinkFile = refl
-found call.ProcExit = refl
-found call.SchedYield = refl
-found call.RandomGet = refl
 
 pub calls_once : (imports : List Import) (a b : List Call) → AreCalls imports a → AreCalls imports b
     → a ≡ b

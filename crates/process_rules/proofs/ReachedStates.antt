@@ -6,9 +6,8 @@ use Rattle.wasm_syntax.specs.declared.value.Value.{Value}
 use Rattle.wasm_syntax.specs.declared.module.Module.{Module}
 use Rattle.wasm_rules.specs.Types.{number_in}
 use Rattle.wasm_rules.specs.Validity.{IsValid}
-use Rattle.wasm_rules.specs.Configuration.{Configuration, Store, Thread, Outcome}
-use Rattle.wasm_rules.specs.Configuration.{Goes, Traps}
-use Rattle.wasm_rules.specs.Configuration.{Asks, Stuck}
+use Rattle.wasm_rules.specs.Configuration.{Configuration, Store, Thread, Outcome, Goes, Traps, Asks}
+use Rattle.wasm_rules.specs.Configuration.{Stuck}
 use Rattle.wasm_rules.specs.Steps.{counted_step}
 use Rattle.wasi_abi.specs.declared.answer.Answer.{Answer}
 use Rattle.wasi_abi.specs.declared.call.Call.{Call}
@@ -38,9 +37,8 @@ use Rattle.process_rules.specs.Runs.{Next, On, Over, Wants, Nowhere, after_call_
 use Rattle.process_rules.specs.Runs.{after_counted_step, next_of, stepped, LeadsTo, Moves, Kept}
 use Rattle.process_rules.specs.Runs.{widened, Given, Wider, Succeeds, IsWidening, Runs, none, step}
 use Rattle.process_rules.specs.Runs.{take, widen, succeed, version_after}
-use Rattle.process_rules.specs.laws.Laws.{ReachedAreConfigured, NodesAreFew}
-use Rattle.process_rules.specs.laws.Laws.{ReachedVersions, WidenedOnce}
-use Rattle.process_rules.specs.laws.Laws.{ReachedInputIsShort, ReachedHaveWasiStates}
+use Rattle.process_rules.specs.laws.Laws.{ReachedAreConfigured, NodesAreFew, ReachedVersions}
+use Rattle.process_rules.specs.laws.Laws.{WidenedOnce, ReachedInputIsShort, ReachedHaveWasiStates}
 use Rattle.process_rules.proofs.Growing.{move_counts, runs_count, start_counts}
 use Rattle.process_rules.proofs.MemoryKept.{GoesToBytes, step_bytes, reduced_store}
 use Rattle.process_rules.proofs.MemoryKept.{begins_with_bytes}

@@ -39,13 +39,11 @@ use Rattle.wasi_calls_rules.specs.Checks.{Bytes, Refuses, Ends, Asks as Inquires
 use Rattle.wasi_calls_rules.specs.CallRules.{call_rule}
 use Rattle.wasi_calls_rules.proofs.Halting.{exit_alone_ends}
 use Rattle.wasi_calls_rules.proofs.KeepsMemory.{call_rules_keep_memory, call_rules_keep_bytes}
-use Rattle.process_rules.specs.Processes.{ProcessState, Guest, AreCalls}
-use Rattle.process_rules.specs.Processes.{closed_at}
+use Rattle.process_rules.specs.Processes.{ProcessState, Guest, AreCalls, closed_at}
 use Rattle.process_rules.specs.Origins.{succeeding}
 use Rattle.process_rules.specs.Runs.{Next, On, Over, Wants, Nowhere, given_by, after_call_rule}
-use Rattle.process_rules.specs.Runs.{after_call}
-use Rattle.process_rules.specs.Runs.{after_counted_step, next_of, stepped, LeadsTo, Moves, Kept}
-use Rattle.process_rules.specs.Runs.{Runs, none, step, take, widened, widen, succeed}
+use Rattle.process_rules.specs.Runs.{after_call, after_counted_step, next_of, stepped, LeadsTo}
+use Rattle.process_rules.specs.Runs.{Moves, Kept, Runs, none, step, take, widened, widen, succeed}
 use Rattle.process_rules.specs.laws.Laws.{OffersCalls, IsSmallEnding, IsTypedProcess}
 use Rattle.process_rules.specs.laws.Laws.{ReachedAreTyped}
 use Rattle.process_rules.proofs.ReachedStates.{Holds, ProcessHolds, move_holds, widened_holds}

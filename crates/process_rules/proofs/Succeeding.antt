@@ -1,6 +1,5 @@
 -- What goes on from another process, and what it is then.
-use Rattle.std.proofs.Common.{◌≡◌, ℕ, ◌+◌, List, [], ◌∷◌, ◌++◌, Some, None, refl, sym}
-use Rattle.std.proofs.Common.{subst, arith}
+use Rattle.std.proofs.Common.{◌≡◌, ℕ, ◌+◌, List, [], ◌∷◌, ◌++◌, Some, None, refl, sym, subst, arith}
 use Rattle.wasm_syntax.specs.declared.module.Module.{Module}
 use Rattle.wasm_rules.specs.Configuration.{Configuration, Thread}
 use Rattle.wasi_abi.specs.declared.version.Version.TheVariants.{One, Two}

@@ -26,9 +26,7 @@ use Rattle.wasi_calls_rules.specs.Checks.{Bytes}
 use Rattle.wasi_calls_rules.specs.CallRules.{IsSync}
 use Rattle.process_rules.specs.Processes.{ProcessState, Guest, Exited, IsStart, host_of}
 use Rattle.process_rules.specs.Runs.{Kept, Given, Wider, Succeeds, On, Wants, next_of}
-use Rattle.process_rules.specs.Runs.{after_counted_step}
-use Rattle.process_rules.specs.Runs.{Runs}
-use Rattle.process_rules.specs.Runs.{Reaches}
+use Rattle.process_rules.specs.Runs.{after_counted_step, Runs, Reaches}
 use Rattle.process_rules.specs.Behind.{AnswersBehindLine, IsLine, Syncs, AnswersBehindSync}
 use Rattle.process_rules.specs.Behind.{IsNarrowTo}
 use Rattle.process_rules.specs.laws.Examples.{at_rest}

@@ -18,9 +18,8 @@ use Rattle.process_rules.specs.laws.WideningExamples.{HelloIsWidened}
 use Rattle.process_rules.proofs.Along.{Along, last as at_last, goes, known_from_start}
 use Rattle.process_rules.proofs.Ended.{comes}
 use Rattle.process_rules.proofs.ExamplesHold.{first_memory, last_memory, all_memory, hi_line}
-use Rattle.process_rules.proofs.ExamplesHold.{guest_of, after, first, last}
-use Rattle.process_rules.proofs.ExamplesHold.{begins, constant, writes, drops}
-use Rattle.process_rules.proofs.ExamplesHold.{exits, eight, hello_reaches}
+use Rattle.process_rules.proofs.ExamplesHold.{guest_of, after, first, last, begins, constant}
+use Rattle.process_rules.proofs.ExamplesHold.{writes, drops, exits, eight, hello_reaches}
 use Rattle.process_rules.proofs.ExamplesValid.{hello_is_valid}
 use Rattle.process_rules.proofs.OneStart.{start_once}
 use Rattle.process_rules.proofs.Quiet.{runs_join}

@@ -1,8 +1,7 @@
 -- The answers behind a line and behind a guest sync (this project's own). Demands are stated by
 -- covering: so many answers are enough for a line to be emitted, or for a sync to be made.
 use Rattle.std.specs.Prelude.{◌≡◌, ℕ, ◌+◌, ◌≤◌, List, ◌∷◌, length, take, drop, Some, None, Ok}
-use Rattle.std.specs.Prelude.{slice_get}
-use Rattle.std.specs.Prelude.{reverse, map}
+use Rattle.std.specs.Prelude.{slice_get, reverse, map}
 use Rattle.wasm_syntax.specs.declared.value.Value.{Value}
 use Rattle.wasm_syntax.specs.declared.module.Module.{Module}
 use Rattle.wasm_rules.specs.Types.{number_in}

@@ -4,8 +4,7 @@ ghost use Rattle.std.specs.Prelude.{⊤, ◌≡◌, ◌↔◌, ◌≤◌, ◌^�
 ghost use Rattle.wasi_abi.specs.rules.Numbers.{open_flags_number, descriptor_flags_number};
 ghost use Rattle.wasi_abi.specs.rules.Numbers.{has_flag, whence_number};
 ghost use Rattle.wasi_abi.specs.Bits.{bit_of};
-ghost use Rattle.wasi_abi.specs.declared.flags.TheConstants.{ALL_OPEN_FLAGS};
-ghost use Rattle.wasi_abi.specs.declared.flags.TheConstants.{ALL_DESCRIPTOR_FLAGS};
+ghost use Rattle.wasi_abi.specs.declared.flags.TheConstants.{ALL_OPEN_FLAGS, ALL_DESCRIPTOR_FLAGS};
 
 use bitflags::{Flag, Flags, bitflag_items};
 

@@ -38,25 +38,21 @@ use Rattle.wasi_calls_rules.specs.Checks.{Bytes, Halt, Refuses, Ends, Done, Buff
 use Rattle.wasi_calls_rules.specs.Checks.{some_or, flat, open_descriptor, is_stream, a_file}
 use Rattle.wasi_calls_rules.specs.Checks.{names_directory, no_directory, a_directory, node_named}
 use Rattle.wasi_calls_rules.specs.Checks.{with_right, needs, within_rights, in_memory, lent}
-use Rattle.wasi_calls_rules.specs.Checks.{buffers}
-use Rattle.wasi_calls_rules.specs.Checks.{few_buffers, movable, gathered, answered_by, does_fit}
-use Rattle.wasi_calls_rules.specs.Checks.{has_64_bits, has_bytes_alone, has_no_newline}
+use Rattle.wasi_calls_rules.specs.Checks.{buffers, few_buffers, movable, gathered, answered_by}
+use Rattle.wasi_calls_rules.specs.Checks.{does_fit, has_64_bits, has_bytes_alone, has_no_newline}
 use Rattle.wasi_calls_rules.specs.Paths.{WalkEnd, Self, Leaf, formed, node_at}
 use Rattle.wasi_calls_rules.specs.Small.{call_done, with_zeros, texts_get, texts_sizes_get}
 use Rattle.wasi_calls_rules.specs.Small.{clock_res_get, time_put, clock_question, clock_time_get}
 use Rattle.wasi_calls_rules.specs.Small.{fd_close, fd_syncs, fd_fdstat_get, fd_fdstat_set_flags}
 use Rattle.wasi_calls_rules.specs.Small.{fd_filestat_get, roomy, fd_filestat_set_size}
 use Rattle.wasi_calls_rules.specs.Small.{fd_prestat_get, fd_prestat_dir_name, seek_base}
-use Rattle.wasi_calls_rules.specs.Small.{file_offset}
-use Rattle.wasi_calls_rules.specs.Small.{fd_seek, fd_tell, random_put, random_get}
+use Rattle.wasi_calls_rules.specs.Small.{file_offset, fd_seek, fd_tell, random_put, random_get}
 use Rattle.wasi_calls_rules.specs.Moving.{Got, bytes_taken, input_taken, has_bytes, input_read}
 use Rattle.wasi_calls_rules.specs.Moving.{target_read, fd_read, fd_pread, size_after, file_written}
 use Rattle.wasi_calls_rules.specs.Moving.{write_offset, offset_after, target_written, fd_write}
-use Rattle.wasi_calls_rules.specs.Moving.{fd_pwrite}
+use Rattle.wasi_calls_rules.specs.Moving.{fd_pwrite, moved_to}
 use Rattle.wasi_calls_rules.specs.Lines.{output_stream, stream_written}
-use Rattle.wasi_calls_rules.specs.Moving.{moved_to}
-use Rattle.wasi_calls_rules.specs.Entries.{a_leaf}
-use Rattle.wasi_calls_rules.specs.Entries.{fd_readdir, placed, whole_path, a_free_node}
+use Rattle.wasi_calls_rules.specs.Entries.{a_leaf, fd_readdir, placed, whole_path, a_free_node}
 use Rattle.wasi_calls_rules.specs.Entries.{path_create_directory, path_filestat_get, gives_way}
 use Rattle.wasi_calls_rules.specs.Entries.{is_directory_empty, path_remove_directory}
 use Rattle.wasi_calls_rules.specs.Entries.{path_unlink_file, is_within_node, is_same_node}
@@ -64,8 +60,7 @@ use Rattle.wasi_calls_rules.specs.Entries.{renamed_to, path_rename, free_number,
 use Rattle.wasi_calls_rules.specs.Entries.{opened_there, opened_new, opened_at, path_open}
 use Rattle.wasi_calls_rules.specs.CallRules.{call_rule}
 use Rattle.wasi_calls_rules.proofs.Steps.{HoldsAfter, refused, done_with, step, next, next_is}
-use Rattle.wasi_calls_rules.proofs.Steps.{passed, some_there, by_test, either_way}
-use Rattle.wasi_calls_rules.proofs.Steps.{answered}
+use Rattle.wasi_calls_rules.proofs.Steps.{passed, some_there, by_test, either_way, answered}
 use Rattle.wasi_calls_rules.proofs.WasiStateChanges.{IsOpen, Reached, Rewriting}
 use Rattle.wasi_calls_rules.proofs.WasiStateChanges.{Becomes, stays, sees_time}
 use Rattle.wasi_calls_rules.proofs.WasiStateChanges.{leaves_unread, takes_text, ends_input, closes}

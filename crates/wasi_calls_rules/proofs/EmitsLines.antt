@@ -52,8 +52,7 @@ use Rattle.wasi_calls_rules.specs.Entries.{is_directory_empty, path_remove_direc
 use Rattle.wasi_calls_rules.specs.Entries.{path_unlink_file, is_within_node, gives_way}
 use Rattle.wasi_calls_rules.specs.Entries.{without_target, is_same_node, renamed_to, path_rename}
 use Rattle.wasi_calls_rules.specs.Entries.{free_number, OpenMode, opened_there, opened_new}
-use Rattle.wasi_calls_rules.specs.Entries.{opened_at}
-use Rattle.wasi_calls_rules.specs.Entries.{path_open}
+use Rattle.wasi_calls_rules.specs.Entries.{opened_at, path_open}
 use Rattle.wasi_calls_rules.specs.CallRules.{call_rule}
 use Rattle.wasi_calls_rules.specs.declared.limits.TheConstants.{LINE_BYTES, MOVED_BYTES}
 use Rattle.wasi_calls_rules.specs.laws.Laws.{Emits, CallRulesEmit}

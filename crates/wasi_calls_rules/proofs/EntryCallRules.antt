@@ -21,8 +21,7 @@ use Rattle.wasi_calls_rules.specs.Entries.{path_create_directory, path_filestat_
 use Rattle.wasi_calls_rules.specs.Entries.{is_directory_empty, path_remove_directory}
 use Rattle.wasi_calls_rules.specs.Entries.{path_unlink_file, is_within_node, gives_way}
 use Rattle.wasi_calls_rules.specs.Entries.{is_same_node, renamed_to, path_rename, free_number}
-use Rattle.wasi_calls_rules.specs.Entries.{OpenMode}
-use Rattle.wasi_calls_rules.specs.Entries.{opened_there, opened_new, opened_at, path_open}
+use Rattle.wasi_calls_rules.specs.Entries.{OpenMode, opened_there, opened_new, opened_at, path_open}
 use Rattle.wasi_calls_rules.proofs.Steps.{next, within, either_way, leaf}
 use Rattle.wasi_calls_rules.proofs.Puts.{put, put_number}
 use Rattle.wasi_calls_rules.proofs.Supplies.{Supplies, entries_hold}

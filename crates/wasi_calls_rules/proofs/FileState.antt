@@ -7,8 +7,7 @@ use Rattle.std.specs.Option.{option_and_then}
 use Rattle.std.specs.List.{list_any}
 use Rattle.std.proofs.lemmas.Bool.{cases_eq}
 use Rattle.file_tree.specs.declared.node_type.NodeType.{NodeType}
-use Rattle.file_tree.specs.rules.Changes.{empty, path_at, within_path, IsFree, CanLose}
-use Rattle.file_tree.specs.rules.Changes.{CanMove}
+use Rattle.file_tree.specs.rules.Changes.{empty, path_at, within_path, IsFree, CanLose, CanMove}
 use Rattle.file_tree.specs.rules.Files.{Name, Path, File, FileNode, Files, IsFiles}
 use Rattle.file_tree.specs.rules.Files.{IsNodeName, IsSmallContent, node_of, path_of, child, used}
 use Rattle.file_tree.specs.rules.Files.{is_directory, holds_directory, bytes_of_node, path_behind}

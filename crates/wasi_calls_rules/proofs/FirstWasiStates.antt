@@ -12,8 +12,7 @@ use Rattle.wasi_abi.specs.rules.Numbers.{output_rights, are_within}
 use Rattle.wasi_abi.specs.rules.Answers.{IsTime}
 use Rattle.wasi_calls_rules.specs.WasiStates.{Stream, Node, Descriptor, Line, stream, stream_rights}
 use Rattle.wasi_calls_rules.specs.WasiStates.{first_descriptors, first_host, IsThere, IsDescriptor}
-use Rattle.wasi_calls_rules.specs.WasiStates.{IsStreamAt}
-use Rattle.wasi_calls_rules.specs.WasiStates.{IsRemoved, WasiState, IsWasiState}
+use Rattle.wasi_calls_rules.specs.WasiStates.{IsStreamAt, IsRemoved, WasiState, IsWasiState}
 use Rattle.wasi_calls_rules.proofs.KeptLines.{nothing_unfinished}
 use Rattle.wasi_calls_rules.proofs.NodesAfter.{there_node, path_node}
 

@@ -25,12 +25,11 @@ use Rattle.wasi_calls_rules.proofs.Supplies.{AnswerHolds}
 use Rattle.wasi_calls_rules.proofs.SmallCallRules.{Keeps, GivenHolds, texts_get_keeps}
 use Rattle.wasi_calls_rules.proofs.SmallCallRules.{texts_sizes_get_keeps, clock_res_get_keeps}
 use Rattle.wasi_calls_rules.proofs.SmallCallRules.{clock_time_get_keeps, fd_close_keeps}
-use Rattle.wasi_calls_rules.proofs.SmallCallRules.{fd_syncs_keeps}
-use Rattle.wasi_calls_rules.proofs.SmallCallRules.{fd_fdstat_get_keeps, fd_fdstat_set_flags_keeps}
-use Rattle.wasi_calls_rules.proofs.SmallCallRules.{fd_filestat_get_keeps}
-use Rattle.wasi_calls_rules.proofs.SmallCallRules.{fd_filestat_set_size_keeps}
-use Rattle.wasi_calls_rules.proofs.SmallCallRules.{fd_prestat_get_keeps, fd_prestat_dir_name_keeps}
-use Rattle.wasi_calls_rules.proofs.SmallCallRules.{fd_seek_keeps, fd_tell_keeps, sched_yield_keeps}
+use Rattle.wasi_calls_rules.proofs.SmallCallRules.{fd_syncs_keeps, fd_fdstat_get_keeps}
+use Rattle.wasi_calls_rules.proofs.SmallCallRules.{fd_fdstat_set_flags_keeps, fd_filestat_get_keeps}
+use Rattle.wasi_calls_rules.proofs.SmallCallRules.{fd_filestat_set_size_keeps, fd_prestat_get_keeps}
+use Rattle.wasi_calls_rules.proofs.SmallCallRules.{fd_prestat_dir_name_keeps, fd_seek_keeps}
+use Rattle.wasi_calls_rules.proofs.SmallCallRules.{fd_tell_keeps, sched_yield_keeps}
 use Rattle.wasi_calls_rules.proofs.SmallCallRules.{random_get_keeps}
 use Rattle.wasi_calls_rules.proofs.MovingCallRules.{fd_read_keeps, fd_pread_keeps, fd_write_keeps}
 use Rattle.wasi_calls_rules.proofs.MovingCallRules.{fd_pwrite_keeps}

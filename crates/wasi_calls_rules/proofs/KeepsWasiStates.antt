@@ -2,8 +2,7 @@
 use Rattle.std.proofs.Common.{◌≡◌, ◌≢◌, ℕ, ◌+◌, ◌<◌, ◌≤◌, ◌^◌, Bool, true, false, List}
 use Rattle.std.proofs.Common.{[], ◌∷◌, ◌++◌, length, take, drop, max, Option, Some, None, refl, sym}
 use Rattle.std.proofs.Common.{ap, subst, ◌∙◌, arith, length-take, length-drop}
-use Rattle.std.specs.Prelude.{not, ◌||◌, is_some, bit_and, slice_set}
-use Rattle.std.specs.Prelude.{Ok}
+use Rattle.std.specs.Prelude.{not, ◌||◌, is_some, bit_and, slice_set, Ok}
 use Rattle.std.proofs.lemmas.Bool.{eq-eqb, ltb-true}
 use Rattle.std.proofs.lemmas.Nat.{and_assoc}
 use Rattle.wasi_abi.specs.declared.errno.Errno.TheVariants.{Isdir, Notdir, Notempty}
@@ -15,9 +14,8 @@ use Rattle.file_tree.specs.declared.node_type.NodeType.TheVariants as node_types
 use Rattle.file_tree.specs.rules.Changes.{path_at, IsFree}
 use Rattle.file_tree.specs.rules.Files.{Name, Path, Content, Directory, File, FileNode, Files}
 use Rattle.file_tree.specs.rules.Files.{IsFiles, IsSmallContent, node_of, path_of, child}
-use Rattle.file_tree.specs.rules.Files.{is_directory, bytes_of_content, bytes_held}
-use Rattle.file_tree.specs.rules.Files.{bytes_of_node, path_behind, created}
-use Rattle.file_tree.specs.rules.Files.{with_file_bytes}
+use Rattle.file_tree.specs.rules.Files.{is_directory, bytes_of_content, bytes_held, bytes_of_node}
+use Rattle.file_tree.specs.rules.Files.{path_behind, created, with_file_bytes}
 use Rattle.file_tree.specs.declared.limits.TheConstants.{FILE_BYTES}
 use Rattle.file_tree.proofs.Seen.{some_path, not_nil}
 use Rattle.file_tree.proofs.Rebuilt.{all_found}

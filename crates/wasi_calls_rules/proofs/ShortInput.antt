@@ -10,10 +10,9 @@ use Rattle.wasi_calls_rules.specs.Entries.{renamed_over}
 use Rattle.wasi_calls_rules.specs.laws.Laws.{HasShortInput, CallRulesKeepInputShort}
 use Rattle.wasi_calls_rules.proofs.WasiStateChanges.{Becomes, stays, sees_time, leaves_unread}
 use Rattle.wasi_calls_rules.proofs.WasiStateChanges.{takes_text, ends_input, closes, sets_flags}
-use Rattle.wasi_calls_rules.proofs.WasiStateChanges.{seeks}
-use Rattle.wasi_calls_rules.proofs.WasiStateChanges.{reads_file, writes_stream, rewrites}
-use Rattle.wasi_calls_rules.proofs.WasiStateChanges.{writes_file}
-use Rattle.wasi_calls_rules.proofs.WasiStateChanges.{makes, opens_new, opens, loses, renames}
+use Rattle.wasi_calls_rules.proofs.WasiStateChanges.{seeks, reads_file, writes_stream, rewrites}
+use Rattle.wasi_calls_rules.proofs.WasiStateChanges.{writes_file, makes, opens_new, opens, loses}
+use Rattle.wasi_calls_rules.proofs.WasiStateChanges.{renames}
 use Rattle.wasi_calls_rules.proofs.CallRuleChanges.{changes}
 use Rattle.wasi_calls_rules.proofs.KeptLines.{stream_either}
 

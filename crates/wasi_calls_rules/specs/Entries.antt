@@ -1,8 +1,7 @@
 -- The rules of the calls on directories and paths (this project's profile).
 use Rattle.std.specs.Prelude.{ℕ, ◌+◌, ◌==◌, not, ◌&&◌, ◌||◌, nat_le, nat_lt, bit_and, if◌then◌else◌}
 use Rattle.std.specs.Prelude.{Bool, false, List, [], ◌∷◌, ◌++◌, length, take, drop, Option, Some}
-use Rattle.std.specs.Prelude.{None, option_map, Result, Ok, Err}
-use Rattle.std.specs.Prelude.{is_some}
+use Rattle.std.specs.Prelude.{None, option_map, Result, Ok, Err, is_some}
 use Rattle.wasi_abi.specs.declared.errno.Errno.TheVariants.{Exist, Inval, Isdir, Mfile, Noent}
 use Rattle.wasi_abi.specs.declared.errno.Errno.TheVariants.{Nospc, Notdir, Notempty}
 use Rattle.wasi_abi.specs.rules.Numbers.{path_create_directory_right, path_create_file_right}

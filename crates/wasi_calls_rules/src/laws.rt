@@ -26,15 +26,13 @@ ghost use Rattle.wasi_calls_rules.specs.laws.StoryExamples.{RenameStory, UnlinkS
 ghost use Rattle.wasi_calls_rules.specs.laws.StoryExamples.{AnswerStory, PageStory};
 ghost use Rattle.wasi_calls_rules.specs.laws.CallLimits.{CallLimitNumbers};
 ghost use Rattle.wasi_calls_rules.specs.laws.Laws.{CallRulesKeepMemory, CallRulesKeepBytes};
-ghost use Rattle.wasi_calls_rules.specs.laws.Laws.{CallRulesEmit};
-ghost use Rattle.wasi_calls_rules.specs.laws.Laws.{CallRulesKeepConfigurations};
+ghost use Rattle.wasi_calls_rules.specs.laws.Laws.{CallRulesEmit, CallRulesKeepConfigurations};
 ghost use Rattle.wasi_calls_rules.specs.laws.Laws.{CallRulesKeepStatesOfBytes};
-ghost use Rattle.wasi_calls_rules.specs.laws.Laws.{CallRulesKeepVersions};
-ghost use Rattle.wasi_calls_rules.specs.laws.Laws.{FirstsAreWasiStates, CallRulesKeepWasiStates};
+ghost use Rattle.wasi_calls_rules.specs.laws.Laws.{CallRulesKeepVersions, FirstsAreWasiStates};
+ghost use Rattle.wasi_calls_rules.specs.laws.Laws.{CallRulesKeepWasiStates};
 ghost use Rattle.wasi_calls_rules.specs.laws.Laws.{CallRulesMakeOneNodeAtMost};
-ghost use Rattle.wasi_calls_rules.specs.laws.Laws.{CallRulesKeepInputShort};
-ghost use Rattle.wasi_calls_rules.specs.laws.Laws.{CallRulesKeepTimes, LastTimesAreTold};
-ghost use Rattle.wasi_calls_rules.specs.laws.Laws.{TestsTellWhatFits};
+ghost use Rattle.wasi_calls_rules.specs.laws.Laws.{CallRulesKeepInputShort, CallRulesKeepTimes};
+ghost use Rattle.wasi_calls_rules.specs.laws.Laws.{LastTimesAreTold, TestsTellWhatFits};
 ghost use Rattle.wasi_calls_rules.specs.laws.Laws.{FewCallRulesAsk, CallRulesAskOnce};
 ghost use Rattle.wasi_calls_rules.specs.laws.Laws.{ExitAloneEnds};
 

@@ -1,6 +1,6 @@
 -- Code entries that are judged one after another.
 use Rattle.std.proofs.Common.{◌≡◌, ◌≢◌, ◌∙◌, inl, inr, ℕ, ◌+◌, List, [], ◌∷◌, ◌++◌, length, Option}
-use Rattle.std.proofs.Common.{Some, None, refl, sym, ap, subst, arith, ◌<◌, ◌≤◌}
+use Rattle.std.proofs.Common.{Some, None, refl, sym, ap, subst, arith, ◌<◌}
 use Rattle.std.specs.Prelude.{Result, Ok, Err, ⊤}
 use Rattle.std.proofs.lemmas.List.{length-append}
 use Rattle.wasm_syntax.specs.declared.module.Code.{Code}
@@ -105,10 +105,6 @@ pub record SoFar (bytes : List ℕ) (number : ℕ) (now : List ℕ) (faults : Li
   pub counted : length entries ≡ number
   pub are : AreCodeFaults 0 entries faults
 
-pub none_judged : (bytes : List ℕ) (faults : List CodeFault) → faults ≡ []
-    → SoFar bytes 0 bytes faults
-none_judged bytes faults none = record { entries = []; read = refl; counted = refl; are = none }
-
 module _ (bytes : List ℕ) (number : ℕ) (now : List ℕ) (faults : List CodeFault) (so_far :
     SoFar bytes number now faults) where
   -- ---- one entry more
@@ -180,18 +176,6 @@ module _ (bytes : List ℕ) (number : ℕ) (now : List ℕ) (faults : List CodeF
         λ entry after is. none_some (entry, after)
             (sym e ∙ Reads-bytes_at.complete now entry after is),
       ))
-
-  module _ (count : ℕ) (all : count ≤ number) (most : number ≤ count) where
-    whole : length so_far.entries ≡ count
-    whole = omega (arith, so_far.counted, all, most)
-
-    -- bytes behind the last entry
-    pub ends_before_rest : (r : ReadRefusal) → (now ≡ [] → ⊥)
-        → Collects count bytes faults (Err (item.Refused r))
-    ends_before_rest r more = ends_so count (Err (item.Refused r)) (inl (whole, more))
-
-    pub ends_whole : now ≡ [] → Collects count bytes faults (Ok tt)
-    ends_whole none = ends_so count (Ok tt) (whole, none)
 
 -- ---- what is answered
 

@@ -27,9 +27,8 @@ use Rattle.wasm_decode.specs.declared.items.fault.ItemFault.TheVariants as read
 use Rattle.wasm_decode.specs.declared.imported.Imports.{Imports}
 use Rattle.wasm_decode.specs.declared.fault.DecodeFault.TheVariants.{Memory}
 use Rattle.wasm_decode.specs.declared.code_faults.CodeFaults.{CodeFaults}
-use Rattle.wasm_decode.specs.rules.Faults.{decode_fault}
 use Rattle.wasm_decode.specs.rules.Parts.{AreFaultsOf, AreSectionFaults, HasCodeFaults, SpellsField}
-use Rattle.wasm_decode.specs.rules.Parts.{HasImports, HasTypes, LacksPart, no_faults}
+use Rattle.wasm_decode.specs.rules.Parts.{HasImports, HasTypes, no_faults}
 use Rattle.wasm_decode.specs.Answers.{GivesAll}
 use Rattle.wasm_decode.specs.Contents.{imports_at, no_imports}
 use Rattle.wasm_decode.specs.Items.Answers.{FailsToRead}
@@ -85,11 +84,6 @@ module _ {R : Type 0} (bytes after : List ℕ) (x : Unit {0}) (bodies : List (Op
       → HasNoSections bytes
   split_fails None r is h = absurd cc
   split_fails (Some q) r is h = unopened bytes after x header h
-
--- a part of bytes that aren't sections
-pub no_part : {X : Type 0} (bytes : List ℕ) (id : ℕ) (IsContent : List ℕ → X → List ℕ → Type 0)
-    (absent x : X) → HasNoSections bytes → SpellsField bytes id IsContent absent x → ⊥
-no_part bytes id IsContent absent x none f = none f.after f.sections f.header f.in_order
 
 -- ---- one section
 
@@ -204,12 +198,6 @@ module _ (bytes : List ℕ) (bodies : List (Option Span)) (o : OpensSections byt
   imports_fail read.Memory h = tt
   imports_fail (read.Refused refusal) h = no_imports_found h
 
-  pub no_code : None ≡ held bodies 10 → HasCodeFaults bytes no_faults
-  no_code e =
-      field_here bytes bodies o 10 (omega arith) (omega arith) AreSectionFaults no_faults no_faults
-      (subst (λ (body : Option (List ℕ)). MatchOption body (no_faults ≡ no_faults)
-      (λ b. AreSectionFaults b no_faults [])) e refl)
-
   pub code_with_count : (body : List ℕ) (count : ℕ) (entries : List ℕ) (found : CodeFaults)
       → Some body ≡ held bodies 10 → leb_u32_at body ≡ Some (count, entries)
       → AreFaultsOf count entries found → HasCodeFaults bytes found
@@ -234,11 +222,3 @@ module _ (bytes : List ℕ) (bodies : List (Option Span)) (o : OpensSections byt
       list.entries list.counted)
 
 -- ---- the faults that callers see
-
-pub part_found : {X : Type 0} (IsPart : X → Type 0) (x : X) → FindsPart IsPart (Ok x) → IsPart x
-part_found IsPart x h = h
-
-pub part_lacks : {X : Type 0} (IsPart : X → Type 0) (e : ItemFault)
-    → FindsPart IsPart (Err e) → LacksPart IsPart (decode_fault e)
-part_lacks IsPart read.Memory h other = absurd (other refl)
-part_lacks IsPart (read.Refused refusal) h other = h

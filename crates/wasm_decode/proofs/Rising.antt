@@ -13,8 +13,7 @@ use Rattle.wasm_syntax.proofs.Grammar.Exact.{Reads, chosen, found, parts}
 use Rattle.wasm_syntax.proofs.Grammar.Rising.{IsNextSection, Reads-next_section_at, section_shorter}
 use Rattle.wasm_decode.specs.declared.items.span.Span.{Span}
 use Rattle.wasm_decode.specs.Sections.{may_come_behind, is_body, next_at, span_bytes, held}
-use Rattle.wasm_decode.specs.Sections.{NoSections}
-use Rattle.wasm_decode.specs.Sections.{Splits}
+use Rattle.wasm_decode.specs.Sections.{NoSections, Splits}
 
 -- ---- one section: judged in another order, it is the same
 

@@ -16,9 +16,8 @@ use Rattle.wasm_places.specs.declared.reader.Part.{Part}
 use Rattle.wasm_places.specs.Around.{section_with}
 use Rattle.wasm_places.specs.FunctionNames.{InSection, InSubsections, function_name_at}
 use Rattle.wasm_places.specs.rules.FunctionNames.{FunctionName, HasSection, IsFunctionName}
-use Rattle.wasm_places.specs.rules.FunctionNames.{IsGoodName, IsGoodOf, IsNameSection}
-use Rattle.wasm_places.specs.rules.FunctionNames.{LacksGood, MapNames, ModuleNames}
-use Rattle.wasm_places.specs.rules.FunctionNames.{SectionNames}
+use Rattle.wasm_places.specs.rules.FunctionNames.{IsGoodName, IsGoodOf, IsNameSection, LacksGood}
+use Rattle.wasm_places.specs.rules.FunctionNames.{MapNames, ModuleNames, SectionNames}
 use Rattle.wasm_places.proofs.Walks.{none_some, one_more}
 
 -- what both arms of an answer lead to

@@ -1,7 +1,6 @@
 -- Sections, one after another, up to the one in which a byte lies.
-use Rattle.std.proofs.Common.{◌≡◌, ℕ, ◌+◌, ◌<◌, ◌≤◌, Bool, true, false, cond, eqb, List, []}
-use Rattle.std.proofs.Common.{◌∷◌, ◌++◌, length, Option, Some, None, refl, sym, ap, subst, ◌∙◌}
-use Rattle.std.proofs.Common.{arith}
+use Rattle.std.proofs.Common.{◌≡◌, ℕ, ◌+◌, ◌<◌, ◌≤◌, Bool, true, false, cond, eqb, List, [], ◌∷◌}
+use Rattle.std.proofs.Common.{◌++◌, length, Option, Some, None, refl, sym, ap, subst, ◌∙◌, arith}
 use Rattle.std.proofs.lemmas.List.{append-nil}
 use Rattle.wasm_syntax.specs.rules.Modules.{Section, IsSection, body_of, preamble}
 use Rattle.wasm_syntax.specs.laws.ReadingItems.{fixed_at}
@@ -81,9 +80,6 @@ module _ (bytes : List ℕ) (at : ℕ) where
       none_some (tt, h.after)
       (sym none ∙ subst (λ (b : List ℕ). fixed_at preamble b ≡ Some (tt, h.after)) (sym h.header)
       (fixed_complete preamble h.after))
-
-  pub past_end : length bytes < at → LiesInNone bytes at
-  past_end past before s inner h = omega (arith, past, h.offset)
 
   pub in_header : (after : List ℕ) (left : ℕ) → fixed_at preamble bytes ≡ Some (tt, after)
       → at + left ≡ length bytes → length after < left → LiesInNone bytes at

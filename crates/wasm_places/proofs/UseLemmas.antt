@@ -1,11 +1,11 @@
 -- Functions that are read one after another, and the first of them with a type.
-use Rattle.std.proofs.Common.{◌≡◌, ◌≢◌, ℕ, ◌+◌, ◌-◌, ◌≤◌, ◌<◌, false, eqb, List, [], ◌∷◌}
+use Rattle.std.proofs.Common.{◌≡◌, ℕ, ◌+◌, ◌-◌, ◌≤◌, ◌<◌, false, eqb, List, [], ◌∷◌}
 use Rattle.std.proofs.Common.{◌++◌, length, map, Option, Some, None, refl, sym, ap, subst, ◌∙◌}
 use Rattle.std.proofs.Common.{append_assoc, arith}
 use Rattle.std.specs.Prelude.{option_map}
 use Rattle.std.specs.List.{flat_map}
 use Rattle.std.proofs.lemmas.Bool.{ne_eqb}
-use Rattle.std.proofs.lemmas.List.{append-nil, length-append}
+use Rattle.std.proofs.lemmas.List.{append-nil}
 use Rattle.std.proofs.lemmas.Grind.{flat_map-append}
 use Rattle.wasm_syntax.specs.declared.module.Import.{Import}
 use Rattle.wasm_syntax.specs.rules.Items.{IsU32}
@@ -26,57 +26,15 @@ use Rattle.wasm_places.specs.declared.uses.TypedFunction.{TypedFunction}
 use Rattle.wasm_places.specs.Parts.{part_bytes}
 use Rattle.wasm_places.specs.Uses.{FindsFirst, HoldsFunctionSections, IsSearched, ItemOf}
 use Rattle.wasm_places.specs.Uses.{SearchesAll, SearchesIn, SearchesOn, declared_at}
-use Rattle.wasm_places.specs.Uses.{declared_functions}
-use Rattle.wasm_places.specs.Uses.{item_functions, item_at}
+use Rattle.wasm_places.specs.Uses.{declared_functions, item_functions, item_at}
 use Rattle.wasm_places.specs.rules.Uses.{AreAllSections, DeclaredFunction, DeclaresFunctions}
-use Rattle.wasm_places.specs.rules.Uses.{IsFirstOfType, LacksType, imported_function, names_in}
-use Rattle.wasm_places.specs.rules.Uses.{own_function}
+use Rattle.wasm_places.specs.rules.Uses.{imported_function, own_function}
 use Rattle.wasm_places.proofs.Walks.{none_some}
 
 -- ---- one more function
 
 module _ (wanted : ℕ) where
-  pub lacks_more : (functions : List DeclaredFunction) (f : DeclaredFunction)
-      → LacksType wanted functions → f.function_type ≢ wanted
-      → LacksType wanted (functions ++ f ∷ [])
-  lacks_more [] f none other = (other, tt)
-  lacks_more (g ∷ functions) f none other = (none.0, lacks_more functions f none.1 other)
-
-  pub first_stays : (functions : List DeclaredFunction) (f : DeclaredFunction)
-      (first : TypedFunction) → IsFirstOfType wanted functions first
-      → IsFirstOfType wanted (functions ++ f ∷ []) first
-  first_stays functions f first h = record {
-    before = h.before;
-    behind = h.behind ++ f ∷ [];
-    is = ap (λ (fs : List DeclaredFunction). fs ++ f ∷ []) h.is
-        ∙ append_assoc h.before
-        (record { function_type = wanted; names = names_in first.names } ∷ h.behind) (f ∷ []);
-    number_is = h.number_is;
-    others = h.others;
-  }
-
-  pub first_comes : (functions : List DeclaredFunction) (function_type : ℕ)
-      (first : TypedFunction) → LacksType wanted functions → first.number ≡ length functions
-      → function_type ≡ wanted → IsFirstOfType wanted (functions
-      ++ record { function_type = function_type; names = names_in first.names } ∷ []) first
-  first_comes functions function_type first none number is = record {
-    before = functions;
-    behind = [];
-    is = ap (λ (t : ℕ). functions
-        ++ record { function_type = t; names = names_in first.names } ∷ []) is;
-    number_is = number;
-    others = none;
-  }
-
   -- ---- a search that goes on
-
-  pub searched_one : (functions : List DeclaredFunction) (f : DeclaredFunction)
-      (before after : Search) → IsSearched wanted functions before
-      → after.functions ≡ before.functions + 1
-      → FindsFirst wanted (functions ++ f ∷ []) after.found
-      → IsSearched wanted (functions ++ f ∷ []) after
-  searched_one functions f before after h one finds =
-      (omega (arith, one, h.0, length-append functions (f ∷ [])), finds)
 
   pub searched_none : (before : Search) → SearchesOn wanted before [] before
   searched_none before earlier h =

@@ -1,7 +1,6 @@
 //! Bytes of a module, read from the front: integers and sized parts (sections 5.1 and 5.2).
 
-ghost use Rattle.std.specs.Prelude.{◌≡◌, ◌≤◌, ◌<◌, ◌^◌, ◌↔◌, IsTrue, IfSome, nat_lt, []};
-ghost use Rattle.std.specs.Prelude.{length};
+ghost use Rattle.std.specs.Prelude.{◌≡◌, ◌≤◌, ◌<◌, ◌^◌, ◌↔◌, IsTrue, IfSome, nat_lt, [], length};
 ghost use Rattle.std.specs.Str.{is_utf8};
 ghost use Rattle.wasm_decode.specs.Items.Answers.{FindsItem};
 ghost use Rattle.wasm_syntax.specs.laws.ReadingItems.{byte_at, unsigned_at, leb_u32_at, part_at};

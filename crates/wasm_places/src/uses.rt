@@ -1,13 +1,12 @@
 //! The first function that has a type (sections 5.5.5 and 5.5.6).
 
-ghost use Rattle.std.specs.Prelude.{◌≡◌, ◌+◌, ◌≤◌, ◌<◌, ◌^◌, IfSome, None, Some, ◌++◌};
+ghost use Rattle.std.specs.Prelude.{◌≡◌, ◌+◌, ◌≤◌, ◌<◌, ◌^◌, IfSome, None, Some, ◌++◌, List};
 ghost use Rattle.wasm_places.specs.Answers.{FindsAs};
 ghost use Rattle.wasm_places.specs.Imported.{import_with};
 ghost use Rattle.wasm_places.specs.Parts.{part_bytes};
 ghost use Rattle.wasm_places.specs.Uses.{FindsFirst, IsSearched, SearchesAll, SearchesIn};
 ghost use Rattle.wasm_places.specs.Uses.{SearchesOn, declared_at, declared_in, declared_functions};
 ghost use Rattle.wasm_places.specs.rules.Uses.{DeclaredFunction, IsTypeUse, imported_function};
-ghost use Rattle.std.specs.Prelude.{List};
 
 use crate::imports::{ImportNames, NamedImport, import};
 use crate::reader::{Part, Reader};

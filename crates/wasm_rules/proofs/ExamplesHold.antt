@@ -8,9 +8,8 @@ use Rattle.wasm_syntax.specs.declared.instruction.Instruction.TheVariants as ins
 use Rattle.wasm_syntax.specs.rules.Sequence.{Sequence, Stop, Plain, InIf}
 use Rattle.wasm_rules.specs.Typing.{HasType}
 use Rattle.wasm_rules.specs.Shapes.{type_of}
-use Rattle.wasm_rules.specs.laws.Examples.{TypingExamples, bare_context, const_32, const_64}
-use Rattle.wasm_rules.specs.laws.Examples.{add_32, mixed, lone_if, branch_out, choice}
-use Rattle.wasm_rules.specs.laws.Examples.{behind_unreachable}
+use Rattle.wasm_rules.specs.laws.Examples.{TypingExamples, bare_context, const_32, const_64, add_32}
+use Rattle.wasm_rules.specs.laws.Examples.{mixed, lone_if, branch_out, choice, behind_unreachable}
 use Rattle.wasm_rules.proofs.TypedShape.{value_type}
 
 choice_typed : HasType bare_context [] choice [] (I32 ∷ [])

@@ -19,8 +19,7 @@ use Rattle.wasm_rules.specs.Types.{takes_of, gives_of, results_of}
 use Rattle.wasm_rules.specs.Typing.{Context}
 use Rattle.wasm_rules.specs.Shapes.{Shape, LabelShape, ShapeOf, in_place_of, types_behind}
 use Rattle.wasm_rules.specs.Shapes.{shape_at, body_shape}
-use Rattle.wasm_rules.specs.laws.Laws.{labels_height, height, GivesOneAtMost}
-use Rattle.wasm_rules.specs.laws.Laws.{HeightsAreSmall}
+use Rattle.wasm_rules.specs.laws.Laws.{labels_height, height, GivesOneAtMost, HeightsAreSmall}
 
 -- so many values at most, where there are any
 abbrev pub AreFew : Option (List ValueType) → ℕ → Type 0

@@ -19,8 +19,7 @@ use Rattle.wasm_rules.specs.Types.{IsOf, takes_of, gives_of, results_of}
 use Rattle.wasm_rules.specs.Typing.{Context, HasInstructionType, HasType}
 use Rattle.wasm_rules.specs.Shapes.{Shape, LabelShape, ShapeOf, type_of, in_place_of}
 use Rattle.wasm_rules.specs.Shapes.{types_behind, shape_at, body_shape}
-use Rattle.wasm_rules.specs.laws.TypedShapes.{AreTypedShapes, IsTypedShape}
-use Rattle.wasm_rules.specs.laws.TypedShapes.{ReachedShapesAreTyped}
+use Rattle.wasm_rules.specs.laws.TypedShapes.{AreTypedShapes, IsTypedShape, ReachedShapesAreTyped}
 
 -- typed, where there is a shape
 abbrev pub IsTypedIf : Context → Option Shape → Type 0

@@ -1,9 +1,8 @@
 -- The shape that typing gives to each position of a body that it reaches. It has the labels around
 -- it, the types of the operands, and what remains of the innermost sequence. Code after
 -- `unreachable`, `br`, `br_table` and `return`, up to the end of its block, is not reached.
-use Rattle.std.specs.Prelude.{ℕ, zero, suc, ◌+◌, ◌-◌, nat_le, ◌==◌, List, [], ◌∷◌, ◌++◌}
-use Rattle.std.specs.Prelude.{length, drop, Option, Some, None, option_map, slice_get}
-use Rattle.std.specs.Prelude.{if◌then◌else◌}
+use Rattle.std.specs.Prelude.{ℕ, zero, suc, ◌+◌, ◌-◌, nat_le, ◌==◌, List, [], ◌∷◌, ◌++◌, length}
+use Rattle.std.specs.Prelude.{drop, Option, Some, None, option_map, slice_get, if◌then◌else◌}
 use Rattle.std.specs.Option.{option_and_then}
 use Rattle.wasm_syntax.specs.declared.types.ValueType.{ValueType}
 use Rattle.wasm_syntax.specs.declared.types.ValueType.TheVariants.{I32, I64}
@@ -15,8 +14,7 @@ use Rattle.wasm_syntax.specs.declared.instruction.Instruction.TheVariants as ins
 use Rattle.wasm_syntax.specs.rules.Sequence.{Sequence, Stop, Plain, InBlock, InLoop, InIf, InIfElse}
 use Rattle.wasm_syntax.specs.rules.Sequence.{spelled}
 use Rattle.wasm_rules.specs.Configuration.{Part, Main, Second}
-use Rattle.wasm_rules.specs.Types.{conversion_gives, loaded_type, takes_of, gives_of}
-use Rattle.wasm_rules.specs.Types.{results_of}
+use Rattle.wasm_rules.specs.Types.{conversion_gives, loaded_type, takes_of, gives_of, results_of}
 use Rattle.wasm_rules.specs.Typing.{Context}
 
 -- A label: what a branch to it takes, and what is executed then. Then the types of the values below

@@ -13,8 +13,7 @@ use Rattle.wasm_syntax.specs.declared.value.Trap.TheVariants as trap
 use Rattle.wasm_syntax.specs.declared.instruction.Instruction.{Instruction}
 use Rattle.wasm_syntax.specs.declared.instruction.Instruction.TheVariants as instr
 use Rattle.wasm_syntax.specs.rules.Sequence.{Sequence, Stop, Plain, InBlock, InLoop, InIf, InIfElse}
-use Rattle.wasm_rules.specs.Types.{value_of, takes_of, gives_of, results_of}
-use Rattle.wasm_rules.specs.Types.{is_same_function_type}
+use Rattle.wasm_rules.specs.Types.{value_of, takes_of, gives_of, results_of, is_same_function_type}
 use Rattle.wasm_rules.specs.Configuration.{Callee, Imported, Own, Program, Store, Part, Main}
 use Rattle.wasm_rules.specs.Configuration.{Second, Label, LabelOf, Frame, FrameOf, Thread}
 use Rattle.wasm_rules.specs.Configuration.{Configuration, Outcome, Goes, Traps, Asks, Stuck}

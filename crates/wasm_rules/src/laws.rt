@@ -5,12 +5,10 @@ ghost use Rattle.wasm_rules.specs.Configuration.{Store};
 ghost use Rattle.wasm_rules.specs.laws.TypedShapes.{ReachedShapesAreTyped};
 ghost use Rattle.wasm_rules.specs.laws.Laws.{OneSequence, OneRun, HeightsAreSmall};
 ghost use Rattle.wasm_rules.specs.laws.Examples.{TypingExamples, HelloRuns, StepExamples};
-ghost use Rattle.wasm_rules.specs.laws.LimitExamples.{StackExamples, BranchExamples};
-ghost use Rattle.wasm_rules.specs.laws.LimitExamples.{TableExamples, MemoryGrows};
-ghost use Rattle.wasm_rules.specs.laws.LimitExamples.{MoveExamples};
-ghost use Rattle.wasm_rules.specs.laws.Soundness.{NeverStuck, AdministrativeTyped};
-ghost use Rattle.wasm_rules.specs.laws.Soundness.{AnswersTyped, StepsTyped, ProgramsTyped};
-ghost use Rattle.wasm_rules.specs.laws.Soundness.{BeginsTyped};
+ghost use Rattle.wasm_rules.specs.laws.LimitExamples.{StackExamples, BranchExamples, TableExamples};
+ghost use Rattle.wasm_rules.specs.laws.LimitExamples.{MemoryGrows, MoveExamples};
+ghost use Rattle.wasm_rules.specs.laws.Soundness.{NeverStuck, AdministrativeTyped, AnswersTyped};
+ghost use Rattle.wasm_rules.specs.laws.Soundness.{StepsTyped, ProgramsTyped, BeginsTyped};
 
 /// In a typed body each position that typing reaches has a typed shape.
 pub fn reached_shapes_are_typed()

@@ -2,9 +2,8 @@
 -- checks is told.
 use Rattle.std.specs.Prelude.{◌≡◌, ℕ, ◌+◌, ◌-◌, ◌^◌, [], ◌∷◌, ◌++◌, take, replicate, codes, Some}
 use Rattle.std.specs.Prelude.{None}
-use Rattle.wasi_abi.specs.declared.errno.Errno.TheVariants.{Badf, Exist, Fault, Inval, Isdir}
-use Rattle.wasi_abi.specs.declared.errno.Errno.TheVariants.{Mfile, Noent, Nospc, Notdir}
-use Rattle.wasi_abi.specs.declared.errno.Errno.TheVariants.{Notcapable}
+use Rattle.wasi_abi.specs.declared.errno.Errno.TheVariants.{Badf, Exist, Fault, Inval, Isdir, Mfile}
+use Rattle.wasi_abi.specs.declared.errno.Errno.TheVariants.{Noent, Nospc, Notdir, Notcapable}
 use Rattle.wasi_abi.specs.declared.call.Call.TheVariants as call
 use Rattle.wasi_abi.specs.rules.Numbers.{file_rights, directory_rights, all_rights}
 use Rattle.file_tree.specs.rules.Files.{File}
@@ -13,8 +12,7 @@ use Rattle.wasi_calls_rules.specs.Checks.{Bytes, Ruling}
 use Rattle.wasi_calls_rules.specs.Small.{call_done, with_descriptor}
 use Rattle.wasi_calls_rules.specs.laws.Examples.{bare_host}
 use Rattle.wasi_calls_rules.specs.laws.Scenes.{bare_call, refused_by, old_bytes, small_u32}
-use Rattle.wasi_calls_rules.specs.laws.Scenes.{root_node}
-use Rattle.wasi_calls_rules.specs.laws.Scenes.{file_a, node_descriptor, a_open}
+use Rattle.wasi_calls_rules.specs.laws.Scenes.{root_node, file_a, node_descriptor, a_open}
 use Rattle.wasi_calls_rules.specs.laws.Trees.{placed_node, lost_nodes, directory_d, file_d_b}
 use Rattle.wasi_calls_rules.specs.laws.Trees.{directory_d_e, directory_f, before_seven, grove}
 use Rattle.wasi_calls_rules.specs.laws.Trees.{in_removed, opens_from_root}

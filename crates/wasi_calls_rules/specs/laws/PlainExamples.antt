@@ -1,9 +1,8 @@
 -- Worked examples of the calls on arguments, clocks, random bytes and the process.
 use Rattle.std.specs.Prelude.{◌≡◌, ◌-◌, ◌^◌, [], ◌∷◌, ◌++◌, map, codes, Err}
-use Rattle.wasi_abi.specs.declared.errno.Errno.TheVariants.{Badf, Exist, Fault, Fbig, Ilseq}
-use Rattle.wasi_abi.specs.declared.errno.Errno.TheVariants.{Inval, Isdir, Mfile, Nametoolong}
-use Rattle.wasi_abi.specs.declared.errno.Errno.TheVariants.{Noent, Nospc, Notdir, Notempty, Spipe}
-use Rattle.wasi_abi.specs.declared.errno.Errno.TheVariants.{Notcapable}
+use Rattle.wasi_abi.specs.declared.errno.Errno.TheVariants.{Badf, Exist, Fault, Fbig, Ilseq, Inval}
+use Rattle.wasi_abi.specs.declared.errno.Errno.TheVariants.{Isdir, Mfile, Nametoolong, Noent, Nospc}
+use Rattle.wasi_abi.specs.declared.errno.Errno.TheVariants.{Notdir, Notempty, Spipe, Notcapable}
 use Rattle.wasi_abi.specs.declared.answer.Question.TheVariants as question
 use Rattle.wasi_abi.specs.declared.answer.Answer.TheVariants as answer
 use Rattle.wasi_abi.specs.declared.call.Call.TheVariants as call

@@ -9,8 +9,7 @@ use Rattle.wasi_calls_rules.specs.Checks.{Bytes, Ruling}
 use Rattle.wasi_calls_rules.specs.Small.{with_descriptor}
 use Rattle.wasi_calls_rules.specs.laws.Examples.{bare_host}
 use Rattle.wasi_calls_rules.specs.laws.Scenes.{bare_call, old_bytes, root_node, file_a}
-use Rattle.wasi_calls_rules.specs.laws.Scenes.{node_descriptor}
-use Rattle.wasi_calls_rules.specs.laws.Scenes.{root_open}
+use Rattle.wasi_calls_rules.specs.laws.Scenes.{node_descriptor, root_open}
 
 -- ---- nodes
 

@@ -11,12 +11,10 @@ use Rattle.wasm_syntax.specs.rules.Sequence.{Sequence, Stop, Plain, InBlock, InL
 use Rattle.wasm_rules.specs.Types.{AreOf, takes_of, gives_of}
 use Rattle.wasm_rules.specs.Typing.{Context, body_context}
 use Rattle.wasm_rules.specs.Configuration.{Imported, Own, Program, Store, Part, Label, LabelOf}
-use Rattle.wasm_rules.specs.Configuration.{FrameOf, Thread, Configuration, Outcome, Asks}
-use Rattle.wasm_rules.specs.Configuration.{Stuck}
+use Rattle.wasm_rules.specs.Configuration.{FrameOf, Thread, Configuration, Outcome, Asks, Stuck}
 use Rattle.wasm_rules.specs.Steps.{returned, entered, exited, begun, exited_by, counted_step}
-use Rattle.wasm_rules.specs.Steps.{IsReduced}
-use Rattle.wasm_rules.specs.Steps.{IsEnded, IsCounted, ReducesTo, here, on, Advances, none}
-use Rattle.wasm_rules.specs.Steps.{more, answered}
+use Rattle.wasm_rules.specs.Steps.{IsReduced, IsEnded, IsCounted, ReducesTo, here, on, Advances}
+use Rattle.wasm_rules.specs.Steps.{none, more, answered}
 use Rattle.wasm_rules.specs.Typed.{IsTypedProgram, IsTypedMemory, IsTypedStore, AreTypedLabels}
 use Rattle.wasm_rules.specs.Typed.{IsTypedThread, IsEntry, IsTyped}
 use Rattle.wasm_rules.specs.laws.Soundness.{IsSound, NeverStuck, AdministrativeTyped}

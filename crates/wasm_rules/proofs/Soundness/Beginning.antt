@@ -27,17 +27,15 @@ use Rattle.guest_memory.specs.rules.Bytes.{IsByte, page_size, with_part}
 use Rattle.wasm_rules.specs.Types.{IsOf, AreOf, imported_functions, imported_globals}
 use Rattle.wasm_rules.specs.Types.{global_type_of, value_type_of}
 use Rattle.wasm_syntax.specs.rules.Modules.{function_type_of}
-use Rattle.wasm_rules.specs.Validity.{IsMemoryTypeValid, IsConstant, AreTypesAt}
-use Rattle.wasm_rules.specs.Validity.{AreFunctionTypes, tables_of, memories_of}
-use Rattle.wasm_rules.specs.Validity.{module_context, IsFunctionValid, IsGlobalValid}
-use Rattle.wasm_rules.specs.Validity.{IsIndex, IsElementValid, IsDataValid, IsStartValid}
-use Rattle.wasm_rules.specs.Validity.{IsValid}
+use Rattle.wasm_rules.specs.Validity.{IsMemoryTypeValid, IsConstant, AreTypesAt, AreFunctionTypes}
+use Rattle.wasm_rules.specs.Validity.{tables_of, memories_of, module_context, IsFunctionValid}
+use Rattle.wasm_rules.specs.Validity.{IsGlobalValid, IsIndex, IsElementValid, IsDataValid}
+use Rattle.wasm_rules.specs.Validity.{IsStartValid, IsValid}
 use Rattle.wasm_rules.specs.Configuration.{Callee, Imported, Own, Program, Store}
 use Rattle.wasm_rules.specs.Steps.{signature_of}
-use Rattle.wasm_rules.specs.Instantiation.{AreCallees, IsProgram, constant_of}
-use Rattle.wasm_rules.specs.Instantiation.{least_pages_of, most_pages_of}
-use Rattle.wasm_rules.specs.Instantiation.{AreInitial, offset_of, with_entries, with_segment}
-use Rattle.wasm_rules.specs.Instantiation.{filled_table, filled_memory, empty_table}
+use Rattle.wasm_rules.specs.Instantiation.{AreCallees, IsProgram, constant_of, least_pages_of}
+use Rattle.wasm_rules.specs.Instantiation.{most_pages_of, AreInitial, offset_of, with_entries}
+use Rattle.wasm_rules.specs.Instantiation.{with_segment, filled_table, filled_memory, empty_table}
 use Rattle.wasm_rules.specs.Instantiation.{empty_memory, IsInitialStore, calls_of}
 use Rattle.wasm_rules.specs.Linking.{Offer, IsItemOffered, IsOffered, FitsPages, IsLinkable}
 use Rattle.wasm_rules.specs.Typed.{IsTypedCallee, IsTypedProgram, IsTypedMemory, IsTypedEntry}

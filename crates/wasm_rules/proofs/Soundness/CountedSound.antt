@@ -14,25 +14,21 @@ use Rattle.wasm_syntax.specs.declared.value.Trap.TheVariants as trap
 use Rattle.wasm_syntax.specs.declared.instruction.Instruction.{Instruction}
 use Rattle.wasm_syntax.specs.declared.instruction.Instruction.TheVariants as instr
 use Rattle.wasm_syntax.specs.rules.Sequence.{Sequence, Stop, Plain, InBlock, InLoop, InIf, InIfElse}
-use Rattle.wasm_rules.specs.Types.{AreOf, takes_of, gives_of, results_of}
-use Rattle.wasm_rules.specs.Types.{is_same_function_type}
+use Rattle.wasm_rules.specs.Types.{AreOf, takes_of, gives_of, results_of, is_same_function_type}
 use Rattle.wasm_rules.specs.Typing.{Context, HasInstructionType, HasType, body_context, IsLabel}
-use Rattle.wasm_rules.specs.Configuration.{Callee, Own, Program, Part, Main, Second, Label}
-use Rattle.wasm_rules.specs.Configuration.{LabelOf, FrameOf, Thread, Configuration, Goes}
-use Rattle.wasm_rules.specs.Configuration.{Traps}
+use Rattle.wasm_rules.specs.Configuration.{Callee, Own, Program, Part, Main, Second, Label, LabelOf}
+use Rattle.wasm_rules.specs.Configuration.{FrameOf, Thread, Configuration, Goes, Traps}
 use Rattle.wasm_rules.specs.Effects.{Effect, Gives, Fails, Wrong, effect, IsEffect}
 use Rattle.wasm_rules.specs.Steps.{topmost, branch, returned, called, calls, calls_entry}
-use Rattle.wasm_rules.specs.Steps.{signature_of, goes_on, where_some, after_effect, execute}
-use Rattle.wasm_rules.specs.Steps.{inside, counted_step_of, counted_step, exited_by, IsReduced}
-use Rattle.wasm_rules.specs.Steps.{IsEnded}
+use Rattle.wasm_rules.specs.Steps.{signature_of, goes_on, where_some, after_effect, execute, inside}
+use Rattle.wasm_rules.specs.Steps.{counted_step_of, counted_step, exited_by, IsReduced, IsEnded}
 use Rattle.wasm_rules.specs.Typed.{IsTypedProgram, IsTypedStore, IsTypedEntry, AreTypedLabels}
 use Rattle.wasm_rules.specs.Typed.{IsTypedThread, IsEntry, IsTyped}
 use Rattle.wasm_rules.specs.laws.Soundness.{IsSound}
 use Rattle.wasm_rules.proofs.Soundness.Values.{topmost_are}
 use Rattle.wasm_rules.proofs.Soundness.EffectSound.{EffectHas, effect_has}
-use Rattle.wasm_rules.proofs.Soundness.ControlSound.{branch_has, chosen_label}
-use Rattle.wasm_rules.proofs.Soundness.ControlSound.{returned_typed, with_thread}
-use Rattle.wasm_rules.proofs.Soundness.ControlSound.{called_sound, same_function_type}
+use Rattle.wasm_rules.proofs.Soundness.ControlSound.{branch_has, chosen_label, returned_typed}
+use Rattle.wasm_rules.proofs.Soundness.ControlSound.{with_thread, called_sound, same_function_type}
 
 -- the function at an index that has a type
 pub callee_at : (functions : List Callee) (x : ℕ) (signature : FunctionType)

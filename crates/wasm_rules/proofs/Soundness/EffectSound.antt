@@ -39,8 +39,7 @@ use Rattle.wasm_rules.specs.Typing.{Context, HasInstructionType}
 use Rattle.wasm_rules.specs.Configuration.{Program, Store}
 use Rattle.wasm_rules.specs.Effects.{Effect, Gives, Fails, Wrong, with_top, effect_of_some}
 use Rattle.wasm_rules.specs.Effects.{with_result, loaded, load_at, store_at, pages_of, grown}
-use Rattle.wasm_rules.specs.Effects.{copied_at, filled_at, with_written, selected, effect}
-use Rattle.wasm_rules.specs.Effects.{IsEffect}
+use Rattle.wasm_rules.specs.Effects.{copied_at, filled_at, with_written, selected, effect, IsEffect}
 use Rattle.wasm_rules.specs.Typed.{IsTypedMemory, IsTypedStore}
 use Rattle.wasm_rules.proofs.Soundness.Values.{value_of_is, value_at, value_set}
 use Rattle.wasm_rules.proofs.Soundness.MemoryBytes.{memory_with_part, memory_grown}

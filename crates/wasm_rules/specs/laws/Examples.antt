@@ -13,8 +13,7 @@ use Rattle.wasm_syntax.specs.declared.instruction.Instruction.TheVariants as ins
 use Rattle.wasm_syntax.specs.rules.Sequence.{Sequence, Stop, Plain, InBlock, InIf, InIfElse}
 use Rattle.wasm_syntax.specs.laws.Examples.{no_type, transfer_type, exit_type}
 use Rattle.wasm_rules.specs.Typing.{Context, HasType}
-use Rattle.wasm_rules.specs.Configuration.{Imported, Own, Program, Store, Main, LabelOf}
-use Rattle.wasm_rules.specs.Configuration.{FrameOf}
+use Rattle.wasm_rules.specs.Configuration.{Imported, Own, Program, Store, Main, LabelOf, FrameOf}
 use Rattle.wasm_rules.specs.Configuration.{Configuration, Outcome, Goes, Traps, Asks}
 use Rattle.wasm_rules.specs.Steps.{counted_step, administrative_step}
 

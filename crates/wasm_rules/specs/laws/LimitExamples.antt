@@ -9,11 +9,9 @@ use Rattle.wasm_syntax.specs.declared.instruction.Instruction.TheVariants as ins
 use Rattle.wasm_syntax.specs.rules.Sequence.{Sequence, Stop, Plain, InLoop}
 use Rattle.wasm_syntax.specs.laws.Examples.{no_type}
 use Rattle.wasm_rules.specs.Configuration.{Own, Program, Store, Main, Label, LabelOf, Frame}
-use Rattle.wasm_rules.specs.Configuration.{FrameOf, Thread, Configuration, Outcome, Goes}
-use Rattle.wasm_rules.specs.Configuration.{Traps}
+use Rattle.wasm_rules.specs.Configuration.{FrameOf, Thread, Configuration, Outcome, Goes, Traps}
 use Rattle.wasm_rules.specs.Steps.{counted_step}
-use Rattle.wasm_rules.specs.laws.Examples.{v, endless, four_bytes, executing}
-use Rattle.wasm_rules.specs.laws.Examples.{goes_with}
+use Rattle.wasm_rules.specs.laws.Examples.{v, endless, four_bytes, executing, goes_with}
 
 -- this thread, over a memory of four bytes
 abbrev pub with_thread : Thread → Configuration

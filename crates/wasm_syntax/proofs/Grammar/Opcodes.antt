@@ -70,20 +70,6 @@ load_sound b operator e =
     let k = pass_some (is_between 0x2c 0x35 b) _ _ e in
     omega (arith, by_table load_opcode 0x2c narrow_loads 0x2c 0x35 b operator refl k.0 k.1)))
 
-pub load_complete : (operator : LoadOperator) → load_of (load_opcode operator) ≡ Some operator
-load_complete load.I32 = refl
-load_complete load.I64 = refl
-load_complete load.I32Bits8S = refl
-load_complete load.I32Bits8U = refl
-load_complete load.I32Bits16S = refl
-load_complete load.I32Bits16U = refl
-load_complete load.I64Bits8S = refl
-load_complete load.I64Bits8U = refl
-load_complete load.I64Bits16S = refl
-load_complete load.I64Bits16U = refl
-load_complete load.I64Bits32S = refl
-load_complete load.I64Bits32U = refl
-
 pub store_sound : (b : ℕ) (operator : StoreOperator) → store_operator_of b ≡ Some operator
     → b ≡ store_opcode operator
 store_sound b operator e =
@@ -93,16 +79,6 @@ store_sound b operator e =
     ∙ ap store_opcode (some_is store.I64 operator h)) (λ f e.
     let k = pass_some (is_between 0x3a 0x3e b) _ _ e in
     omega (arith, by_table store_opcode 0x3a narrow_stores 0x3a 0x3e b operator refl k.0 k.1)))
-
-pub store_complete : (operator : StoreOperator)
-    → store_operator_of (store_opcode operator) ≡ Some operator
-store_complete store.I32 = refl
-store_complete store.I64 = refl
-store_complete store.I32Bits8 = refl
-store_complete store.I32Bits16 = refl
-store_complete store.I64Bits8 = refl
-store_complete store.I64Bits16 = refl
-store_complete store.I64Bits32 = refl
 
 -- ---- numeric operators
 

@@ -1,5 +1,5 @@
 -- Modules are read exactly.
-use Rattle.std.proofs.Common.{◌≡◌, ℕ, ◌↔◌, List, [], ◌∷◌, ◌++◌, map, Option, Some, None, refl, sym}
+use Rattle.std.proofs.Common.{◌≡◌, ℕ, List, [], ◌∷◌, ◌++◌, map, Option, Some, None, refl, sym}
 use Rattle.std.proofs.Common.{ap, subst}
 use Rattle.std.specs.Prelude.{MatchOption}
 use Rattle.wasm_syntax.specs.declared.module.Module.{Module}
@@ -233,6 +233,3 @@ module_complete bytes m is =
       sections_complete is.after is.sections is.in_order,
     )
     (contents_complete (λ id. body_of id is.sections) m (holds_of bytes m is))
-
-pub module_exact : (bytes : List ℕ) (m : Module) → (module_at bytes ≡ Some m) ↔ IsModule bytes m
-module_exact bytes m = (module_sound bytes m, module_complete bytes m)

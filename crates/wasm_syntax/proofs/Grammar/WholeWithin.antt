@@ -1,5 +1,5 @@
 -- Modules within this product's limits are read exactly.
-use Rattle.std.proofs.Common.{◌≡◌, ℕ, suc, ◌+◌, ◌-◌, ◌≤◌, ◌↔◌, leb, List, [], ◌∷◌, length, map}
+use Rattle.std.proofs.Common.{◌≡◌, ℕ, suc, ◌+◌, ◌-◌, ◌≤◌, leb, List, [], ◌∷◌, length, map}
 use Rattle.std.proofs.Common.{Option, Some, None, true, refl, sym, ap, subst, ◌∙◌, arith}
 use Rattle.std.specs.Prelude.{MatchOption, count_by}
 use Rattle.std.specs.List.{AllByRecursion}
@@ -339,11 +339,6 @@ module_within_complete bytes m is fits =
       sections_complete is.after is.sections is.in_order,
     ) (contents_within_complete (λ id.
     body_of id is.sections) m (holds_of bytes m is) (fits_of bytes m fits))
-
-pub module_within_exact : (bytes : List ℕ) (m : Module) → (module_within_at bytes ≡ Some m)
-    ↔ (IsModule bytes m × IsWithinLimits bytes m)
-module_within_exact bytes m =
-    (module_within_sound bytes m, λ h. module_within_complete bytes m h.0 h.1)
 
 -- where nothing is read within the limits there is no such module
 pub no_module_within : (bytes : List ℕ) → module_within_at bytes ≡ None → HasNoModule bytes

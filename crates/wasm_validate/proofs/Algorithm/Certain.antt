@@ -15,9 +15,8 @@ use Rattle.wasm_rules.proofs.TypedShape.{value_type, drop_front}
 use Rattle.wasm_validate.specs.laws.Checking.{Known, Level, popped_of, popped, agrees}
 use Rattle.wasm_validate.specs.laws.Checking.{operand_taken, all_operands_taken, pushed, all_pushed}
 use Rattle.wasm_validate.specs.laws.Checking.{level_unreached, Arrow, Fixed, Jump, Dropping}
-use Rattle.wasm_validate.specs.laws.Checking.{Selecting}
-use Rattle.wasm_validate.specs.laws.Checking.{Refused, only, met, operands_selected, applied}
-use Rattle.wasm_validate.specs.laws.Checking.{arrow_of}
+use Rattle.wasm_validate.specs.laws.Checking.{Selecting, Refused, only, met, operands_selected}
+use Rattle.wasm_validate.specs.laws.Checking.{applied, arrow_of}
 use Rattle.wasm_validate.specs.laws.Remaining.{FitsOperands}
 
 -- ---- known operands

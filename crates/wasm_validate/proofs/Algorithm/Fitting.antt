@@ -10,12 +10,10 @@ use Rattle.wasm_syntax.proofs.Grammar.Exact.{bind_some}
 use Rattle.wasm_validate.specs.laws.Checking.{Known, Level, popped_of, popped, agrees}
 use Rattle.wasm_validate.specs.laws.Checking.{operand_taken, all_operands_taken, pushed, all_pushed}
 use Rattle.wasm_validate.specs.laws.Checking.{level_unreached, Arrow, Fixed, Jump, Dropping}
-use Rattle.wasm_validate.specs.laws.Checking.{Selecting}
-use Rattle.wasm_validate.specs.laws.Checking.{Refused, met, operands_selected, applied}
+use Rattle.wasm_validate.specs.laws.Checking.{Selecting, Refused, met, operands_selected, applied}
 use Rattle.wasm_validate.specs.laws.Remaining.{Matches, FitsOperands}
 use Rattle.wasm_validate.proofs.Algorithm.Arrows.{Meets}
-use Rattle.wasm_rules.proofs.Soundness.ControlSound.{is_same}
-use Rattle.wasm_rules.proofs.Soundness.ControlSound.{same_type}
+use Rattle.wasm_rules.proofs.Soundness.ControlSound.{is_same, same_type}
 
 abbrev pub FitsLevel : Level → List ValueType → Type 0
 FitsLevel l types = FitsOperands l.is_reached l.operands types

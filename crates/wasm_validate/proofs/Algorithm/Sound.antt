@@ -106,9 +106,6 @@ ends_kept c levels types opcodes l l' k h =
     (subst (λ z. EndsOf c levels types opcodes l'.takes z l.is_first) k.gives
     (subst (λ z. EndsOf c levels types opcodes l'.takes l'.gives z) k.is_first h))
 
-not_first : (gives : Option ValueType) → may_end false gives ≡ true
-not_first gives = refl
-
 none_given : (gives : Option ValueType) → may_end true gives ≡ true → gives ≡ None
 none_given None e = refl
 none_given (Some t) e = absurd (cc)

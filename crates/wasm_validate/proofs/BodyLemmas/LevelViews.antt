@@ -13,11 +13,6 @@ use Rattle.wasm_validate.specs.laws.Checking.{Known, Level, labels_of, has_no_op
 use Rattle.wasm_validate.specs.Body.Tops.{top_popped, top_pushed, top_unreached, top_closed}
 use Rattle.wasm_validate.specs.Body.Views.{level_of, levels_of, AreHeights, IsInnermost}
 
-pub none_open : (controls : List Control) (operands : List Known) → levels_of controls operands ≡ []
-    → controls ≡ []
-none_open [] operands e = refl
-none_open (k ∷ controls) operands e = absurd (cc)
-
 -- the operands of the innermost sequence, and those below
 abbrev own : Control → List Known → List Known
 own k operands = take (length operands - k.height) operands

@@ -10,10 +10,9 @@ use Rattle.wasm_syntax.specs.laws.ReadingItems.{◌>>=◌, check}
 use Rattle.wasm_rules.specs.Typing.{Context}
 use Rattle.wasm_validate.specs.laws.Checking.{Known, Level, popped, agrees, operand_taken}
 use Rattle.wasm_validate.specs.laws.Checking.{all_operands_taken, pushed, all_pushed}
-use Rattle.wasm_validate.specs.laws.Checking.{level_unreached}
-use Rattle.wasm_validate.specs.laws.Checking.{Arrow, Fixed, Jump, Dropping, Selecting, Refused, met}
-use Rattle.wasm_validate.specs.laws.Checking.{operands_selected, applied, arrow_of, labels_of}
-use Rattle.wasm_validate.specs.laws.Checking.{levels_after}
+use Rattle.wasm_validate.specs.laws.Checking.{level_unreached, Arrow, Fixed, Jump, Dropping}
+use Rattle.wasm_validate.specs.laws.Checking.{Selecting, Refused, met, operands_selected, applied}
+use Rattle.wasm_validate.specs.laws.Checking.{arrow_of, labels_of, levels_after}
 use Rattle.wasm_validate.specs.Body.Tops.{top_popped, top_pushed, top_all_pushed, top_unreached}
 use Rattle.wasm_validate.specs.Body.Tops.{top_taken, top_all_taken, top_selected, top_applied}
 

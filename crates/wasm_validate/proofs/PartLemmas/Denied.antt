@@ -37,11 +37,6 @@ turn_as {P} {Q} {R} e f (inl h) = let D : ValidFault → Type 0 = λ x. DeniesOu
 turn_as {P} {Q} {R} e f (inr h) = let D : ValidFault → Type 0 = λ x. DeniesOutright x R in
     subst D (sym h.0) (λ r. h.2 (f r))
 
--- of one check
-pub demand_as : {P R : Type 0} (e : ValidFault) → (R → P) → (e ≡ Limits) × (P → ⊥) → Denies e R
-demand_as {P} {R} e f h = let D : ValidFault → Type 0 = λ x. Denies x R in
-    subst D (sym h.0) (λ r. h.1 (f r))
-
 -- two checks in turn that decide this too
 pub decides_as : (P : Type 0) {Q R : Type 0} (r : Result Unit ValidFault) → (Q → R) → (R → Q)
     → DemandsInTurn r Index P Typing Q → Decides r R

@@ -1,7 +1,6 @@
 -- The first import that isn't valid, and why no module with it is valid.
-use Rattle.std.proofs.Common.{◌≡◌, ◌⊎◌, ℕ, suc, ◌+◌, ◌<◌, ◌≤◌, Bool, true, false, List, [], ◌∷◌}
-use Rattle.std.proofs.Common.{◌++◌, length, get_or, drop, inl, inr, refl, sym, subst, map, arith}
-use Rattle.std.proofs.Common.{Result, Ok, Err}
+use Rattle.std.proofs.Common.{◌≡◌, ◌⊎◌, ℕ, suc, ◌+◌, ◌≤◌, Bool, true, false, List, [], ◌∷◌, ◌++◌}
+use Rattle.std.proofs.Common.{length, inl, inr, refl, sym, subst, map, arith, Result, Ok, Err}
 use Rattle.std.specs.Prelude.{IfErr}
 use Rattle.std.specs.List.{AllByRecursion}
 use Rattle.std.proofs.lemmas.List.{length-append}
@@ -24,34 +23,9 @@ use Rattle.wasm_validate.specs.declared.parts.fault.ValidFault.TheVariants.{Typi
 use Rattle.wasm_validate.specs.declared.parts.fault.ValidFault.TheVariants.{DuplicateExport, Memory}
 use Rattle.wasm_validate.specs.rules.Answers.{Denies}
 use Rattle.wasm_validate.specs.rules.Faults.{HasFault}
-use Rattle.wasm_validate.specs.Parts.Parts.{AreImportsValid, IsFirstImportFault, IsImportItemValid}
+use Rattle.wasm_validate.specs.Parts.Parts.{IsFirstImportFault, IsImportItemValid}
 use Rattle.wasm_validate.specs.Parts.Parts.{import_fault, nothing_before, with_import}
 use Rattle.wasm_validate.proofs.PartLemmas.Imported.{all_left}
-use Rattle.wasm_validate.proofs.PartLemmas.Loops.{next}
-
--- ---- the loop over imports
-
-module _ (types : List FunctionType) (before : Before) (imports : List Import) (i : ℕ) (x : Import)
-    (h : i < length imports) (is : x ≡ get_or imports i x) where
-  pub refused_here : (e : ValidFault) → (IsImportItemValid types before x.item → ⊥)
-      → e ≡ import_fault x.item → IsFirstImportFault types before (drop i imports) e
-  refused_here e r f =
-      let P : List Import → Type 0 = λ xs. IsFirstImportFault types before xs e in subst P
-      (sym (next imports i x h is)) (inl (r, f))
-
-  pub refused_further : (e : ValidFault) → IsImportItemValid types before x.item
-      → IsFirstImportFault types (with_import before x.item) (drop (i + 1) imports) e
-      → IsFirstImportFault types before (drop i imports) e
-  refused_further e o r =
-      let P : List Import → Type 0 = λ xs. IsFirstImportFault types before xs e in subst P
-      (sym (next imports i x h is)) (inr (o, r))
-
-  pub valid_further : IsImportItemValid types before x.item
-      → AreImportsValid types (with_import before x.item) (drop (i + 1) imports)
-      → AreImportsValid types before (drop i imports)
-  valid_further o r =
-      let P : List Import → Type 0 = AreImportsValid types before in subst P
-      (sym (next imports i x h is)) (o, r)
 
 -- ---- what the first fault says of all
 

@@ -6,8 +6,7 @@ use Rattle.wasm_syntax.specs.declared.types.ValueType.TheVariants.{I32}
 use Rattle.wasm_syntax.specs.laws.ReadingItems.{◌>>=◌, check}
 use Rattle.wasm_validate.specs.laws.Checking.{Known, Level, popped, agrees, pushed, all_pushed}
 use Rattle.wasm_validate.specs.laws.Checking.{level_unreached, Arrow, Fixed, Jump, Dropping}
-use Rattle.wasm_validate.specs.laws.Checking.{Selecting}
-use Rattle.wasm_validate.specs.laws.Checking.{Refused, met, has_no_operands}
+use Rattle.wasm_validate.specs.laws.Checking.{Selecting, Refused, met, has_no_operands}
 
 abbrev pub top_popped : List Level → Option (Known × List Level)
 top_popped [] = None

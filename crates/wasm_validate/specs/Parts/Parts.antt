@@ -15,12 +15,11 @@ use Rattle.wasm_syntax.specs.declared.module.Data.{Data}
 use Rattle.wasm_syntax.specs.declared.module.Import.{Import}
 use Rattle.wasm_syntax.specs.declared.module.ImportItem.{ImportItem}
 use Rattle.wasm_syntax.specs.declared.module.ImportItem.TheVariants as import
-use Rattle.wasm_rules.specs.Validity.{IsFunctionTypeValid, IsTableTypeValid}
-use Rattle.wasm_rules.specs.Validity.{IsMemoryTypeValid, IsGlobalValid, IsExportItemValid}
-use Rattle.wasm_rules.specs.Validity.{HaveDistinctNames, IsStartValid, IsElementValid}
-use Rattle.wasm_rules.specs.Validity.{IsDataValid, IsFunctionValid, IsIndex, IsValid}
-use Rattle.wasm_rules.specs.Validity.{AreFunctionTypes, globals_of, module_context}
-use Rattle.wasm_rules.specs.Validity.{tables_of, memories_of}
+use Rattle.wasm_rules.specs.Validity.{IsFunctionTypeValid, IsTableTypeValid, IsMemoryTypeValid}
+use Rattle.wasm_rules.specs.Validity.{IsGlobalValid, IsExportItemValid, HaveDistinctNames}
+use Rattle.wasm_rules.specs.Validity.{IsStartValid, IsElementValid, IsDataValid, IsFunctionValid}
+use Rattle.wasm_rules.specs.Validity.{IsIndex, IsValid, AreFunctionTypes, globals_of}
+use Rattle.wasm_rules.specs.Validity.{module_context, tables_of, memories_of}
 use Rattle.wasm_validate.specs.declared.parts.context.ModuleContext.{ModuleContext}
 use Rattle.wasm_validate.specs.declared.parts.imports.Before.{Before}
 use Rattle.wasm_validate.specs.declared.parts.fault.ValidFault.{ValidFault}

@@ -3,8 +3,7 @@
 //! Counts saturate at the largest `usize`.
 
 ghost use Rattle.std.specs.Prelude.{◌≡◌, min, length};
-ghost use Rattle.wasm_rules.specs.Types.{imported_tables, imported_memories};
-ghost use Rattle.wasm_rules.specs.Types.{imported_globals};
+ghost use Rattle.wasm_rules.specs.Types.{imported_tables, imported_memories, imported_globals};
 ghost use Rattle.wasm_rules.specs.Validity.{tables_of, memories_of};
 
 use wasm_syntax::{Import, ImportItem, Module};

@@ -5,9 +5,8 @@
 
 ghost use Rattle.std.specs.Prelude.{◌≤◌, ◌↔◌, IsTrue, length};
 ghost use Rattle.std.specs.List.{AllByRecursion};
-ghost use Rattle.wasm_rules.specs.Validity.{AreLimits, IsFunctionTypeValid};
-ghost use Rattle.wasm_rules.specs.Validity.{IsTableTypeValid, IsMemoryTypeValid, tables_of};
-ghost use Rattle.wasm_rules.specs.Validity.{memories_of};
+ghost use Rattle.wasm_rules.specs.Validity.{AreLimits, IsFunctionTypeValid, IsTableTypeValid};
+ghost use Rattle.wasm_rules.specs.Validity.{IsMemoryTypeValid, tables_of, memories_of};
 ghost use Rattle.wasm_validate.specs.rules.Answers.{Demands};
 ghost use Rattle.wasm_validate.specs.Parts.Parts.{IsImportedTableValid, IsImportedMemoryValid};
 

@@ -1,6 +1,5 @@
 use Rattle.process_rules.proofs.ReachedStates.{reached_are_configured, reached_versions}
-use Rattle.process_rules.proofs.ReachedStates.{nodes_are_few}
-use Rattle.process_rules.proofs.ReachedStates.{reached_input_is_short}
+use Rattle.process_rules.proofs.ReachedStates.{nodes_are_few, reached_input_is_short}
 use Rattle.process_rules.proofs.laws.reached_hosts_are_bounded.Goals as goal
 
 pub returns-clause-configured : goal.returns-clause-configured

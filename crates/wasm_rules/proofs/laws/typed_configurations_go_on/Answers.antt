@@ -1,5 +1,4 @@
-use Rattle.wasm_rules.proofs.Soundness.AdministrativeSound.{never_stuck_holds}
-use Rattle.wasm_rules.proofs.Soundness.AdministrativeSound.{administrative_typed}
+use Rattle.wasm_rules.proofs.Soundness.AdministrativeSound.{never_stuck_holds, administrative_typed}
 use Rattle.wasm_rules.proofs.Soundness.AdministrativeSound.{answers_typed, steps_typed}
 use Rattle.wasm_rules.proofs.laws.typed_configurations_go_on.Goals as goal
 

@@ -1,10 +1,9 @@
 use Rattle.std.proofs.lemmas.Result.{err_from_is_err_and}
-use Rattle.wasm_rules.specs.Validity.{IsElementValid}
+use Rattle.wasm_rules.specs.Validity.{IsElementValid, globals_of}
 use Rattle.wasm_validate.proofs.PartLemmas.Loops.{passes, passed, of_all}
 use Rattle.wasm_validate.proofs.PartLemmas.Denied.{outright_as}
 use Rattle.wasm_syntax.specs.declared.module.Element.{Element}
 use Rattle.wasm_syntax.specs.declared.types.ValueType.TheVariants.{I32}
-use Rattle.wasm_rules.specs.Validity.{globals_of}
 use Rattle.wasm_validate.specs.rules.Faults.{AreElementIndicesDefined, WouldBeConstant}
 use Rattle.wasm_validate.proofs.PartLemmas.Faults.{one_as}
 use Rattle.wasm_validate.proofs.parts.segments.check_elements.Goals as goal
