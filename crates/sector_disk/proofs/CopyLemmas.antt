@@ -1,7 +1,6 @@
 -- Sectors that are read from one disk and written to another: one sector on.
-use Rattle.std.proofs.Common.{◌≡◌, ◌∙◌, ◌⊎◌, refl, sym, ap, subst, ℕ, ◌+◌, ◌-◌, ◌<◌, ◌≤◌, ◌≢◌}
-use Rattle.std.proofs.Common.{List, [], ◌++◌, length, take, drop, Err, Result, ⊎_elim, inl, inr}
-use Rattle.std.proofs.Common.{arith}
+use Rattle.std.proofs.Common.{◌≡◌, ◌∙◌, ◌⊎◌, refl, sym, ap, subst, ℕ, ◌+◌, ◌-◌, ◌<◌, ◌≤◌, ◌≢◌, List}
+use Rattle.std.proofs.Common.{[], ◌++◌, length, take, drop, Err, Result, ⊎_elim, inl, inr, arith}
 use Rattle.std.proofs.lemmas.List.{get_or-drop, get_or-take, ext_get_or, take_all, drop_all}
 use Rattle.std.proofs.lemmas.List.{append-nil, length-replicate, length-take-le}
 use Rattle.std.proofs.lemmas.Bool.{cases_lt}

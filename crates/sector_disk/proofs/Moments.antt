@@ -130,25 +130,6 @@ no_write old new most k bytes stays =
       torn_none most k bytes image,
     )
 
--- a call that stays, and then another
-pub stays_then : (old mid new : Medium) (P Q : DiskImage → Type 0) → Stays old mid
-    → Passes old mid P → ((image : DiskImage) → P image → mid.crash_images image) → Passes mid new Q
-    → Passes old new Q
-stays_then old mid new P Q stays passes here more = record {
-  sectors = more.sectors ∙ passes.sectors;
-  fault_plan = more.fault_plan ∙ passes.fault_plan;
-  room = more.room ∙ passes.room;
-  faults = omega (arith, passes.faults, more.faults);
-  later = omega (arith, passes.later, more.later);
-  nothing_else = λ t image le crashed.
-      ⊎_elim
-      (λ past. ⊎_elim (λ before. inl before) (λ now.
-      inl (old.counts_now t image le (stays_crashed old mid stays image (here image now))))
-      (passes.nothing_else t image le past))
-      (λ now. inr now)
-      (more.nothing_else t image (omega (arith, passes.later)) crashed);
-}
-
 -- a call that stays leaves nothing that a cut couldn't have left before it
 pub stays_passes : (old new : Medium) → Stays old new → Passes old new new.crash_images
     → Passes old new old.crash_images
@@ -160,16 +141,6 @@ pub stays_leaves_only : (old new : Medium) → Stays old new → Passes old new 
 stays_leaves_only old new stays passes =
     leaves_only old new old.crash_images (stays_passes old new stays passes)
     (λ image crashed. crashed)
-
--- since a good sync, of a disk that was only read and synced, a cut left what reads give now
-pub since_sync : (sync now : Medium) → IsAllSynced sync → Stays sync now → (image : DiskImage)
-    → now.crash_images_since sync.moment image → now.shows image
-since_sync sync now all_synced stays image since =
-    let both = now.of_since sync.moment image since in
-    let then = stays.since sync.moment both.0 image (omega arith) both.1 in
-    let same = all_synced.same both.0 image (sync.only_pair both.0 image then) in
-    let shows = now.of_pair_since sync.moment both.0 image both.1 in
-    subst (λ (i : DiskImage). now.shows i) (sym same) shows.0
 
 pub stays_on : (old mid new : Medium) → old.moment ≤ mid.moment → Stays old mid → Stays mid new
     → Stays old new

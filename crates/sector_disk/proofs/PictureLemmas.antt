@@ -6,7 +6,9 @@ use Rattle.std.proofs.lemmas.List.{append_assoc, length-take-le}
 use Rattle.sector_disk.specs.rules.Answered.{AnsweredCalls, ReadLogged, faults_of, is_given_up}
 use Rattle.sector_disk.specs.rules.Answered.{after_failure}
 use Rattle.sector_disk.specs.rules.DiskImage.{DiskImage, IsDiskImage, sector_at}
-use Rattle.sector_disk.specs.rules.Pictures.{FailsToSee, reads_of}
+use Rattle.sector_disk.specs.rules.Pictures.{FailsToSee, IsOfRead, WasRead, reads_of}
+use Rattle.std.specs.List.{AllByRecursion}
+use Rattle.sector_disk.specs.declared.file_call.FileCall.{FileCall}
 use Rattle.sector_disk.specs.Pictures.{GivesAgain}
 use Rattle.sector_disk.specs.declared.fault.DiskFault.{DiskFault}
 use Rattle.sector_disk.specs.declared.fault.DiskFault.TheVariants.{Cut, Io, Memory, Range}
@@ -40,6 +42,42 @@ read_fails Io k bytes old new inside logged = (
 read_fails Cut k bytes old new inside logged = absurd logged
 read_fails Memory k bytes old new inside logged = absurd logged
 
+-- ---- files that were only read
+
+-- good reads
+pub only_read : (count : ℕ) (image : DiskImage) → AllByRecursion (λ (answer : FileCall × List ℕ).
+    IsOfRead answer.0) (reads_of count image)
+only_read zero image = tt
+only_read (suc count) image = (tt, only_read count image)
+
+pub was_read : (count : ℕ) (image : DiskImage) (old new : AnsweredCalls)
+    → new ≡ reads_of count image ++ old → WasRead old new
+was_read count image old new reads = (reads_of count image, reads, only_read count image)
+
+-- two stretches of reads
+both_read : (more less : AnsweredCalls)
+    → AllByRecursion (λ (answer : FileCall × List ℕ). IsOfRead answer.0) more
+    → AllByRecursion (λ (answer : FileCall × List ℕ). IsOfRead answer.0) less
+    → AllByRecursion (λ (answer : FileCall × List ℕ). IsOfRead answer.0) (more ++ less)
+both_read [] less all others = others
+both_read (answer ∷ more) less all others = (all.0, both_read more less all.1 others)
+
+pub was_read_on : (old mid new : AnsweredCalls) → WasRead old mid → WasRead mid new
+    → WasRead old new
+was_read_on old mid new (first, were, reads) (more, are, others) = (
+  more ++ first,
+  are ∙ ap (λ l. more ++ l) were ∙ sym (append_assoc more first old),
+  both_read more first others reads,
+)
+
+-- a read that fails
+one_failed : (given_up : Bool) (old : AnsweredCalls) → is_given_up old ≡ given_up
+    → WasRead old (after_failure (Failed OfRead) NO_BYTES old)
+one_failed true old is = rw is ((Failed Refused, NO_BYTES) ∷ [], refl, (tt, tt))
+one_failed false old is = rw is ((Failed OfRead, NO_BYTES) ∷ [], refl, (tt, tt))
+
+-- ---- reads that fail
+
 -- the same, behind reads that were good
 pub fails_behind : (fault : DiskFault) (count : ℕ) (image : DiskImage)
     (bytes : List ℕ) (old mid new : AnsweredCalls) → fault ≢ Range
@@ -49,7 +87,12 @@ fails_behind fault count image bytes old mid new inside were logged =
     let failed = read_fails fault count bytes mid new inside logged in
     let less = failed.1 in
     let same = ap faults_of were ∙ reads_are_good count image old in
-    inr (failed.0, omega (arith, less, same))
+    let io : new ≡ after_failure (Failed OfRead) NO_BYTES mid =
+    subst (λ f. ReadLogged (Err f) count bytes mid new) failed.0 logged in (
+      was_read_on old mid new (was_read count image old mid were)
+          (subst (λ l. WasRead mid l) (sym io) (one_failed (is_given_up mid) mid refl)),
+      inr (failed.0, omega (arith, less, same)),
+    )
 
 -- one sector more at the end changes none before it
 sector_stays : (image : DiskImage) (bytes : List ℕ) (k : ℕ) → k < length image
@@ -157,10 +200,13 @@ stays_again count m image old mid new is le were reads =
 pub fails_later : (count : ℕ) (image : DiskImage) (old mid new : AnsweredCalls)
     (fault : DiskFault) → mid ≡ reads_of count image ++ old → FailsToSee mid new fault
     → FailsToSee old new fault
-fails_later count image old mid new fault were (inl is) = inl is
-fails_later count image old mid new fault were (inr (is, less)) =
-    let same = ap faults_of were ∙ reads_are_good count image old in
-    inr (is, omega (arith, less, same))
+fails_later count image old mid new fault were (read, inl is) =
+    (was_read_on old mid new (was_read count image old mid were) read, inl is)
+fails_later count image old mid new fault were (read, inr (is, less)) =
+    let same = ap faults_of were ∙ reads_are_good count image old in (
+      was_read_on old mid new (was_read count image old mid were) read,
+      inr (is, omega (arith, less, same)),
+    )
 
 -- all its sectors are full, with one more
 all_full : (image : DiskImage) (bytes : List ℕ)

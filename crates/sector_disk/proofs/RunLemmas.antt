@@ -4,15 +4,13 @@ use Rattle.std.proofs.Common.{arith, refl}
 use Rattle.std.proofs.lemmas.List.{length-set}
 use Rattle.std.proofs.lemmas.Bool.{cases_lt}
 use Rattle.sector_disk.specs.rules.DiskImage.{DiskImage, sector_at, with_sector, front_over}
-use Rattle.sector_disk.specs.rules.DiskImage.{IsDiskImage}
-use Rattle.sector_disk.specs.rules.DiskImage.{IsTorn, IsWritten}
+use Rattle.sector_disk.specs.rules.DiskImage.{IsDiskImage, IsTorn, IsWritten}
 use Rattle.sector_disk.specs.rules.Medium.{Medium, After, Follows, BothFollow, Passes, LeavesOnly}
 use Rattle.sector_disk.specs.rules.Medium.{Tears, TakesWrite, HasCause, FailsInside}
 use Rattle.sector_disk.specs.declared.fault.DiskFault.{DiskFault}
 use Rattle.sector_disk.specs.rules.Run.{IsTornRun, IsWrittenRun, HoldsRun}
 use Rattle.sector_disk.specs.laws.Fronts.{sector-with_sector, sector-with_other}
-use Rattle.sector_disk.proofs.Moments.{crashed_follow, shows_crashed, both_then, goes_on}
-use Rattle.sector_disk.proofs.Moments.{leaves_only}
+use Rattle.sector_disk.proofs.Moments.{crashed_follow, both_then, goes_on, leaves_only}
 
 -- before the first write
 pub run_none : (at : ℕ) (sectors image : DiskImage) → IsTornRun at sectors 0 image image
@@ -119,36 +117,6 @@ module _ (at : ℕ) (sectors : DiskImage) (n : ℕ) (old mid new : Medium) (lt :
       (λ a b c is run written. written_more at sectors n a b c (in_disk_image b is) run written)
       (λ a b c is run torn. run_more at sectors n a b c (in_disk_image b is) run torn)
       so_far takes.both
-
--- for either side alone
-pub crashed_run_more : (at : ℕ) (sectors : DiskImage) (n : ℕ) (old mid new : Medium) → at
-    + n < mid.sectors → Follows (IsTornRun at sectors n) old.crash_images mid.crash_images
-    → Tears (at + n) (sector_at sectors n) mid new
-    → Follows (IsTornRun at sectors (n + 1)) old.crash_images new.crash_images
-crashed_run_more at sectors n old mid new lt so_far tears image crashed =
-    let torn = crashed_follow mid new _ _ tears.both image crashed in
-    let run = so_far torn.0 torn.1 in
-    let inside : at + n < length torn.0 = let is = mid.is_disk_image torn.0 torn.1 in
-    omega (arith, is.count) in
-    (run.0, run.1, run_more at sectors n run.0 torn.0 image inside run.2 torn.2)
-
-pub shown_run_more : (at : ℕ) (sectors : DiskImage) (n : ℕ) (mid new : Medium) → at
-    + n < mid.sectors → HoldsRun mid at sectors n
-    → Follows (IsWritten (at + n) (sector_at sectors n)) mid.shows new.shows
-    → HoldsRun new at sectors (n + 1)
-shown_run_more at sectors n mid new lt so_far written image shows j below =
-    let was = written image shows in
-    let inside : at + n < length was.0 = let is = mid.is_disk_image was.0
-    (shows_crashed mid was.0 was.1) in omega (arith, is.count) in
-    ⊎_elim
-    (λ (earlier : j < n). others at n was.0 image _ was.2 (at + j) (omega arith)
-    ∙ so_far was.0 was.1 j earlier)
-    (λ (last : n ≤ j).
-    let e : n ≡ j = omega arith in
-    let P : ℕ → Type 0 = λ i. sector_at image (at + i) ≡ sector_at sectors i in
-    subst P e (ap (λ (i : DiskImage). sector_at i (at + n)) was.2
-    ∙ sector-with_sector was.0 (at + n) _ inside))
-    (cases_lt j n)
 
 -- before the first write
 pub both_none : (at : ℕ) (sectors : DiskImage) (m : Medium)

@@ -4,8 +4,7 @@
 //! part of that sector.
 ghost use Rattle.std.specs.Prelude.{◌≡◌, ◌+◌, ◌≤◌, IfErr, OnOk};
 ghost use Rattle.sector_disk.specs.rules.Copying.{CopiesRun, FailsToCopy, IsCopied, WasOnlyRead};
-ghost use Rattle.sector_disk.specs.rules.Copying.{SyncsCopy};
-ghost use Rattle.sector_disk.specs.rules.Copying.{LeavesFrontOrCopy, copying_writes};
+ghost use Rattle.sector_disk.specs.rules.Copying.{SyncsCopy, LeavesFrontOrCopy, copying_writes};
 ghost use Rattle.sector_disk.specs.rules.Medium.{CallsUpTo, CountsUpTo, IsAllSynced, PerformsCalls};
 
 use crate::{Disk, DiskFault, SECTOR_SIZE};

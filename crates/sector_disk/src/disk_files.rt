@@ -39,7 +39,8 @@ pub trait DiskFiles {
             IsTrue ((known self.now).refused path.now (Io (open_cause (error_kind error))))) };
 
     /// Opens the file at a path, to read it and nothing else. It has to be a regular file or a
-    /// block device: no other one is opened, so none lets its reader wait.
+    /// block device: no other one is opened, so none lets its reader wait. A FIFO that is put there
+    /// between the look and the opening would.
     fn open_to_read(&self, path: &str) -> io::Result<Self::File>
         ensures opened { IfOk result (λ file. IsTrue ((known self.now).readable path.now file)) }
         ensures refused { IfErr result (λ error.
@@ -113,7 +114,7 @@ impl<R: Files> DiskFiles for R {
             return Err(Error::from(ErrorKind::IsADirectory));
         }
         if !kind.is_file() && !kind.is_block_device() {
-            return Err(Error::from(ErrorKind::InvalidInput));
+            return Err(Error::from(ErrorKind::NotSeekable));
         }
         File::open(self, path)
     }

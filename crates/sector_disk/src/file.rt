@@ -53,9 +53,8 @@ pub struct FileDisk<F> {
 impl<F: DiskFile> FileDisk<F> {
     ghost use Rattle.sector_disk.specs.rules.DiskImage.{zeros};
     ghost use Rattle.sector_disk.specs.rules.File.{answers_of, file_medium, file_of, first_of};
-    ghost use Rattle.sector_disk.specs.rules.Open.{IsMadeAt, IsOpenedAt, IsTakenAt};
-    ghost use Rattle.sector_disk.specs.rules.Open.{IsSeenAt, IsUnseenAt};
-    ghost use Rattle.sector_disk.specs.rules.Open.{IsUnmade, IsUnopenedAt, IsUntaken};
+    ghost use Rattle.sector_disk.specs.rules.Open.{IsMadeAt, IsOpenedAt, IsTakenAt, IsSeenAt};
+    ghost use Rattle.sector_disk.specs.rules.Open.{IsUnseenAt, IsUnmade, IsUnopenedAt, IsUntaken};
 
     /// Makes a file of so many sectors of zeros, locks it, and makes its entry in its folder
     /// durable. It fails where there is such a path already, and from 2^54 sectors on. All zeros

@@ -3,8 +3,7 @@
 ghost use Rattle.std.specs.Prelude.{◌≡◌, ◌<◌, ◌≤◌, List, ℕ, [], length, drop, replicate, All};
 ghost use Rattle.std.specs.Prelude.{vec_capacity, IfOk, IfErr, OnOk, OnErr};
 ghost use Rattle.sector_disk.specs.declared.sector.TheConstants.{SECTOR_SIZE};
-ghost use Rattle.sector_disk.specs.rules.DiskImage.{DiskImage, IsDiskImage, sector_at};
-ghost use Rattle.sector_disk.specs.rules.DiskImage.{zeros};
+ghost use Rattle.sector_disk.specs.rules.DiskImage.{DiskImage, IsDiskImage, sector_at, zeros};
 ghost use Rattle.sector_disk.specs.rules.Pending.{IsWriteWithin, first_front, torn_by};
 ghost use Rattle.sector_disk.specs.rules.Pending.{replayed as all_of};
 ghost use Rattle.sector_disk.specs.laws.Beside.{AreSameBeside};

@@ -25,6 +25,7 @@ fn open_cause(kind: ErrorKind) -> OpenCause
         ErrorKind::FileTooLarge => OpenCause::TooLarge,
         ErrorKind::InvalidFilename => OpenCause::LongName,
         ErrorKind::FilesystemLoop => OpenCause::Loop,
+        ErrorKind::NotSeekable => OpenCause::NoSectors,
         _ => OpenCause::Other,
     }
 }

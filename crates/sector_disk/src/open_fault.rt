@@ -41,5 +41,7 @@ pub enum OpenCause {
     Loop,
     /// A block device is wanted, and the path is none.
     NoDevice,
+    /// The path is neither a regular file nor a block device: it has no sectors.
+    NoSectors,
     Other,
 }

@@ -12,14 +12,12 @@
 //!   area whole, and of the journal at least what was there when the picture was begun. The digests
 //!   tell of a sector that was read while it was written.
 
-ghost use Rattle.std.specs.Prelude.{◌≡◌, ◌≤◌, ◌↔◌, ◌++◌, IfErr, IfOk, IsTrue, length};
-ghost use Rattle.std.specs.Prelude.{min};
+ghost use Rattle.std.specs.Prelude.{◌≡◌, ◌≤◌, ◌↔◌, ◌++◌, IfErr, IfOk, IsTrue, length, min};
 ghost use Rattle.sector_disk.specs.rules.DiskImage.{IsDiskImage};
 ghost use Rattle.sector_disk.specs.rules.File.{answers_of, file_medium};
 ghost use Rattle.sector_disk.specs.rules.Memory.{memory_state_of};
-ghost use Rattle.sector_disk.specs.rules.Pictures.{FailsToSee, IsPictured};
+ghost use Rattle.sector_disk.specs.rules.Pictures.{FailsToSee, IsPictured, reads_of};
 ghost use Rattle.sector_disk.specs.Pictures.{GivesAgain};
-ghost use Rattle.sector_disk.specs.rules.Pictures.{reads_of};
 
 use crate::{Disk, DiskFault, FileDisk, MemDisk, SECTOR_SIZE};
 use std::alloc::Global;

@@ -6,8 +6,7 @@
 //! such a life only a person knows, so no code calls it by itself.
 ghost use Rattle.std.specs.Prelude.{◌⊎◌, ◌*◌, ◌+◌, ◌<◌, [], ◌∷◌, OnOk, IsErr};
 ghost use Rattle.sector_disk.specs.rules.Medium.{LeavesOnly, IsAllSynced, CountsUpTo};
-ghost use Rattle.sector_disk.specs.rules.Medium.{PerformsCalls};
-ghost use Rattle.sector_disk.specs.rules.Medium.{CallsUpTo, FailsInside, spare};
+ghost use Rattle.sector_disk.specs.rules.Medium.{PerformsCalls, CallsUpTo, FailsInside, spare};
 ghost use Rattle.sector_disk.specs.rules.Calls.{rising_writes, synced_writes};
 ghost use Rattle.sector_disk.specs.rules.Rewrite.{AddsNothing, WritesBack};
 ghost use Rattle.sector_disk.specs.declared.disk_call.DiskCall.TheVariants.{WriteOf};

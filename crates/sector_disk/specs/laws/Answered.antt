@@ -4,13 +4,11 @@ use Rattle.std.proofs.Common.{sym, ap, subst, ◌∙◌, inl, inr, ⊎_elim, ari
 use Rattle.std.proofs.lemmas.List.{set_past, length-set}
 use Rattle.std.proofs.lemmas.Bool.{cases_lt, cases_eq}
 use Rattle.sector_disk.specs.rules.DiskImage.{DiskImage, sector_at, with_sector, with_front}
-use Rattle.sector_disk.specs.rules.DiskImage.{front_over}
-use Rattle.sector_disk.specs.rules.DiskImage.{IsDiskImage}
+use Rattle.sector_disk.specs.rules.DiskImage.{front_over, IsDiskImage}
 use Rattle.sector_disk.specs.laws.Fronts.{disk_image-with_sector, disk_image-with_front}
-use Rattle.sector_disk.specs.laws.Fronts.{whole-with_front}
-use Rattle.sector_disk.specs.laws.Fronts.{sector-with_sector, sector-with_other, with_front_twice}
-use Rattle.sector_disk.specs.laws.Fronts.{with_front_comm, with_front_self, front_hides}
-use Rattle.sector_disk.specs.laws.Fronts.{front_within, shorter, longer}
+use Rattle.sector_disk.specs.laws.Fronts.{whole-with_front, sector-with_sector, sector-with_other}
+use Rattle.sector_disk.specs.laws.Fronts.{with_front_twice, with_front_comm, with_front_self}
+use Rattle.sector_disk.specs.laws.Fronts.{front_hides, front_within, shorter, longer}
 use Rattle.sector_disk.specs.laws.Pending.{keeps_step}
 use Rattle.sector_disk.specs.rules.Answered.{AnsweredCalls, OneOn, Explains, ShowsOn, ExplainsSince}
 use Rattle.sector_disk.specs.declared.file_call.FileCall.{FileCall}

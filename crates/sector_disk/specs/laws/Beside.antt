@@ -6,8 +6,7 @@ use Rattle.std.proofs.lemmas.List.{drop_more, drop_all, ext_get_or, get_or-repli
 use Rattle.std.proofs.lemmas.List.{length-replicate}
 use Rattle.std.proofs.lemmas.List.Elements.{All-head, All-tail, All-nil, All-cons}
 use Rattle.std.proofs.lemmas.Bool.{cases_eq}
-use Rattle.sector_disk.specs.rules.DiskImage.{DiskImage, sector_at, with_sector, with_front}
-use Rattle.sector_disk.specs.rules.DiskImage.{zeros}
+use Rattle.sector_disk.specs.rules.DiskImage.{DiskImage, sector_at, with_sector, with_front, zeros}
 use Rattle.sector_disk.specs.declared.sector.TheConstants.{SECTOR_SIZE}
 use Rattle.sector_disk.specs.laws.Fronts.{sector-with_sector, sector-with_other}
 use Rattle.sector_disk.specs.rules.Pending.{replayed, first_front, torn_by}

@@ -2,8 +2,7 @@
 use Rattle.std.specs.Prelude.{◌≡◌, ◌<◌, ◌≤◌, ◌+◌, ◌-◌, ◌^◌, ◌++◌, ℕ, List, [], ◌∷◌, Option, Some}
 use Rattle.std.specs.Prelude.{None, replicate, refl, Bool, true, false, IsTrue, codes}
 use Rattle.sector_disk.specs.rules.DiskImage.{DiskImage, sector_at, with_sector, front_over}
-use Rattle.sector_disk.specs.rules.DiskImage.{with_front}
-use Rattle.sector_disk.specs.rules.DiskImage.{IsDiskImage, IsTornWithin}
+use Rattle.sector_disk.specs.rules.DiskImage.{with_front, IsDiskImage, IsTornWithin}
 use Rattle.std.proofs.Common.{zero, suc, length, drop, sym, ap, ◌∙◌, arith}
 use Rattle.std.proofs.lemmas.List.{drop_all}
 use Rattle.sector_disk.specs.rules.Medium.{Medium, BeginsCalls, spare}

@@ -9,8 +9,7 @@ use Rattle.std.proofs.lemmas.List.{set-set, set_comm, set-get_or, length-set, ge
 use Rattle.std.proofs.lemmas.List.{get_or-set_other, take_all, drop_all}
 use Rattle.std.proofs.lemmas.Bool.{cases_lt, cases_eq}
 use Rattle.sector_disk.specs.rules.DiskImage.{DiskImage, sector_at, with_sector, with_front}
-use Rattle.sector_disk.specs.rules.DiskImage.{front_over}
-use Rattle.sector_disk.specs.rules.DiskImage.{IsDiskImage}
+use Rattle.sector_disk.specs.rules.DiskImage.{front_over, IsDiskImage}
 
 -- a front over a shorter front of anything hides it
 pub front_hides : (f g : ℕ) (b c a : List ℕ) → f ≤ g → f ≤ length c

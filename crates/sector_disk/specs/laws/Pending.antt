@@ -7,8 +7,7 @@ use Rattle.std.proofs.lemmas.List.{drop-drop, drop_more, length-set}
 use Rattle.std.proofs.lemmas.List.Elements.{All-head, All-tail, All-nil, All-cons}
 use Rattle.std.proofs.lemmas.Bool.{cases_eq}
 use Rattle.sector_disk.specs.rules.DiskImage.{DiskImage, sector_at, with_sector, with_front}
-use Rattle.sector_disk.specs.rules.DiskImage.{IsDiskImage}
-use Rattle.sector_disk.specs.rules.DiskImage.{IsTorn}
+use Rattle.sector_disk.specs.rules.DiskImage.{IsDiskImage, IsTorn}
 use Rattle.sector_disk.specs.laws.Fronts.{merged, with_front_twice, with_front_comm}
 use Rattle.sector_disk.specs.laws.Fronts.{with_front_self, sector-with_sector, sector-with_other}
 use Rattle.sector_disk.specs.laws.Fronts.{disk_image-with_sector, disk_image-with_front}

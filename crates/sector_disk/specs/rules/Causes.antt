@@ -6,13 +6,15 @@ use Rattle.std.specs.declared.io.ErrorKind.TheVariants.{PermissionDenied, ReadOn
 use Rattle.std.specs.declared.io.ErrorKind.TheVariants.{AlreadyExists, StorageFull}
 use Rattle.std.specs.declared.io.ErrorKind.TheVariants.{QuotaExceeded, FileTooLarge}
 use Rattle.std.specs.declared.io.ErrorKind.TheVariants.{InvalidFilename, FilesystemLoop}
+use Rattle.std.specs.declared.io.ErrorKind.TheVariants.{NotSeekable}
 use Rattle.std.specs.declared.fs.locks.TryLockError.{TryLockError}
 use Rattle.std.specs.declared.fs.locks.TryLockError.TheVariants.{Error, WouldBlock}
 use Rattle.sector_disk.specs.declared.open_fault.OpenCause.{OpenCause}
 use Rattle.sector_disk.specs.declared.open_fault.OpenCause.TheVariants.{Folder, NoFolder, Missing}
 use Rattle.sector_disk.specs.declared.open_fault.OpenCause.TheVariants.{Forbidden, ReadOnly, Exists}
 use Rattle.sector_disk.specs.declared.open_fault.OpenCause.TheVariants.{NoRoom, Quota, TooLarge}
-use Rattle.sector_disk.specs.declared.open_fault.OpenCause.TheVariants.{LongName, Loop, Other}
+use Rattle.sector_disk.specs.declared.open_fault.OpenCause.TheVariants.{LongName, Loop, NoSectors}
+use Rattle.sector_disk.specs.declared.open_fault.OpenCause.TheVariants.{Other}
 use Rattle.sector_disk.specs.declared.open_fault.OpenFault.{OpenFault}
 use Rattle.sector_disk.specs.declared.open_fault.OpenFault.TheVariants.{Busy, Io}
 
@@ -29,6 +31,7 @@ open_cause QuotaExceeded = Quota
 open_cause FileTooLarge = TooLarge
 open_cause InvalidFilename = LongName
 open_cause FilesystemLoop = Loop
+open_cause NotSeekable = NoSectors
 open_cause kind = Other
 
 -- a file is busy where its lock isn't to be had at once

@@ -1,7 +1,6 @@
 -- The first sectors of a disk, the original, copied onto another disk.
 use Rattle.std.specs.Prelude.{◌≡◌, ◌≢◌, ◌⊎◌, ◌<◌, ◌≤◌, ◌+◌, ◌-◌, ◌++◌, ℕ, List, take, drop}
-use Rattle.std.specs.Prelude.{replicate}
-use Rattle.std.specs.Prelude.{[], ◌∷◌, Result, OnOk, IfErr}
+use Rattle.std.specs.Prelude.{replicate, [], ◌∷◌, Result, OnOk, IfErr}
 use Rattle.sector_disk.specs.rules.DiskImage.{DiskImage, sector_at, front_over}
 use Rattle.sector_disk.specs.rules.Medium.{Medium, After, BothFollow, LeavesOnly, Passes, Stays}
 use Rattle.sector_disk.specs.rules.Medium.{CallsUpTo, CountsUpTo, IsAllSynced, PerformsCalls, spare}

@@ -6,8 +6,7 @@ use Rattle.sector_disk.specs.rules.Answered.{AnsweredCalls, Explains, ExplainsSi
 use Rattle.sector_disk.specs.rules.Answered.{unsynced_of, file_calls}
 use Rattle.sector_disk.specs.rules.Counts.{AnsweredCount}
 use Rattle.sector_disk.specs.laws.Answered.{disk_images, stays, keeps_more_of, since_now}
-use Rattle.sector_disk.specs.laws.Answered.{since_only}
-use Rattle.sector_disk.specs.laws.Answered.{since_shows}
+use Rattle.sector_disk.specs.laws.Answered.{since_only, since_shows}
 use Rattle.sector_disk.specs.laws.Counts.{answered_now, answered_only}
 use Rattle.sector_disk.specs.laws.File.{count_fits}
 use Rattle.sector_disk.specs.declared.file.FileDisk.{FileDisk}

@@ -10,8 +10,7 @@ use Rattle.sector_disk.specs.declared.disk_call.DiskCall.TheVariants.{WriteOf, S
 use Rattle.sector_disk.proofs.Moments.{leaves_synced, leaves_weaker, stays_shows}
 use Rattle.sector_disk.proofs.CallLemmas.{no_calls, begun_first, begun_then, performed_then}
 use Rattle.sector_disk.proofs.CopyLemmas.{image_shown, sectors_same, leaves_then, left_before}
-use Rattle.sector_disk.proofs.CopyLemmas.{left_then}
-use Rattle.sector_disk.proofs.CopyLemmas.{rest_there, whole_there, zero_there}
+use Rattle.sector_disk.proofs.CopyLemmas.{left_then, rest_there, whole_there, zero_there}
 use Rattle.sector_disk.proofs.copying.copy_disk.Goals as goal
 
 pub returns-then-sectors-eq0-clause-calls : goal.returns-then-sectors-eq0-clause-calls

@@ -1,11 +1,13 @@
 use Rattle.std.proofs.Common.{◌≡◌, ◌≢◌, ◌+◌, ◌++◌, [], ◌∷◌, Err, Result, ap, arith}
-use Rattle.std.proofs.Common.{rules, subst, sym}
+use Rattle.std.proofs.Common.{inl, refl, rules, subst, sym}
 use Rattle.sector_disk.specs.rules.DiskImage.{IsDiskImage}
 use Rattle.sector_disk.specs.rules.File.{answers_of}
 use Rattle.sector_disk.specs.rules.Pictures.{reads_of}
 use Rattle.sector_disk.specs.declared.fault.DiskFault.{DiskFault}
 use Rattle.sector_disk.specs.declared.fault.DiskFault.TheVariants.{Range}
+use Rattle.sector_disk.specs.declared.file_call.FileCall.TheVariants.{Read}
 use Rattle.sector_disk.proofs.PictureLemmas.{fails_behind, image_grows, reads_grow}
+use Rattle.sector_disk.proofs.PictureLemmas.{was_read, was_read_on}
 use Rattle.sector_disk.proofs.picture.read_front.Goals as goal
 
 -- an error, as the result of a read
@@ -21,6 +23,17 @@ returns-in-Err-clause-failed g c =
     fails_behind c.in-Err.fault l.sector l.sectors.items c.read.new.into
     (answers_of c.args.disk.now) (answers_of l.disk) (answers_of c.read.new.self) inside
     l.invariant.answers c.in-Err.ensures.logged
+
+pub returns-then-is_err-clause-failed : goal.returns-then-is_err-clause-failed
+returns-then-is_err-clause-failed g c =
+    let l = c.loop-sector in
+    let old = answers_of c.args.disk.now in
+    let mid = answers_of l.disk in (
+      was_read_on old mid (answers_of c.read.new.self)
+          (was_read l.sector l.sectors.items old mid l.invariant.answers)
+          ((Read l.sector, c.read.new.into) ∷ [], c.in_default.ensures.logged.1, (tt, tt)),
+      inl refl,
+    )
 
 pub loop-sector-preserved : goal.loop-sector-preserved
 loop-sector-preserved g c =

@@ -1,7 +1,8 @@
-use Rattle.std.proofs.Common.{◌≡◌, ◌∙◌, ◌<◌, ◌++◌, min, arith, rules, subst, sym}
+use Rattle.std.proofs.Common.{◌≡◌, ◌∙◌, ◌<◌, ◌++◌, min, arith, inl, length, rules, subst, sym, take}
 use Rattle.sector_disk.specs.rules.File.{answers_of}
 use Rattle.sector_disk.specs.rules.Pictures.{reads_of}
 use Rattle.sector_disk.proofs.PictureLemmas.{changes_again, fails_later, stays_again}
+use Rattle.sector_disk.proofs.PictureLemmas.{was_read, was_read_on}
 use Rattle.sector_disk.proofs.picture.take_picture.Goals as goal
 
 pub returns-in-Ok-false : goal.returns-in-Ok-false
@@ -33,6 +34,22 @@ returns-in-Err-gives_again g c =
           (answers_of c.args.disk.now) (answers_of c.read_front.new.disk)
           (answers_of c.gives_again.new.disk) c.in-Err-gives_again.fault
           c.in-Ok.ensures.read.1 c.in-Err-gives_again.ensures.failed;
+    }
+
+pub returns-in-Err-from_sectors : goal.returns-in-Err-from_sectors
+returns-in-Err-from_sectors g c =
+    let image = c.in-Ok.sectors.items in
+    let count = min c.args.most c.args.disk.now.count in
+    let again = take c.min.result image in
+    let old = answers_of c.args.disk.now in
+    let mid = answers_of c.read_front.new.disk in
+    record {
+      pictured = (
+        was_read_on old mid (answers_of c.gives_again.new.disk)
+            (was_read count image old mid (search rules))
+            (was_read (length again) again mid (answers_of c.gives_again.new.disk) (search rules)),
+        inl (search rules),
+      );
     }
 
 pub returns-in-Ok-from_sectors : goal.returns-in-Ok-from_sectors
