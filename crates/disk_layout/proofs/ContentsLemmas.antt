@@ -53,14 +53,6 @@ pub part_over : (a b : List ℕ) (start n : ℕ)
 part_over a b start n = ap (λ l. take n l) (drop_over start a b)
     ∙ take_over n (drop start a) (drop (start - length a) b)
 
-pub part_within : (bytes : List ℕ) (start n : ℕ) → length (part bytes start n) ≤ n
-part_within bytes start n = shorter n (drop start bytes)
-  where
-    shorter : (n : ℕ) (l : List ℕ) → length (take n l) ≤ n
-    shorter zero l = omega arith
-    shorter (suc n) [] = omega arith
-    shorter (suc n) (x ∷ l) = let e = shorter n l in omega arith
-
 -- a part as it is lent, which begins and ends with the bytes at the latest
 pub part_lent : (bytes : List ℕ) (start most from end : ℕ) → from ≡ min start (length bytes)
     → end ≡ min (length bytes) (from + most)

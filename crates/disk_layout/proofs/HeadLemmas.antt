@@ -7,8 +7,7 @@ use Rattle.guest_memory.proofs.ByteLemmas.{number_of-bytes_of}
 use Rattle.wasi_abi.specs.rules.Layouts.{padding}
 use Rattle.sector_disk.specs.rules.DiskImage.{sector_at}
 use Rattle.sector_disk.proofs.ExampleLemmas.{differ}
-use Rattle.disk_layout.specs.rules.Sectors.{Head, stamp_bytes, stamp_of, head_bytes}
-use Rattle.disk_layout.specs.rules.Sectors.{IsNewest}
+use Rattle.disk_layout.specs.rules.Sectors.{Head, stamp_bytes, stamp_of, head_bytes, IsNewest}
 use Rattle.disk_layout.specs.laws.Laws.{HeadFits}
 use Rattle.disk_layout.specs.laws.Heads.{WrittenIsComplete, seven_head}
 use Rattle.disk_layout.specs.laws.Heads.{second_and_third, HeadExamples}

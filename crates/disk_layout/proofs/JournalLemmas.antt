@@ -1,8 +1,7 @@
 -- The sectors of the journal, whole and torn.
-use Rattle.std.proofs.Common.{◌≡◌, ◌⊎◌, ℕ, ◌+◌, ◌-◌, ◌^◌, ◌<◌, ◌≤◌, Bool, true}
-use Rattle.std.proofs.Common.{false, ◌&&◌, ltb, leb, eqb, List, ◌++◌, length, take, drop, replicate}
-use Rattle.std.proofs.Common.{refl, sym, ap, ◌∙◌, subst, inl, inr, ⊎_elim, arith, length-append}
-use Rattle.std.proofs.Common.{append_assoc}
+use Rattle.std.proofs.Common.{◌≡◌, ◌⊎◌, ℕ, ◌+◌, ◌-◌, ◌^◌, ◌<◌, ◌≤◌, Bool, true, false, ◌&&◌, ltb}
+use Rattle.std.proofs.Common.{leb, eqb, List, ◌++◌, length, take, drop, replicate, refl, sym, ap}
+use Rattle.std.proofs.Common.{◌∙◌, subst, inl, inr, ⊎_elim, arith, length-append, append_assoc}
 use Rattle.std.proofs.lemmas.Bool.{ltb-true, lt-ltb, leb-true, le-leb, eq-eqb, ne_eqb, eqb-true}
 use Rattle.std.proofs.lemmas.List.{take_at, drop_at, drop-drop, take-take, drop-take}
 use Rattle.std.proofs.lemmas.List.{take-replicate, drop-replicate, length-replicate}

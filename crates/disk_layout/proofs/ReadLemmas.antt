@@ -1,7 +1,7 @@
 -- Reads one after another, and what they give.
-use Rattle.std.proofs.Common.{◌≡◌, ◌⊎◌, ℕ, zero, suc, ◌+◌, ◌-◌, ◌<◌, ◌≤◌, List, [], ◌∷◌, ◌++◌}
-use Rattle.std.proofs.Common.{length, take, drop, Result, Ok, Err, IsErr, refl, sym, ap, ◌∙◌, subst}
-use Rattle.std.proofs.Common.{⊎_elim, arith, append_assoc, length-append}
+use Rattle.std.proofs.Common.{◌≡◌, ℕ, zero, suc, ◌+◌, ◌-◌, ◌≤◌, List, [], ◌∷◌, ◌++◌}
+use Rattle.std.proofs.Common.{length, take, drop, Result, Ok, Err, refl, sym, ap, ◌∙◌, subst}
+use Rattle.std.proofs.Common.{arith, append_assoc, length-append}
 use Rattle.std.proofs.lemmas.List.{append-nil}
 use Rattle.sector_disk.specs.rules.DiskImage.{DiskImage, sector_at}
 use Rattle.sector_disk.specs.rules.Medium.{Medium, Reads}
@@ -18,7 +18,7 @@ use Rattle.disk_layout.specs.rules.Places.{Geometry}
 use Rattle.disk_layout.specs.rules.Sectors.{Super, bytes_from}
 use Rattle.disk_layout.specs.rules.Stored.{OnlyReads, IsConsistent, Checks}
 use Rattle.disk_layout.specs.Stored.{SplitsContents}
-use Rattle.disk_layout.specs.rules.Stored.{FindsStored, HasOtherDigest, HasItsLengths}
+use Rattle.disk_layout.specs.rules.Stored.{FindsStored, HasOtherDigest}
 use Rattle.disk_layout.specs.declared.geometry.TheConstants.{MODULE_PLACE}
 
 pub no_reads : (m : Medium) → OnlyReads m m
@@ -65,20 +65,6 @@ reads_then old mid new one two =
           (omega (arith, one.unsynced)) before.passes.later one.counts two.counts;
       calls = two.calls ∙ one.calls;
     }
-
--- a read within the disk fails only where the disk does
-pub read_fails : {T : Type 0} (old mid new : Medium) (k : ℕ) (into : List ℕ)
-    (result : Result T DiskFault) → OnlyReads old mid → Reads k into result mid new → IsErr result
-    → k < old.sectors → old.faults < new.faults
-read_fails old mid new k into result reads read failed inside =
-    let so_far = reads.leaves in
-    let passes = so_far.passes in
-    let cause = read.cause in
-    ⊎_elim
-    (λ (named : (mid.sectors ≤ k) ⊎ ⊥). ⊎_elim (λ (out : mid.sectors ≤ k).
-    absurd (let s = passes.sectors in omega arith)) (λ (none : ⊥). absurd none) named)
-    (λ (more : mid.faults < new.faults). omega (arith, passes.faults))
-    (cause.fault failed)
 
 -- one sector more
 pub bytes_from-more : (image : DiskImage) (at n : ℕ)
@@ -153,14 +139,3 @@ finds_split sectors image c bytes (Err NotAWorker) check is splits = absurd spli
 finds_split sectors image c bytes (Err Version) check is splits = absurd splits
 finds_split sectors image c bytes (Err TooSmall) check is splits = absurd splits
 finds_split sectors image c bytes (Err (Disk fault)) check is splits = absurd splits
-
--- what is split off has the lengths that the super says
-pub split_lengths : (sectors : ℕ) (sector bytes : List ℕ) (c : Super) (s : Stored)
-    → Checks sectors sector (Ok c) → SplitsContents c bytes (Ok s) → HasItsLengths s
-split_lengths sectors sector bytes c s check splits =
-    let same : s.geometry ≡ c.geometry = splits.0 in
-    record {
-      config = splits.1 ∙ ap (λ (x : Geometry). x.config) (sym same);
-      wasm = splits.2 ∙ ap (λ (x : Geometry). x.wasm) (sym same);
-      consistent = subst (λ (x : Geometry). IsConsistent x) (sym same) check.2;
-    }

@@ -1,10 +1,8 @@
 -- Whether bytes agree with their digest.
-use Rattle.std.specs.Prelude.{◌≡◌, ℕ, ◌<◌, ◌≤◌, Result}
-use Rattle.std.specs.Prelude.{Ok, Err}
+use Rattle.std.specs.Prelude.{◌≡◌, ℕ, ◌<◌, ◌≤◌, Result, Ok, Err}
 use Rattle.wasi_abi.specs.rules.Configs.{Settings}
 use Rattle.disk_layout.specs.declared.fault.LayoutFault.{LayoutFault}
-use Rattle.disk_layout.specs.declared.fault.LayoutFault.TheVariants.{TooSmall}
-use Rattle.disk_layout.specs.declared.fault.LayoutFault.TheVariants.{Damaged, Memory}
+use Rattle.disk_layout.specs.declared.fault.LayoutFault.TheVariants.{TooSmall, Damaged, Memory}
 use Rattle.disk_layout.specs.declared.stored.Stored.{Stored}
 use Rattle.disk_layout.specs.rules.Places.{total_sectors}
 use Rattle.disk_layout.specs.declared.reading.contents.Contents.{Contents}

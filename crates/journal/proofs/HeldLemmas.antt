@@ -16,8 +16,7 @@ use Rattle.journal.specs.laws.Laws.{FreshHoldsNone, HoldsWhatIsStored, HoldsNone
 use Rattle.journal.specs.laws.Laws.{HoldsOneList, ScansWhatIsHeld}
 use Rattle.journal.proofs.PackedLemmas.{payloads_joined, payloads_end, payloads_are_bytes}
 use Rattle.journal.proofs.PackedLemmas.{payloads_same}
-use Rattle.journal.proofs.SpelledLemmas.{front_spelled, records_spelled, spells_one}
-use Rattle.journal.proofs.SpelledLemmas.{nothing_begins}
+use Rattle.journal.proofs.SpelledLemmas.{front_spelled, records_spelled, spells_one, nothing_begins}
 
 -- what is read of all sectors
 abbrev pub payloads_of : Geometry → ℕ → DiskImage → List ℕ

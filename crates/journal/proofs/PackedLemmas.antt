@@ -1,8 +1,7 @@
 -- Packed sectors, and the payloads that are read of sectors.
 use Rattle.std.proofs.Common.{◌≡◌, ◌⊎◌, ℕ, zero, suc, min, ◌+◌, ◌-◌, ◌*◌, ◌<◌, ◌≤◌, true, false}
 use Rattle.std.proofs.Common.{Bool, cond, List, [], ◌∷◌, ◌++◌, length, take, drop, refl, sym, ap}
-use Rattle.std.proofs.Common.{◌∙◌, subst}
-use Rattle.std.proofs.Common.{⊎_elim, arith, length-drop, append_assoc}
+use Rattle.std.proofs.Common.{◌∙◌, subst, ⊎_elim, arith, length-drop, append_assoc}
 use Rattle.std.proofs.lemmas.Bool.{cases_lt, cond-true, cond-false}
 use Rattle.std.proofs.lemmas.List.{take-append-drop, drop-drop, take_all, nil_from_length}
 use Rattle.std.proofs.lemmas.List.{append-nil}
@@ -11,18 +10,13 @@ use Rattle.guest_memory.specs.rules.Bytes.{IsByte, part}
 use Rattle.guest_memory.proofs.Lists.{all_both, all_take, all_drop}
 use Rattle.sector_disk.specs.rules.DiskImage.{DiskImage, sector_at}
 use Rattle.disk_layout.specs.rules.Sectors.{shown_generation}
-use Rattle.disk_layout.specs.rules.Journal.{journal_sector, is_of, used_length}
-use Rattle.disk_layout.specs.rules.Journal.{payload_of_sector}
+use Rattle.disk_layout.specs.rules.Journal.{journal_sector, is_of, used_length, payload_of_sector}
 use Rattle.disk_layout.specs.Scanned.{payloads_from}
 use Rattle.disk_layout.proofs.JournalLemmas.{IsUsedSector, is_of_true, is_of_other, is_of_means}
 use Rattle.disk_layout.proofs.ReadLemmas.{parts_joined}
 use Rattle.journal.specs.rules.Packed.{packed}
 
 -- ---- packed sectors
-
-pub length-packed : (g p n : ℕ) (bytes : List ℕ) → length (packed g p n bytes) ≡ n
-length-packed g p zero bytes = refl
-length-packed g p (suc n) bytes = let e = length-packed g (p + 1) n (drop 494 bytes) in omega arith
 
 part_next : (bytes : List ℕ) (i : ℕ)
     → part (drop 494 bytes) (494 * i) 494 ≡ part bytes (494 * suc i) 494

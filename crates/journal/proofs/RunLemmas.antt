@@ -1,7 +1,6 @@
 -- What a journal's sectors hold after a run of packed sectors, torn or whole.
-use Rattle.std.proofs.Common.{◌≡◌, ◌⊎◌, ℕ, ◌+◌, ◌-◌, ◌*◌, ◌^◌, ◌<◌, ◌≤◌, true, List, ◌++◌}
-use Rattle.std.proofs.Common.{length, take, drop, sym, ap, ◌∙◌, subst, inl, ⊎_elim, arith}
-use Rattle.std.proofs.Common.{length-drop}
+use Rattle.std.proofs.Common.{◌≡◌, ◌⊎◌, ℕ, ◌+◌, ◌-◌, ◌*◌, ◌^◌, ◌<◌, ◌≤◌, true, List, ◌++◌, length}
+use Rattle.std.proofs.Common.{take, drop, sym, ap, ◌∙◌, subst, inl, ⊎_elim, arith, length-drop}
 use Rattle.std.proofs.lemmas.Bool.{cases_lt}
 use Rattle.std.proofs.lemmas.List.{length-take-le, take_all}
 use Rattle.guest_memory.specs.rules.Bytes.{part}
@@ -11,9 +10,8 @@ use Rattle.disk_layout.specs.rules.Places.{Geometry, journal_place}
 use Rattle.disk_layout.specs.rules.Sectors.{shown_generation}
 use Rattle.disk_layout.specs.rules.Journal.{journal_sector, is_of, payload_of_sector}
 use Rattle.disk_layout.specs.Scanned.{payloads_from}
-use Rattle.disk_layout.proofs.JournalLemmas.{IsUsedSector, is_of_true, is_of_means}
-use Rattle.disk_layout.proofs.JournalLemmas.{IsNewSector, torn_sector, new_is_of}
-use Rattle.disk_layout.proofs.JournalLemmas.{payload-journal_sector}
+use Rattle.disk_layout.proofs.JournalLemmas.{IsUsedSector, is_of_true, is_of_means, IsNewSector}
+use Rattle.disk_layout.proofs.JournalLemmas.{torn_sector, new_is_of, payload-journal_sector}
 use Rattle.journal.specs.rules.Packed.{packed, sectors_for}
 use Rattle.journal.specs.rules.Steps.{HoldsBytes, ShowsNoneAfter, SameOthers}
 use Rattle.journal.proofs.HeldLemmas.{IsClean, held_payloads}

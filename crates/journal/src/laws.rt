@@ -2,8 +2,7 @@
 
 ghost use Rattle.journal.specs.laws.Examples.{PackingExamples, BarrierCallExamples};
 ghost use Rattle.journal.specs.laws.Examples.{FittingExamples, HoldingExamples, BarrierExamples};
-ghost use Rattle.journal.specs.laws.Examples.{LaterExamples};
-ghost use Rattle.journal.specs.laws.Examples.{JournalHoldsExamples};
+ghost use Rattle.journal.specs.laws.Examples.{LaterExamples, JournalHoldsExamples};
 ghost use Rattle.journal.specs.laws.Filled.{FillsWhatIsStored, FillsWhatIsHeld};
 ghost use Rattle.journal.specs.laws.Laws.{FreshHoldsNone, HoldsWhatIsStored, HoldsNoneOfLater};
 ghost use Rattle.journal.specs.laws.Laws.{HoldsOneList, ScansWhatIsHeld};

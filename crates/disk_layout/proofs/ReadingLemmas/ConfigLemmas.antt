@@ -93,14 +93,6 @@ pub record HasTexts (bytes : List ℕ) (arguments environment : List (List ℕ))
   pub arguments_first : TextsFirst (take (length bytes - 12) (drop 12 bytes)) arguments between
   pub environment_first : TextsFirst between environment rest
 
-pub no_arguments : (bytes : List ℕ) → NoTextsFirst (take (length bytes - 12) (drop 12 bytes))
-    → SpellsConfig bytes None
-no_arguments bytes none s limits is =
-    let of = bytes_of_settings bytes s limits is in
-    none s.arguments (texts_bytes s.environment)
-    (subst (λ (l : List ℕ). TextsFirst l s.arguments (texts_bytes s.environment))
-    (sym (behind_numbers bytes)) of.arguments)
-
 -- the environment of any configuration that they spell
 environment_at : (bytes : List ℕ) (s : Settings) (arguments : List (List ℕ)) (rest : List ℕ)
     → AreBytesOf bytes s → TextsFirst (take (length bytes - 12) (drop 12 bytes)) arguments rest

@@ -1,7 +1,6 @@
 -- What a disk holds, and the one answer that is right of it.
 use Rattle.std.proofs.Common.{◌≡◌, ◌⊎◌, ℕ, ◌+◌, ◌<◌, ◌≤◌, List, ◌++◌, length, take, drop, Result}
-use Rattle.std.proofs.Common.{Ok}
-use Rattle.std.proofs.Common.{Err, refl, sym, ap, ◌∙◌, subst, inl, inr, ⊎_elim, arith}
+use Rattle.std.proofs.Common.{Ok, Err, refl, sym, ap, ◌∙◌, subst, inl, inr, ⊎_elim, arith}
 use Rattle.std.proofs.Common.{length-append}
 use Rattle.std.proofs.Math.Seq.{take-append_seam, drop-append_seam}
 use Rattle.sha2.specs.Sha256.{sha256}
@@ -19,9 +18,9 @@ use Rattle.disk_layout.specs.rules.Stored.{IsKnown, IsConsistent, Checks, IsStor
 use Rattle.disk_layout.specs.rules.Stored.{FindsStored}
 use Rattle.disk_layout.specs.declared.reading.contents.Contents.{Contents}
 use Rattle.disk_layout.specs.rules.Held.{IsHeld, ReachesContents, GivesContents, IsStoredOf}
-use Rattle.disk_layout.specs.Held.{Agrees}
 use Rattle.disk_layout.specs.rules.Held.{contents_bytes, HasContents, HasSettings, HasAreasOf}
 use Rattle.disk_layout.specs.rules.Held.{HasJournalOf, HasDamage, SpellsSettings}
+use Rattle.disk_layout.specs.Held.{Agrees}
 use Rattle.disk_layout.specs.laws.Reading.{OneAnswer}
 use Rattle.disk_layout.proofs.ReadingLemmas.ConfigLemmas.{config_cut}
 use Rattle.disk_layout.specs.declared.geometry.TheConstants.{MODULE_PLACE}
@@ -63,40 +62,6 @@ held_says image c held =
     }
 
 -- ---- what is found, and what is made of it
-
--- the stored bytes are those that are held
-record IsSame (stored : Stored) (c : Contents) : Type 0 where
-  config : stored.config ≡ config_bytes c.config
-  wasm : stored.wasm ≡ c.wasm
-
-same_bytes : (sectors : ℕ) (image : DiskImage) (stored : Stored) (c : Contents)
-    → IsStored sectors image stored → IsHeld image c → IsSame stored c
-same_bytes sectors image stored c is held =
-    let s = super_of (sector_at image 0) in
-    let says = held_says image c held in
-    let own : stored.geometry ≡ s.geometry = is.geometry in
-    let count : length (stored.config ++ stored.wasm) ≡ s.geometry.config + s.geometry.wasm =
-    length-append stored.config stored.wasm ∙ ap (λ n. n + length stored.wasm) is.config
-    ∙ ap (λ n. stored.geometry.config + n) is.wasm
-    ∙ ap (λ (x : Geometry). x.config + x.wasm) own in
-    let both : stored.config ++ stored.wasm ≡ config_bytes c.config ++ c.wasm =
-    sym is.contents
-    ∙ ap (λ (n : ℕ). take n (bytes_from image MODULE_PLACE stored.geometry.module_sectors))
-    count
-    ∙ ap (λ (x : Geometry). take (s.geometry.config + s.geometry.wasm)
-    (bytes_from image MODULE_PLACE x.module_sectors)) own ∙ says.contents in
-    let size : length stored.config ≡ length (config_bytes c.config) =
-    is.config ∙ ap (λ (x : Geometry). x.config) (own ∙ says.geometry) in
-    record {
-      config = sym (take-append_seam stored.config stored.wasm)
-          ∙ ap (λ n. take n (stored.config ++ stored.wasm)) size
-          ∙ ap (λ l. take (length (config_bytes c.config)) l) both
-          ∙ take-append_seam (config_bytes c.config) c.wasm;
-      wasm = sym (drop-append_seam stored.config stored.wasm)
-          ∙ ap (λ n. drop n (stored.config ++ stored.wasm)) size
-          ∙ ap (λ l. drop (length (config_bytes c.config)) l) both
-          ∙ drop-append_seam (config_bytes c.config) c.wasm;
-    }
 
 -- what is held is stored
 held_of : (sectors : ℕ) (image : DiskImage) (stored : Stored) (s : Settings)

@@ -11,8 +11,7 @@ use Rattle.guest_memory.proofs.ByteLemmas.{length-bytes_of, number_of-bytes_of, 
 use Rattle.wasi_abi.specs.rules.Layouts.{u16_bytes, u32_bytes, u16_at, u32_at}
 use Rattle.disk_layout.specs.rules.Places.{short_text_bytes}
 use Rattle.disk_layout.specs.rules.Spelled.{HasShortLength, TextFirst, TextsFirst}
-use Rattle.disk_layout.specs.Spelled.{NoTextFirst}
-use Rattle.disk_layout.specs.Spelled.{NoTextsFirst}
+use Rattle.disk_layout.specs.Spelled.{NoTextFirst, NoTextsFirst}
 use Rattle.disk_layout.proofs.StampLemmas.{all_take as bytes_front}
 
 -- ---- numbers
@@ -42,14 +41,6 @@ number_is n bytes all long =
     ∙ bytes_of-number_of (take n bytes) (bytes_front n bytes all) in
     sym (ap (λ l. l ++ drop n bytes) front ∙ take-append-drop n bytes)
 
-pub numbers_cut : (n x y : ℕ) (r s : List ℕ) → x < 256 ^ n → y < 256 ^ n
-    → bytes_of n x ++ r ≡ bytes_of n y ++ s → (x ≡ y) × (r ≡ s)
-numbers_cut n x y r s xlt ylt e = (
-  sym (number_first n x (bytes_of n x ++ r) r xlt refl)
-      ∙ number_first n y (bytes_of n x ++ r) s ylt e,
-  sym (number_behind n x (bytes_of n x ++ r) r refl) ∙ number_behind n y (bytes_of n x ++ r) s e,
-)
-
 -- ---- one text
 
 -- the length of the text at the front
@@ -58,11 +49,6 @@ pub text_length : (bytes text rest : List ℕ) → TextFirst bytes text rest
 text_length bytes text rest first =
     number_first 2 (length text) bytes (text ++ rest) (let r = first.room in omega arith) (first.is
     ∙ append_assoc (u16_bytes (length text)) text rest)
-
-pub text_whole : (bytes text rest : List ℕ) → TextFirst bytes text rest
-    → length bytes ≡ 2 + length text + length rest
-text_whole bytes text rest first = ap length first.is ∙ length-append (short_text_bytes text) rest
-    ∙ ap (λ n. n + length rest) (length-append (u16_bytes (length text)) text)
 
 pub text_cut : (bytes a r b s : List ℕ) → TextFirst bytes a r → TextFirst bytes b s
     → (a ≡ b) × (r ≡ s)

@@ -6,17 +6,15 @@ use Rattle.disk_layout.specs.declared.superblock.TheConstants.{LAYOUT_AT, CONFIG
 use Rattle.disk_layout.specs.declared.superblock.TheConstants.{WASM_LENGTH_AT, MODULE_SECTORS_AT}
 use Rattle.disk_layout.specs.declared.superblock.TheConstants.{AREA_SECTORS_AT, JOURNAL_SECTORS_AT}
 use Rattle.disk_layout.specs.declared.superblock.TheConstants.{CONTENTS_DIGEST_AT, END_MARK_AT}
-use Rattle.disk_layout.specs.declared.head.TheConstants.{HEAD_MARK, VERSION_AT}
-use Rattle.disk_layout.specs.declared.head.TheConstants.{IMAGE_LENGTH_AT, IMAGE_DIGEST_AT}
-use Rattle.disk_layout.specs.declared.head.TheConstants.{HEAD_STAMP_PLACE}
+use Rattle.disk_layout.specs.declared.head.TheConstants.{HEAD_MARK, VERSION_AT, IMAGE_LENGTH_AT}
+use Rattle.disk_layout.specs.declared.head.TheConstants.{IMAGE_DIGEST_AT, HEAD_STAMP_PLACE}
 use Rattle.disk_layout.specs.declared.stamp.TheConstants.{GENERATION_AT, PLACE_AT}
 use Rattle.disk_layout.specs.declared.journal_sectors.TheConstants.{PAYLOAD_SIZE, PAYLOAD_AT}
 use Rattle.wasi_abi.specs.declared.version.Version.TheVariants.{One, Two}
 use Rattle.disk_layout.specs.rules.Journal.{record_head_bytes, longest_record}
 use Rattle.disk_layout.specs.declared.record_fields.TheConstants.{STEP_AT, PAYLOAD_LENGTH_AT}
-use Rattle.disk_layout.specs.declared.record.TheConstants.{REQUEST_KIND, END_KIND}
-use Rattle.disk_layout.specs.declared.record.TheConstants.{REALTIME_KIND, MONOTONIC_KIND}
-use Rattle.disk_layout.specs.declared.record.TheConstants.{RANDOM_KIND}
+use Rattle.disk_layout.specs.declared.record.TheConstants.{REQUEST_KIND, END_KIND, REALTIME_KIND}
+use Rattle.disk_layout.specs.declared.record.TheConstants.{MONOTONIC_KIND, RANDOM_KIND}
 
 pub record LayoutNumbers : Type 0 where
   -- after the super and the two heads

@@ -16,9 +16,8 @@ use Rattle.disk_layout.specs.rules.Places.{Geometry, geometry_of, config_bytes, 
 use Rattle.disk_layout.specs.rules.Places.{area_place}
 use Rattle.disk_layout.specs.declared.geometry.TheConstants.{MODULE_PLACE}
 use Rattle.disk_layout.specs.declared.superblock.TheConstants.{SUPER_MARK, SUPER_END_MARK, LAYOUT}
-use Rattle.disk_layout.specs.declared.superblock.TheConstants.{LAYOUT_AT}
-use Rattle.disk_layout.specs.declared.superblock.TheConstants.{CONFIG_LENGTH_AT, WASM_LENGTH_AT}
-use Rattle.disk_layout.specs.declared.superblock.TheConstants.{MODULE_SECTORS_AT}
+use Rattle.disk_layout.specs.declared.superblock.TheConstants.{LAYOUT_AT, CONFIG_LENGTH_AT}
+use Rattle.disk_layout.specs.declared.superblock.TheConstants.{WASM_LENGTH_AT, MODULE_SECTORS_AT}
 use Rattle.disk_layout.specs.declared.superblock.TheConstants.{AREA_SECTORS_AT, JOURNAL_SECTORS_AT}
 use Rattle.disk_layout.specs.declared.superblock.TheConstants.{CONTENTS_DIGEST_AT, END_MARK_AT}
 use Rattle.disk_layout.specs.declared.head.TheConstants.{HEAD_MARK, VERSION_AT, IMAGE_LENGTH_AT}

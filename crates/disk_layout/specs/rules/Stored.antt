@@ -1,6 +1,5 @@
 -- What a super leads to: the configuration and the module after it (this project's own).
-use Rattle.std.specs.Prelude.{◌≡◌, ◌≢◌, ℕ, ◌+◌, ◌<◌, ◌≤◌, List, ◌++◌, length, take, Result, Ok}
-use Rattle.std.specs.Prelude.{Err}
+use Rattle.std.specs.Prelude.{◌≡◌, ◌≢◌, ℕ, ◌+◌, ◌<◌, ◌≤◌, List, ◌++◌, length, take, Result, Ok, Err}
 use Rattle.sha2.specs.Sha256.{sha256}
 use Rattle.sector_disk.specs.rules.DiskImage.{DiskImage, sector_at}
 use Rattle.sector_disk.specs.rules.Medium.{Medium, Stays, LeavesOnly, CountsUpTo}

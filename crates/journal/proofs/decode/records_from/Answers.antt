@@ -1,6 +1,5 @@
-use Rattle.std.proofs.Common.{◌≡◌, ◌≤◌, ◌+◌, ◌-◌, ◌++◌, ◌∷◌, [], ℕ, List, Some, None, length}
-use Rattle.std.proofs.Common.{take, drop}
-use Rattle.std.proofs.Common.{is_some, subst, sym, ap, ◌∙◌, arith, length-drop}
+use Rattle.std.proofs.Common.{◌≡◌, ◌≤◌, ◌+◌, ◌-◌, ◌++◌, ◌∷◌, [], ℕ, List, Some, None, length, take}
+use Rattle.std.proofs.Common.{drop, is_some, subst, sym, ap, ◌∙◌, arith, length-drop}
 use Rattle.std.proofs.lemmas.List.{take_all}
 use Rattle.wasi_abi.proofs.ByteLemmas.{all_bytes}
 use Rattle.disk_layout.specs.rules.Journal.{Record, payload_length, record_head_bytes}
