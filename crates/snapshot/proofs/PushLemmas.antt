@@ -1,7 +1,6 @@
 -- Sectors that are stored, and bytes that are pushed, one call after another.
-use Rattle.std.proofs.Common.{◌≡◌, ◌<◌, ◌≤◌, ℕ, ◌+◌, ◌-◌, min, List, [], ◌++◌, length}
-use Rattle.std.proofs.Common.{refl, sym, inl, inr, ⊎_elim}
-use Rattle.std.proofs.Common.{◌∙◌, ap, subst, arith, append_assoc, length-append}
+use Rattle.std.proofs.Common.{◌≡◌, ◌<◌, ◌≤◌, ℕ, ◌+◌, ◌-◌, min, List, [], ◌++◌, length, refl, sym}
+use Rattle.std.proofs.Common.{inl, inr, ⊎_elim, ◌∙◌, ap, subst, arith, append_assoc, length-append}
 use Rattle.std.specs.Prelude.{Result, Ok, Err, OnOk, OnErr, IfErr, IsErr, IsTrue}
 use Rattle.std.proofs.lemmas.Bool.{false≢true}
 use Rattle.std.proofs.lemmas.Result.{IfOk-from_err, on_ok_weaker}
@@ -17,14 +16,13 @@ use Rattle.snapshot.specs.Writing.{written_length, IsGiven, SparesSectors}
 use Rattle.snapshot.specs.declared.writer.AreaWriter.{AreaWriter}
 use Rattle.snapshot.specs.declared.writing.Writing.{Writing}
 use Rattle.snapshot.specs.rules.Images.{AreaPart, part_behind, StoresSectors, PushesNext}
-use Rattle.snapshot.specs.rules.Images.{FailsInArea}
-use Rattle.snapshot.specs.rules.Images.{EndsImage}
+use Rattle.snapshot.specs.rules.Images.{FailsInArea, EndsImage}
 use Rattle.snapshot.specs.declared.fault.SnapshotFault.{SnapshotFault}
 use Rattle.snapshot.specs.declared.fault.SnapshotFault.TheVariants.{TooBig, Damaged, Disk, Memory}
 use Rattle.snapshot.specs.declared.fault.SnapshotFault.TheVariants.{Failed}
 use Rattle.snapshot.specs.declared.snapshots.Snapshots.{Snapshots}
-use Rattle.snapshot.specs.declared.snapshots.State.{State}
-use Rattle.snapshot.specs.declared.snapshots.State.TheVariants as state
+use Rattle.snapshot.specs.declared.snapshots.SaveState.{SaveState}
+use Rattle.snapshot.specs.declared.snapshots.SaveState.TheVariants as state
 use Rattle.snapshot.specs.rules.Snapshots.{filled_by, has_failed, is_failed, FitsArea, IsBegun}
 use Rattle.snapshot.specs.rules.Snapshots.{CanEnd}
 use Rattle.snapshot.proofs.AreaLemmas.{area_in}
@@ -262,12 +260,12 @@ pushes_nothing {E = E} geometry bytes r w m is_err =
 
 -- ---- the image that is begun
 
-abbrev writer_or : AreaWriter → State → AreaWriter
+abbrev writer_or : AreaWriter → SaveState → AreaWriter
 writer_or w (state.Begun v) = v
 writer_or w state.Idle = w
 writer_or w state.Failed = w
 
-pub one_image : (t : State) (a b : AreaWriter) → t ≡ state.Begun a → t ≡ state.Begun b → a ≡ b
+pub one_image : (t : SaveState) (a b : AreaWriter) → t ≡ state.Begun a → t ≡ state.Begun b → a ≡ b
 one_image t a b one other = ap (λ x. writer_or a x) (sym one ∙ other)
 
 pub ok_no_err : {T E : Type 0} (x : T) (e : E) → Ok x ≡ Err e → ⊥

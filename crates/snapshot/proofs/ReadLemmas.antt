@@ -81,19 +81,6 @@ names_within sectors geometry image h bytes is names =
     in
     omega (arith, w, m, names.len)
 
-pub names_only : (geometry : Geometry) (image : DiskImage) (h : Head) (bytes found : List ℕ)
-    → found ≡ take h.length_in_bytes
-    (bytes_from image (area_place geometry h.generation) geometry.area_sectors)
-    → NamesBytes geometry image h bytes
-    → h.digest ≡ sha256 found
-names_only geometry image h bytes found is names =
-    let same = names.area in
-    names.digest
-    ∙ ap (λ (l : List ℕ). sha256 l) (sym (is
-    ∙ ap (λ (n : ℕ).
-    take n (bytes_from image (area_place geometry h.generation) geometry.area_sectors))
-    names.len ∙ same))
-
 pub is_named : (geometry : Geometry) (image : DiskImage) (h : Head) (found : List ℕ)
     → length found ≡ h.length_in_bytes
     → found ≡ take h.length_in_bytes

@@ -312,12 +312,6 @@ module _ (geometry : Geometry) (h : Head) (bytes : List ℕ) (is : IsHead h) (le
     filled_commits image a =
         (a.0, a.1, fills_commits geometry h.generation h.version bytes a.0 image a.2)
 
-    pub not_finished : LeavesOnly old mid
-        (After (Commits geometry h.generation h.version bytes) old.crash_images)
-    not_finished =
-        leaves_weaker old mid (After (Fills geometry h.generation) old.crash_images)
-        (After (Commits geometry h.generation h.version bytes) old.crash_images) one filled_commits
-
     pub finished : LeavesOnly mid new (λ image. mid.crash_images image
         ⊎ After (IsTorn (head_place h.generation) (head_bytes h)) mid.shows image)
         → LeavesOnly old new (After (Commits geometry h.generation h.version bytes)

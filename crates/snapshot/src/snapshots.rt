@@ -20,7 +20,7 @@ use std::mem;
 use wasi_abi::NUMBERS_END;
 
 #[derive(Drop)]
-pub(crate) enum State {
+pub(crate) enum SaveState {
     /// No image is begun.
     Idle,
     Begun(AreaWriter),
@@ -34,7 +34,7 @@ pub(crate) enum State {
 /// the disk alone.
 #[derive(Drop)]
 pub struct Snapshots {
-    pub(crate) state: State,
+    pub(crate) state: SaveState,
 }
 
 impl Snapshots {
@@ -58,7 +58,9 @@ impl Snapshots {
     pub fn new() -> Snapshots
         ensures idle { IsTrue (is_idle result) }
     {
-        Snapshots { state: State::Idle }
+        Snapshots {
+            state: SaveState::Idle,
+        }
     }
 
     /// The newest complete head of the disk, if there is one.
@@ -81,7 +83,7 @@ impl Snapshots {
         match newest_head(disk) {
             Ok(head) => Ok(head),
             Err(fault) => {
-                self.state = State::Failed;
+                self.state = SaveState::Failed;
                 Err(SnapshotFault::Disk(fault))
             }
         }
@@ -115,7 +117,7 @@ impl Snapshots {
         match read_process_image(alloc, disk, geometry, head) {
             Ok(process_image) => Ok(process_image),
             Err(fault) => {
-                self.state = State::Failed;
+                self.state = SaveState::Failed;
                 Err(fault)
             }
         }
@@ -177,10 +179,10 @@ impl Snapshots {
             return Err(SnapshotFault::Failed);
         }
         if generation >= NUMBERS_END {
-            self.state = State::Failed;
+            self.state = SaveState::Failed;
             return Err(SnapshotFault::TooBig);
         }
-        self.state = State::Begun(AreaWriter::new(generation, version, writing, known));
+        self.state = SaveState::Begun(AreaWriter::new(generation, version, writing, known));
         Ok(())
     }
 
@@ -204,11 +206,11 @@ impl Snapshots {
             → (disk.new ≡ disk.old) × ((result ≡ Err SnapshotFault.TooBig)
             ⊎ (result ≡ Err (SnapshotFault.Disk DiskFault.Range))) }
     {
-        let State::Begun(mut writer) = mem::replace(&mut self.state, State::Failed) else {
+        let SaveState::Begun(mut writer) = mem::replace(&mut self.state, SaveState::Failed) else {
             return Err(SnapshotFault::Failed);
         };
         writer.push(disk, geometry, bytes)?;
-        self.state = State::Begun(writer);
+        self.state = SaveState::Begun(writer);
         Ok(())
     }
 
@@ -231,11 +233,11 @@ impl Snapshots {
             → (D.medium disk.old).sectors < journal_place geometry.now
             → (disk.new ≡ disk.old) × (result ≡ Err (SnapshotFault.Disk DiskFault.Range)) }
     {
-        let State::Begun(writer) = mem::replace(&mut self.state, State::Failed) else {
+        let SaveState::Begun(writer) = mem::replace(&mut self.state, SaveState::Failed) else {
             return Err(SnapshotFault::Failed);
         };
         writer.finish(disk, geometry)?;
-        self.state = State::Idle;
+        self.state = SaveState::Idle;
         Ok(())
     }
 
@@ -281,7 +283,7 @@ impl Snapshots {
             return Err(SnapshotFault::Failed);
         }
         if let Err(fault) = test_sectors(disk, needed) {
-            self.state = State::Failed;
+            self.state = SaveState::Failed;
             return Err(SnapshotFault::Disk(fault));
         }
         Ok(())
@@ -290,6 +292,6 @@ impl Snapshots {
     fn is_failed(&self) -> bool
         ensures { result ≡ is_failed self.now }
     {
-        matches!(self.state, State::Failed)
+        matches!(self.state, SaveState::Failed)
     }
 }

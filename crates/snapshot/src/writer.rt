@@ -30,8 +30,7 @@ pub(crate) struct AreaWriter {
 }
 
 impl AreaWriter {
-    ghost use Rattle.std.specs.Prelude.{◌≡◌, ◌⊎◌, ◌+◌, ◌-◌, List, ℕ, length};
-    ghost use Rattle.std.specs.Prelude.{OnOk, IsErr};
+    ghost use Rattle.std.specs.Prelude.{◌≡◌, ◌⊎◌, ◌+◌, ◌-◌, List, ℕ, length, OnOk, IsErr};
     ghost use Rattle.sha2.specs.Sha256.{sha256};
     ghost use Rattle.sector_disk.specs.rules.DiskImage.{DiskImage};
     ghost use Rattle.sector_disk.specs.declared.fault.DiskFault.{DiskFault};

@@ -14,8 +14,8 @@ use Rattle.snapshot.specs.rules.Snapshots.{is_failed, is_idle, filled_by, CanEnd
 use Rattle.snapshot.specs.Writing.{written_length}
 use Rattle.snapshot.specs.declared.fault.SnapshotFault.TheVariants.{TooBig}
 use Rattle.snapshot.specs.declared.snapshots.Snapshots.{Snapshots}
-use Rattle.snapshot.specs.declared.snapshots.State.{State}
-use Rattle.snapshot.specs.declared.snapshots.State.TheVariants as state
+use Rattle.snapshot.specs.declared.snapshots.SaveState.{SaveState}
+use Rattle.snapshot.specs.declared.snapshots.SaveState.TheVariants as state
 use Rattle.snapshot.specs.declared.writer.AreaWriter.{AreaWriter}
 use Rattle.snapshot.specs.rules.Steps.{HoldsWithZeros, HasNew, IsOutsideArea, Fills, Commits}
 use Rattle.snapshot.specs.rules.Steps.{Replaces}
@@ -125,7 +125,7 @@ pub record AreaExamples : Type 0 where
 
 -- ---- states
 
-abbrev pub in_state : State → Snapshots
+abbrev pub in_state : SaveState → Snapshots
 in_state s = record { state = s }
 
 -- a writer of three sectors, and a hundred bytes after them

@@ -7,19 +7,19 @@ use Rattle.snapshot.specs.declared.fault.SnapshotFault.TheVariants.{Failed}
 use Rattle.snapshot.specs.Writing.{written_length, Starts}
 use Rattle.snapshot.specs.declared.writing.Writing.{Writing}
 use Rattle.snapshot.specs.declared.writer.AreaWriter.{AreaWriter}
-use Rattle.snapshot.specs.declared.snapshots.State.{State}
-use Rattle.snapshot.specs.declared.snapshots.State.TheVariants as state
+use Rattle.snapshot.specs.declared.snapshots.SaveState.{SaveState}
+use Rattle.snapshot.specs.declared.snapshots.SaveState.TheVariants as state
 use Rattle.snapshot.specs.declared.snapshots.Snapshots.{Snapshots}
 use Rattle.sector_disk.specs.declared.sector.TheConstants.{SECTOR_SIZE}
 
 -- a call has failed
-abbrev pub has_failed : State → Bool
+abbrev pub has_failed : SaveState → Bool
 has_failed state.Failed = true
 has_failed state.Idle = false
 has_failed (state.Begun w) = false
 
 -- no image is begun, and no call has failed
-abbrev pub is_idle_state : State → Bool
+abbrev pub is_idle_state : SaveState → Bool
 is_idle_state state.Failed = false
 is_idle_state state.Idle = true
 is_idle_state (state.Begun w) = false
@@ -66,7 +66,7 @@ abbrev pub FitsArea : Geometry → AreaWriter → Type 0
 FitsArea geometry w = written_length w ≤ SECTOR_SIZE * geometry.area_sectors
 
 -- an image is begun that fits its area, or a call has failed
-abbrev pub CanEnd : Geometry → State → Type 0
+abbrev pub CanEnd : Geometry → SaveState → Type 0
 CanEnd geometry (state.Begun w) = FitsArea geometry w
 CanEnd geometry state.Idle = ⊥
 CanEnd geometry state.Failed = Unit {0}

@@ -2,7 +2,7 @@ use Rattle.std.proofs.Common.{◌≡◌, refl, sym, subst}
 use Rattle.std.specs.Prelude.{Result, Ok, Err}
 use Rattle.sector_disk.specs.declared.fault.DiskFault.{DiskFault}
 use Rattle.snapshot.specs.declared.fault.SnapshotFault.{SnapshotFault}
-use Rattle.snapshot.specs.declared.snapshots.State.TheVariants as state
+use Rattle.snapshot.specs.declared.snapshots.SaveState.TheVariants as state
 use Rattle.snapshot.specs.declared.writer.AreaWriter.{AreaWriter}
 use Rattle.snapshot.specs.rules.Images.{EndsImage}
 use Rattle.snapshot.proofs.PushLemmas.{on_err, one_image, ends_as}
