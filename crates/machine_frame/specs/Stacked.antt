@@ -1,6 +1,5 @@
 -- Where the slots of a frame end.
-use Rattle.std.specs.Prelude.{ℕ, suc, List, length, reverse, Option, Some}
-use Rattle.std.specs.Prelude.{None, slice_get}
+use Rattle.std.specs.Prelude.{ℕ, suc, List, length, reverse, Option, Some, None, slice_get}
 use Rattle.machine_frame.specs.declared.rules.frame.StackFrame.{StackFrame}
 
 -- the base of the next frame, or where there is none how many words there are

@@ -144,10 +144,6 @@ module _ (c : Context) (body : Sequence) where
         dead_second (suc p) _ (length (spelled inner)) (length (spelled rest))
         (dead_behind instr.End a) refl
 
-    -- the position after the end
-    far : ℕ
-    far = suc p + length (spelled inner) + 1
-
     far_is : suc p + length (spelled inner) + 1 ≡ suc (suc p + length (spelled inner))
     far_is = omega arith
 

@@ -15,8 +15,7 @@ use Rattle.wasm_syntax.specs.rules.Sequence.{spelled}
 use Rattle.wasm_rules.specs.Configuration.{Main, Second}
 use Rattle.wasm_rules.specs.Types.{results_of}
 use Rattle.wasm_rules.specs.Typing.{Context}
-use Rattle.wasm_rules.specs.Shapes.{Shape, LabelShape, ShapeOf, types_behind, shape_at}
-use Rattle.wasm_rules.specs.Shapes.{body_shape}
+use Rattle.wasm_rules.specs.Shapes.{Shape, LabelShape, ShapeOf, types_behind, shape_at, body_shape}
 use Rattle.machine_jumps.specs.Jumps.{HasShape}
 use Rattle.machine_jumps.specs.Moves.{opcodes_of, IsTypedBody}
 use Rattle.machine_jumps.proofs.Runs.{RunsFrom, runs_here, run_plain, run_block_in}

@@ -13,8 +13,7 @@ use Rattle.wasm_syntax.specs.rules.Sequence.{spelled}
 use Rattle.wasm_rules.specs.Configuration.{Main, Second}
 use Rattle.wasm_rules.specs.Types.{results_of}
 use Rattle.wasm_rules.specs.Typing.{Context, HasType}
-use Rattle.wasm_rules.specs.Shapes.{Shape, LabelShape, ShapeOf, types_behind, shape_at}
-use Rattle.wasm_rules.specs.Shapes.{body_shape}
+use Rattle.wasm_rules.specs.Shapes.{Shape, LabelShape, ShapeOf, types_behind, shape_at, body_shape}
 use Rattle.wasm_rules.proofs.TypedShape.{IsBehind, typed_behind, closed_length}
 use Rattle.wasm_validate.proofs.Algorithm.Reaching.{chosen}
 

@@ -13,8 +13,7 @@ use Rattle.wasm_syntax.specs.rules.Sequence.{spelled}
 use Rattle.wasm_rules.specs.Types.{results_of}
 use Rattle.wasm_rules.specs.Typing.{Context}
 use Rattle.wasm_rules.specs.Configuration.{Part, Main, Second, Label, LabelOf}
-use Rattle.wasm_rules.specs.Shapes.{Shape, LabelShape, ShapeOf, types_behind, shape_at}
-use Rattle.wasm_rules.specs.Shapes.{body_shape}
+use Rattle.wasm_rules.specs.Shapes.{Shape, LabelShape, ShapeOf, types_behind, shape_at, body_shape}
 use Rattle.wasm_rules.proofs.TypedShape.{closed_length}
 use Rattle.machine_slots.specs.rules.Places.{HaveShape}
 use Rattle.machine_slots.specs.laws.Laws.{ShapesTellPositions, LabelsTellPositions}

@@ -10,7 +10,6 @@ use Rattle.wasm_syntax.specs.declared.types.ValueType.TheVariants.{I32, I64}
 use Rattle.wasm_syntax.specs.declared.value.Value.{Value}
 use Rattle.wasm_syntax.specs.declared.value.Value.TheVariants as value
 use Rattle.wasm_syntax.specs.declared.instruction.Instruction.{Instruction}
-use Rattle.guest_memory.specs.rules.Memories.{LinearMemory}
 use Rattle.wasm_rules.specs.Types.{AreOf, number_in}
 use Rattle.wasm_rules.specs.Typing.{Context, HasInstructionType}
 use Rattle.wasm_rules.specs.Configuration.{Program, Store, Label}
@@ -19,6 +18,7 @@ use Rattle.wasm_rules.specs.Typed.{IsTypedStore}
 use Rattle.wasm_rules.proofs.Soundness.EffectSound.{EffectHas, effect_has}
 use Rattle.machine_slots.specs.rules.Places.{slots_of, all_below}
 use Rattle.machine_slots.specs.Frames.{frame_words, AllNumbersFit, ShowsStore, IsNotWrong, IsReady}
+use Rattle.machine_slots.specs.Frames.{Cells}
 use Rattle.machine_slots.proofs.Families.{map-reverse}
 
 -- values of any types are in range
@@ -38,17 +38,16 @@ typed_not_wrong c program few after (Fails why) h = tt
 typed_not_wrong c program few after Wrong h = absurd h
 
 pub typed_ready : (c : Context) (program : Program) (labels : List (List ValueType))
-    (i : Instruction) (p q types : List ValueType) (base : ℕ) (words globals : List ℕ)
-    (memory : LinearMemory) (store : Store) (ls vs : List Value) (below callers : List ℕ)
+    (i : Instruction) (p q types : List ValueType) (before : Cells) (store : Store)
+    (ls vs : List Value) (below callers : List ℕ)
     → program.most_pages ≤ 2 ^ 16 → IsEffect i → HasInstructionType c labels i p q
     → IsTypedStore c program store → AreOf c.locals ls → AreOf (p ++ types) vs
-    → base ≡ length callers → words ≡ frame_words ls vs below callers
-    → ShowsStore program store globals memory
-    → IsReady program i base words globals memory store ls vs below callers
-typed_ready c program labels i p q types base words globals memory store ls vs below callers few is
-    typing typed locals operands at words_are shown =
+    → before.words ≡ frame_words ls vs below callers
+    → ShowsStore program store before.globals before.memory
+    → IsReady program i before store ls vs below callers
+typed_ready c program labels i p q types before store ls vs below callers few is typing typed
+    locals operands words_are shown =
     record {
-      at = at;
       words_are = words_are;
       shown = shown;
       fits = typed_fit (p ++ types) vs operands;

@@ -4,6 +4,7 @@
 //! and says so. Two matches, one in the other's default arm, stay two jump tables.
 
 ghost use Rattle.std.specs.Prelude.{◌<◌, length};
+ghost use Rattle.machine_slots.specs.Frames.{cells};
 ghost use Rattle.machine_slots.specs.Outcomes.{HasEffect, IsReadyFor};
 
 use crate::integers::{apply_binary, apply_comparison, apply_conversion, apply_unary, eqz};
@@ -27,9 +28,9 @@ pub fn operate(
     memory: &mut Memory,
 ) -> EffectOutcome
     requires room { length slots.old < SLOTS }
-    requires ready { IsReadyFor instruction.now base slots.old globals.old memory.old }
-    ensures { HasEffect instruction.now base slots.old globals.old memory.old result slots.new
-        globals.new memory.new }
+    requires ready { IsReadyFor instruction.now base (cells slots.old globals.old memory.old) }
+    ensures { HasEffect instruction.now base (cells slots.old globals.old memory.old) result
+        (cells slots.new globals.new memory.new) }
 {
     match instruction {
         Instruction::Nop => EffectOutcome::Done,

@@ -33,7 +33,7 @@
 //!
 //! `specs/rules/Places.antt`: `ShownFrame`, `MachineState`, `slots_of`, and `Shows`, which says
 //! which configuration positions and slots show. Contracts also cite `HasEffect`
-//! (`specs/Outcomes.antt`), `IsReady` (`specs/Frames.antt`) and `HasTwo` and its kin
+//! (`specs/Outcomes.antt`), `Cells` and `IsReady` (`specs/Frames.antt`), and `HasTwo` and its kin
 //! (`specs/Words.antt`).
 //!
 //! # Who may touch what

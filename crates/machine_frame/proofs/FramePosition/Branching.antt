@@ -14,8 +14,7 @@ use Rattle.wasm_syntax.specs.rules.Sequence.{spelled}
 use Rattle.wasm_rules.specs.Types.{AreOf, results_of}
 use Rattle.wasm_rules.specs.Typing.{Context, IsLabel}
 use Rattle.wasm_rules.specs.Configuration.{Part, Main, Second, Label, LabelOf}
-use Rattle.wasm_rules.specs.Shapes.{Shape, LabelShape, ShapeOf, types_behind, shape_at}
-use Rattle.wasm_rules.specs.Shapes.{body_shape}
+use Rattle.wasm_rules.specs.Shapes.{Shape, LabelShape, ShapeOf, types_behind, shape_at, body_shape}
 use Rattle.wasm_rules.specs.laws.TypedShapes.{AreTypedShapes}
 use Rattle.wasm_rules.specs.Steps.{held_below}
 use Rattle.wasm_rules.specs.laws.Laws.{labels_height}

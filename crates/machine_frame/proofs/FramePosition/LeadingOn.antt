@@ -24,8 +24,7 @@ use Rattle.machine_jumps.proofs.MovesHold.{plain_leads_on, block_leads_in, loop_
 use Rattle.machine_jumps.proofs.MovesHold.{if_leads_in, choice_leads_in}
 use Rattle.machine_frame.specs.rules.FramePosition.{IsTypedAt}
 use Rattle.machine_frame.specs.laws.FramePosition.{Condition, EffectsLeadOn, BlocksLeadIn}
-use Rattle.machine_frame.specs.laws.FramePosition.{LoopsLeadIn}
-use Rattle.machine_frame.specs.laws.FramePosition.{IfsLeadIn, ChoicesLeadIn}
+use Rattle.machine_frame.specs.laws.FramePosition.{LoopsLeadIn, IfsLeadIn, ChoicesLeadIn}
 use Rattle.machine_frame.proofs.FramePosition.Effects.{effect_behind, table_stays}
 
 -- ---- what typing knows of a frame

@@ -13,15 +13,13 @@ use Rattle.wasm_syntax.specs.declared.value.Trap.TheVariants as trap
 use Rattle.wasm_syntax.specs.declared.instruction.Instruction.{Instruction}
 use Rattle.wasm_syntax.specs.declared.instruction.Instruction.TheVariants as instr
 use Rattle.wasm_syntax.specs.rules.Sequence.{Sequence, Plain}
-use Rattle.wasm_rules.specs.Types.{AreOf, number_in, takes_of}
-use Rattle.wasm_rules.specs.Types.{is_same_function_type}
+use Rattle.wasm_rules.specs.Types.{AreOf, number_in, takes_of, is_same_function_type}
 use Rattle.wasm_rules.specs.Typing.{Context}
 use Rattle.wasm_rules.specs.Configuration.{Callee, Program, Label, Frame, FrameOf, Thread}
 use Rattle.wasm_rules.specs.Configuration.{Configuration, Traps}
 use Rattle.wasm_rules.specs.Steps.{called, calls_entry, signature_of, counted_step, IsReduced}
 use Rattle.wasm_rules.specs.Typed.{IsTypedProgram, IsTypedEntry}
-use Rattle.wasm_rules.proofs.Soundness.ControlSound.{same_function_type}
-use Rattle.wasm_rules.proofs.Soundness.ControlSound.{are_same as types_same}
+use Rattle.wasm_rules.proofs.Soundness.ControlSound.{same_function_type, are_same as types_same}
 use Rattle.wasm_rules.proofs.Soundness.CountedSound.{callee_at, callee_inside}
 use Rattle.machine_slots.specs.rules.Places.{all_below}
 use Rattle.machine_slots.specs.Frames.{frame_words}
@@ -34,8 +32,7 @@ use Rattle.machine_frame.specs.laws.Threads.{Top, EntryLeads, CallLeads, CallsLe
 use Rattle.machine_frame.specs.laws.Threads.{IndirectCallsLead}
 use Rattle.machine_frame.proofs.Threads.Running.{frames_run}
 use Rattle.machine_frame.proofs.Threads.CountedSteps.{reduced_before, with_rest, with_values}
-use Rattle.machine_frame.proofs.Threads.CountedSteps.{call_counted}
-use Rattle.machine_frame.proofs.Threads.CountedSteps.{indirect_counted}
+use Rattle.machine_frame.proofs.Threads.CountedSteps.{call_counted, indirect_counted}
 use Rattle.machine_frame.proofs.Threads.Waiting.{executes}
 use Rattle.machine_frame.proofs.Threads.Entering.{IsCalling, leads}
 
@@ -108,13 +105,13 @@ module _ (c : Context) (program : Program) (opcodes : ℕ → List Instruction) 
         }
 
 pub calls_lead : CallsLead
-calls_lead c program opcodes tables table held d frame frames f is =
-    let top = frames_run c program opcodes tables table held d frame frames is.ready is.stands
+calls_lead c program opcodes tables table held d frame frames f ready stands is =
+    let top = frames_run c program opcodes tables table held d frame frames ready stands
     is.frames_are in
-    let here = direct c program opcodes tables held d frame frames is.ready top f is.here in (
+    let here = direct c program opcodes tables held d frame frames ready top f is.here in (
       here.callee,
       here.there,
-      leads c program table held d frame frames is.ready.typed is.stands is.frames_are here.reduced
+      leads c program table held d frame frames ready.typed stands is.frames_are here.reduced
           top.thread held.words top.runs.ls top.runs.labels top.runs.vs here.after f here.callee
           here.there here.calling here.calls,
     )
@@ -285,22 +282,22 @@ module _ (c : Context) (program : Program) (opcodes : ℕ → List Instruction) 
         }
 
 pub indirect_calls_lead : IndirectCallsLead
-indirect_calls_lead c program opcodes tables table held d frame frames t is =
-    let top = frames_run c program opcodes tables table held d frame frames is.ready is.stands
+indirect_calls_lead c program opcodes tables table held d frame frames t ready stands is =
+    let top = frames_run c program opcodes tables table held d frame frames ready stands
     is.frames_are in
-    let here = indirect c program opcodes tables held d frame frames is.ready top t is.here in
+    let here = indirect c program opcodes tables held d frame frames ready top t is.here in
     let called_is : counted_step program d
     ≡ calls_entry program (slice_get table here.index) here.signature d (λ others.
     FrameOf frame.function top.runs.ls top.runs.labels others here.after) here.vs top.thread =
     here.calls ∙ ap (λ z. calls_entry program (slice_get z here.index) here.signature d (λ others.
     FrameOf frame.function top.runs.ls top.runs.labels others here.after) here.vs top.thread)
-    is.stands.same_table in (
+    stands.same_table in (
       here.signature,
       here.signature_is,
       here.index,
       here.words,
       here.words_are,
-      entry_leads c program table held d frame frames is.ready.typed is.stands is.frames_are
+      entry_leads c program table held d frame frames ready.typed stands is.frames_are
           here.reduced top.thread here.words top.runs.ls top.runs.labels here.vs here.after
           here.signature here.calling here.index (slice_get table here.index) refl called_is,
     )

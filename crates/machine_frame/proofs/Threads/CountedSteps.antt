@@ -10,11 +10,9 @@ use Rattle.wasm_syntax.specs.declared.instruction.Instruction.TheVariants as ins
 use Rattle.wasm_syntax.specs.rules.Sequence.{Sequence, Stop, Plain}
 use Rattle.wasm_rules.specs.Types.{gives_of}
 use Rattle.wasm_rules.specs.Typing.{Context}
-use Rattle.wasm_rules.specs.Configuration.{Callee, Program, Label, FrameOf, Thread}
-use Rattle.wasm_rules.specs.Configuration.{Configuration}
+use Rattle.wasm_rules.specs.Configuration.{Callee, Program, Label, FrameOf, Thread, Configuration}
 use Rattle.wasm_rules.specs.Steps.{topmost, returned, called, calls_entry, signature_of}
-use Rattle.wasm_rules.specs.Steps.{counted_step}
-use Rattle.wasm_rules.specs.Steps.{counted_step_of, exited_by, IsReduced, IsCounted}
+use Rattle.wasm_rules.specs.Steps.{counted_step, counted_step_of, exited_by, IsReduced, IsCounted}
 use Rattle.wasm_rules.specs.Steps.{IsAdministrative}
 use Rattle.wasm_rules.specs.Typed.{IsTypedProgram, IsTyped}
 use Rattle.wasm_rules.proofs.Soundness.AdministrativeSound.{never_stuck_holds}

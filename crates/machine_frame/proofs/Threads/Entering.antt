@@ -12,11 +12,9 @@ use Rattle.wasm_syntax.specs.declared.value.Trap.TheVariants as trap
 use Rattle.wasm_syntax.specs.rules.Sequence.{Sequence}
 use Rattle.wasm_rules.specs.Types.{AreOf, number_in, takes_of}
 use Rattle.wasm_rules.specs.Typing.{Context}
-use Rattle.wasm_rules.specs.Configuration.{Callee, Imported, Own, Program, Label, Frame}
-use Rattle.wasm_rules.specs.Configuration.{FrameOf}
+use Rattle.wasm_rules.specs.Configuration.{Callee, Imported, Own, Program, Label, Frame, FrameOf}
 use Rattle.wasm_rules.specs.Configuration.{Thread, Configuration, Outcome, Goes, Traps, Asks}
-use Rattle.wasm_rules.specs.Steps.{topmost, entered, called, held_by, is_exhausted}
-use Rattle.wasm_rules.specs.Steps.{signature_of}
+use Rattle.wasm_rules.specs.Steps.{topmost, entered, called, held_by, is_exhausted, signature_of}
 use Rattle.wasm_rules.specs.Steps.{zero_of, counted_step, IsReduced, IsCounted}
 use Rattle.wasm_rules.specs.Shapes.{LabelShape}
 use Rattle.wasm_rules.specs.Typed.{IsTypedProgram}

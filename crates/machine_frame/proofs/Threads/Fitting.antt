@@ -14,8 +14,7 @@ use Rattle.wasm_syntax.specs.rules.Sequence.{Sequence, Stop, Plain, InBlock, InL
 use Rattle.wasm_rules.specs.Types.{AreOf, IsOf, value_of, number_in, takes_of, gives_of}
 use Rattle.wasm_rules.specs.Types.{value_type_of}
 use Rattle.wasm_rules.specs.Typing.{Context, HasType, body_context}
-use Rattle.wasm_rules.specs.Configuration.{Own, Program, Store, Label, LabelOf, FrameOf}
-use Rattle.wasm_rules.specs.Configuration.{Thread}
+use Rattle.wasm_rules.specs.Configuration.{Own, Program, Store, Label, LabelOf, FrameOf, Thread}
 use Rattle.wasm_rules.specs.Shapes.{LabelShape, ShapeOf}
 use Rattle.wasm_rules.specs.laws.TypedShapes.{AreTypedShapes}
 use Rattle.wasm_rules.specs.Steps.{held_by, held_below, exited_by}
@@ -29,17 +28,11 @@ use Rattle.machine_slots.specs.rules.Places.{ShownFrame, ShowsCallers, ShowsThre
 use Rattle.machine_slots.specs.declared.limits.TheConstants.{HELD_VALUES}
 use Rattle.machine_slots.proofs.Branches.{held_all}
 use Rattle.machine_frame.specs.laws.Fitting.{AreWordsOf, FitCallers, FitFrames, FewHeld}
-use Rattle.machine_frame.specs.rules.Stacked.{slots_held}
 use Rattle.machine_frame.specs.laws.Fitting.{ShownFits, FitsIsShown}
+use Rattle.machine_frame.specs.rules.Stacked.{slots_held}
 use Rattle.machine_frame.proofs.Threads.Words.{values_count}
 
 -- ---- words and values
-
--- the values with these numbers
-values_with : List ValueType → List ℕ → List Value
-values_with [] words = []
-values_with (t ∷ types) [] = []
-values_with (t ∷ types) (w ∷ words) = value_of t w ∷ values_with types words
 
 number_again : (t : ValueType) (w : ℕ) → number_in (value_of t w) ≡ w
 number_again I32 w = refl

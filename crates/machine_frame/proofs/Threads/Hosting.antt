@@ -12,15 +12,12 @@ use Rattle.wasm_syntax.specs.declared.value.Trap.TheVariants as trap
 use Rattle.wasm_syntax.specs.declared.instruction.Instruction.{Instruction}
 use Rattle.wasm_syntax.specs.declared.instruction.Instruction.TheVariants as instr
 use Rattle.wasm_syntax.specs.rules.Sequence.{Sequence}
-use Rattle.wasm_rules.specs.Types.{AreOf, number_in, takes_of, gives_of}
-use Rattle.wasm_rules.specs.Types.{is_same_function_type}
+use Rattle.wasm_rules.specs.Types.{AreOf, number_in, takes_of, gives_of, is_same_function_type}
 use Rattle.wasm_rules.specs.Typing.{Context}
-use Rattle.wasm_rules.specs.Configuration.{Callee, Imported, Own, Program, Label, Frame}
-use Rattle.wasm_rules.specs.Configuration.{FrameOf}
+use Rattle.wasm_rules.specs.Configuration.{Callee, Imported, Own, Program, Label, Frame, FrameOf}
 use Rattle.wasm_rules.specs.Configuration.{Thread, Configuration, Goes, Traps, Asks}
-use Rattle.wasm_rules.specs.Steps.{where_some, entered, called, calls_entry, held_by}
-use Rattle.wasm_rules.specs.Steps.{is_exhausted, signature_of, zero_of, returned, counted_step}
-use Rattle.wasm_rules.specs.Steps.{exited_by}
+use Rattle.wasm_rules.specs.Steps.{where_some, entered, called, calls_entry, held_by, is_exhausted}
+use Rattle.wasm_rules.specs.Steps.{signature_of, zero_of, returned, counted_step, exited_by}
 use Rattle.wasm_rules.specs.Steps.{IsReduced, IsAdministrative, answered}
 use Rattle.wasm_rules.specs.Typed.{IsTypedMemory, IsEntry}
 use Rattle.wasm_rules.proofs.Soundness.AdministrativeSound.{administrative_typed, answers_typed}
@@ -32,8 +29,7 @@ use Rattle.machine_jumps.specs.Tables.{Table}
 use Rattle.machine_frame.proofs.FramePosition.Positions.{entry_is_typed}
 use Rattle.machine_frame.specs.declared.rules.frame.StackFrame as threads
 use Rattle.machine_frame.specs.rules.Threads.{IsOwn, context_of, AreWaiting, AreFrames}
-use Rattle.machine_frame.specs.rules.Threads.{IsReadyProgram}
-use Rattle.machine_frame.specs.rules.Threads.{MachineParts, PartsStandFor}
+use Rattle.machine_frame.specs.rules.Threads.{IsReadyProgram, MachineParts, PartsStandFor}
 use Rattle.machine_frame.specs.laws.Threads.{Top, HasTaken, HostCalls, AnswersLead}
 use Rattle.machine_frame.proofs.Threads.Words.{same_parts}
 use Rattle.machine_frame.proofs.Threads.Running.{frames_run}

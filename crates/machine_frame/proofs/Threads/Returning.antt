@@ -124,10 +124,10 @@ bodies_end c program opcodes tables table held d frame frames ready stands were 
 -- ---- return
 
 pub returns_lead : ReturnsLead
-returns_lead c program opcodes tables table held d frame frames is =
-    let top = frames_run c program opcodes tables table held d frame frames is.ready is.stands
+returns_lead c program opcodes tables table held d frame frames ready stands is =
+    let top = frames_run c program opcodes tables table held d frame frames ready stands
     is.frames_are in
-    let routine = is.ready.routines frame.function top.own in
+    let routine = ready.routines frame.function top.own in
     let here : HasOpcode top.own.body frame.position instr.Return = (rw routine.spelled at is.here)
     in
     let s = top.runs.is_there in
@@ -153,13 +153,13 @@ returns_lead c program opcodes tables table held d frame frames is =
     reduced_before program d frame.function top.runs.ls top.runs.vs top.runs.labels instr.Return
     x.after top.thread thread in
     let typed = counted_typed c program d (record d { thread = returned r.0 top.thread })
-    is.ready.typed is.stands.typed reduced goes in
+    ready.typed stands.typed reduced goes in
     let given = gives_of top.own.signature ++ (x.typing.0 ++ x.below) in
     let many = values_count given top.runs.vs operands in (
       top.own,
-      few_results c program opcodes tables table held d frame frames is.ready is.stands
+      few_results c program opcodes tables table held d frame frames ready stands
           is.frames_are top,
-      results_fit c program opcodes tables table held d frame frames is.ready is.stands
+      results_fit c program opcodes tables table held d frame frames ready stands
           is.frames_are top (omega (
             arith,
             many,
@@ -169,7 +169,7 @@ returns_lead c program opcodes tables table held d frame frames is =
       λ words falls. (
         record d { thread = returned r.0 top.thread },
         goes,
-        ended c program opcodes tables table held d frame frames is.ready is.stands is.frames_are
+        ended c program opcodes tables table held d frame frames ready stands is.frames_are
             top r.0 r.2 t words falls typed,
       ),
     )

@@ -1,7 +1,8 @@
 //! A frame that runs opcode by opcode, until it has to wait, returns, ends, traps or has no fuel.
 
 ghost use Rattle.std.specs.Prelude.{◌≡◌, ◌<◌, length};
-ghost use Rattle.machine_frame.specs.Frame.Moves.{SomeFrameIsAt, HasFrameAt};
+ghost use Rattle.machine_slots.specs.Frames.{cells};
+ghost use Rattle.machine_frame.specs.Frame.Moves.{SomeFrameIsAt, HasFrameAt, running};
 ghost use Rattle.machine_frame.specs.Frame.Runs.{RunsOn, HaltsWithoutFuel};
 
 use crate::frame::running_frame::RunningFrame;
@@ -37,11 +38,11 @@ pub fn run_by_opcodes(
     globals: &mut [u64],
     memory: &mut Memory,
 ) -> FrameStop
-    requires { SomeFrameIsAt frame.opcodes.now frame.table.now frame.base
-        frame.floor position slots.old globals.old memory.old }
-    ensures { RunsOn frame.entry.opcodes.now frame.entry.table.now frame.entry.base
-        frame.entry.floor position fuel slots.old globals.old memory.old result slots.new
-        globals.new memory.new }
+    requires { SomeFrameIsAt (running frame.opcodes.now frame.table.now frame.base frame.floor)
+        position (cells slots.old globals.old memory.old) }
+    ensures { RunsOn (running frame.entry.opcodes.now frame.entry.table.now frame.entry.base
+        frame.entry.floor) position fuel (cells slots.old globals.old memory.old) result
+        (cells slots.new globals.new memory.new) }
 {
     let end = frame.opcodes.len();
     let mut fuel_left = fuel;

@@ -4,20 +4,15 @@
 ghost use Rattle.machine_frame.specs.laws.Walks.{WalksAreSteps, WalksReduce, WalksCompose};
 ghost use Rattle.machine_frame.specs.laws.Walks.{WalksAreTyped};
 ghost use Rattle.machine_frame.specs.laws.FramePosition.{OpcodesRemain, IsTypedSomewhere};
-ghost use Rattle.machine_frame.specs.laws.FramePosition.{LabelsEnd};
-ghost use Rattle.machine_frame.specs.laws.FramePosition.{OperandsAreFew, EntryIsTyped};
-ghost use Rattle.machine_frame.specs.laws.FramePosition.{EffectsLeadOn};
-ghost use Rattle.machine_frame.specs.laws.FramePosition.{BlocksLeadIn, LoopsLeadIn};
-ghost use Rattle.machine_frame.specs.laws.FramePosition.{IfsLeadIn};
-ghost use Rattle.machine_frame.specs.laws.FramePosition.{ChoicesLeadIn, BranchesLead};
-ghost use Rattle.machine_frame.specs.laws.FramePosition.{ConditionsLead};
-ghost use Rattle.machine_frame.specs.laws.FramePosition.{TablesLead, EndsLeadOut};
+ghost use Rattle.machine_frame.specs.laws.FramePosition.{LabelsEnd, OperandsAreFew, EntryIsTyped};
+ghost use Rattle.machine_frame.specs.laws.FramePosition.{EffectsLeadOn, BlocksLeadIn, LoopsLeadIn};
+ghost use Rattle.machine_frame.specs.laws.FramePosition.{IfsLeadIn, ChoicesLeadIn, BranchesLead};
+ghost use Rattle.machine_frame.specs.laws.FramePosition.{ConditionsLead, TablesLead, EndsLeadOut};
 ghost use Rattle.machine_frame.specs.laws.FramePosition.{PartsLeadOut};
 ghost use Rattle.machine_frame.specs.laws.Fitting.{ShownFits, FitsIsShown};
 ghost use Rattle.machine_frame.specs.laws.Threads.{ReducedIsShown, ShownStands, FramesRun};
 ghost use Rattle.machine_frame.specs.laws.Threads.{RunsStand, CallsLead, IndirectCallsLead};
-ghost use Rattle.machine_frame.specs.laws.Threads.{ReturnsLead, BodiesEnd, HostCalls};
-ghost use Rattle.machine_frame.specs.laws.Threads.{AnswersLead};
+ghost use Rattle.machine_frame.specs.laws.Threads.{ReturnsLead, BodiesEnd, HostCalls, AnswersLead};
 
 /// Walks, and the steps that they are.
 pub fn walks_are_steps()

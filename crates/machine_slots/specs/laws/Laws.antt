@@ -5,7 +5,6 @@ use Rattle.wasm_syntax.specs.declared.types.ValueType.{ValueType}
 use Rattle.wasm_syntax.specs.declared.value.Value.{Value}
 use Rattle.wasm_syntax.specs.declared.instruction.Instruction.{Instruction}
 use Rattle.wasm_syntax.specs.rules.Sequence.{Sequence, spelled}
-use Rattle.guest_memory.specs.rules.Memories.{LinearMemory}
 use Rattle.wasm_rules.specs.Types.{AreOf, number_in}
 use Rattle.wasm_rules.specs.Typing.{Context, HasInstructionType}
 use Rattle.wasm_rules.specs.Configuration.{Program, Store, Label, LabelOf, FrameOf}
@@ -14,21 +13,20 @@ use Rattle.wasm_rules.specs.Steps.{topmost, branch, held_below, zero_of}
 use Rattle.wasm_rules.specs.Effects.{IsEffect}
 use Rattle.wasm_rules.specs.Typed.{IsTypedStore}
 use Rattle.machine_slots.specs.rules.Places.{HaveShape, slots_of, all_below}
-use Rattle.machine_slots.specs.Frames.{frame_words, ShowsStore, IsReady}
+use Rattle.machine_slots.specs.Frames.{Cells, frame_words, ShowsStore, IsReady}
 
 -- a frame whose operands have the types that the instruction's typing rule asks for, and which is
 -- shown, is ready for it
 abbrev pub TypedFramesAreReady : Type 0
 TypedFramesAreReady =
     (c : Context) (program : Program) (labels : List (List ValueType)) (i : Instruction)
-    (p q types : List ValueType) (base : ℕ)
-    (words globals : List ℕ) (memory : LinearMemory) (store : Store) (ls vs : List Value)
+    (p q types : List ValueType) (before : Cells) (store : Store) (ls vs : List Value)
     (below callers : List ℕ)
     → program.most_pages ≤ 2 ^ 16 → IsEffect i → HasInstructionType c labels i p q
     → IsTypedStore c program store → AreOf c.locals ls
-    → AreOf (p ++ types) vs → base ≡ length callers → words ≡ frame_words ls vs below callers
-    → ShowsStore program store globals memory
-    → IsReady program i base words globals memory store ls vs below callers
+    → AreOf (p ++ types) vs → before.words ≡ frame_words ls vs below callers
+    → ShowsStore program store before.globals before.memory
+    → IsReady program i before store ls vs below callers
 
 -- the words of a frame, from the bottom up, are its slots above those of the frames that wait
 abbrev pub SlotsAreWords : Type 0

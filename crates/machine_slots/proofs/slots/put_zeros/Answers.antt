@@ -1,5 +1,5 @@
 use Rattle.machine_slots.proofs.ZeroLemmas.{four_zeros}
-use Rattle.std.proofs.Common.{◌≤◌, length, arith}
+use Rattle.std.proofs.Common.{arith}
 use Rattle.machine_slots.proofs.slots.put_zeros.Goals as goal
 
 pub loop-place-init : goal.loop-place-init

@@ -1,9 +1,8 @@
 use Rattle.std.proofs.Common.{arith}
 use Rattle.machine_frame.proofs.FrameLemmas.Steps.{frame_there}
 use Rattle.machine_frame.proofs.FrameLemmas.Fueled.{begins, has_frame_now, come_on, come_to}
-use Rattle.machine_frame.proofs.FrameLemmas.Fueled.{come_out}
-use Rattle.machine_frame.proofs.FrameLemmas.Fueled.{on_within, out_falls, ends_here, stays_here}
-use Rattle.machine_frame.proofs.FrameLemmas.Fueled.{halts_here}
+use Rattle.machine_frame.proofs.FrameLemmas.Fueled.{come_out, on_within, out_falls, ends_here}
+use Rattle.machine_frame.proofs.FrameLemmas.Fueled.{stays_here, halts_here}
 use Rattle.machine_frame.proofs.FrameLemmas.StraightRuns.{frame_in, straight_on, straight_halts}
 use Rattle.machine_frame.proofs.FrameLemmas.StraightRuns.{no_heavier}
 use Rattle.machine_frame.proofs.frame.opcode_loop.run_by_opcodes.Goals as goal

@@ -1,8 +1,7 @@
 use Rattle.std.proofs.Common.{Some, ap, ◌∙◌}
 use Rattle.std.proofs.lemmas.Option.{slice_get_past}
 use Rattle.machine_frame.proofs.FrameLemmas.Ends.{passing_starts, all_exited, reduced_there}
-use Rattle.machine_frame.proofs.FrameLemmas.Ends.{behind_there}
-use Rattle.machine_frame.proofs.FrameLemmas.Ends.{end_exited, part_exited, part_jumps}
+use Rattle.machine_frame.proofs.FrameLemmas.Ends.{behind_there, end_exited, part_exited, part_jumps}
 use Rattle.machine_frame.proofs.FrameLemmas.Reading.{read_at}
 use Rattle.machine_frame.proofs.frame.step.pass_ends.Goals as goal
 use Rattle.machine_frame.proofs.frame.step.pass_ends.Goals.{in-End, in-Else}

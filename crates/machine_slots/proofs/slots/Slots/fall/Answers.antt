@@ -1,6 +1,5 @@
 use Rattle.std.proofs.Common.{arith, ◌≡◌, ◌+◌, ◌-◌, ◌≤◌, ◌∙◌, ap, length, get_or, length-take}
-use Rattle.std.proofs.lemmas.List.{length-reverse}
-use Rattle.std.proofs.lemmas.List.{get_or_read}
+use Rattle.std.proofs.lemmas.List.{length-reverse, get_or_read}
 use Rattle.machine_slots.proofs.Falls.{falls_all, falls_but_one}
 use Rattle.machine_slots.proofs.slots.Slots.fall.Goals as goal
 
