@@ -15,8 +15,7 @@ use Rattle.wasm_rules.specs.Validity.{module_context}
 use Rattle.wasm_rules.specs.Configuration.{Own, Program, Label, Thread, FrameOf}
 use Rattle.wasm_rules.specs.Configuration.{Configuration, Traps, Stuck}
 use Rattle.wasm_rules.specs.Steps.{counted_step, counted_step_of, stopped, answered, IsEnded}
-use Rattle.wasm_rules.specs.Steps.{ReducesTo}
-use Rattle.wasm_rules.specs.Steps.{Advances, Steps, none, more}
+use Rattle.wasm_rules.specs.Steps.{ReducesTo, Advances, Steps, none, more}
 use Rattle.wasm_rules.proofs.OneRun.{one_run, reduces_once}
 use Rattle.machine_slots.specs.rules.Places.{ShownFrame, IsCallOf, ShowsRunning, ShowsWaiting}
 use Rattle.machine_slots.specs.rules.Places.{IsFrameOf, ShowsCallers, ShowsThread}

@@ -10,8 +10,7 @@ use Rattle.wasm_syntax.specs.declared.instruction.Instruction.{Instruction}
 use Rattle.wasm_syntax.specs.declared.instruction.Instruction.TheVariants as instr
 use Rattle.wasm_syntax.specs.rules.Sequence.{Sequence, Plain}
 use Rattle.wasm_rules.specs.Types.{takes_of, is_same_function_type}
-use Rattle.wasm_rules.specs.Configuration.{Callee, Imported, Own, Program, Label, Frame}
-use Rattle.wasm_rules.specs.Configuration.{FrameOf}
+use Rattle.wasm_rules.specs.Configuration.{Callee, Imported, Own, Program, Label, Frame, FrameOf}
 use Rattle.wasm_rules.specs.Configuration.{Thread, Configuration, Outcome, Traps, Asks}
 use Rattle.wasm_rules.specs.Steps.{where_some, topmost, called, calls_entry, signature_of}
 use Rattle.wasm_rules.specs.Steps.{entered, execute, counted_step_of, counted_step}

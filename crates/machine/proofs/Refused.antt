@@ -1,14 +1,12 @@
 -- What each step refuses is no accepted module.
-use Rattle.std.proofs.Common.{◌≢◌, ℕ, List, sym, ◌∙◌, subst}
+use Rattle.std.proofs.Common.{ℕ, List, sym, ◌∙◌, subst}
 use Rattle.wasm_syntax.proofs.Grammar.Exact.{some_is}
 use Rattle.wasm_syntax.proofs.Grammar.Whole.{module_complete}
 use Rattle.wasm_syntax.specs.declared.module.Module.{Module}
 use Rattle.wasm_syntax.specs.rules.Modules.{IsModule}
-use Rattle.wasm_syntax.specs.rules.Limits.{HasNoModule}
 use Rattle.wasm_syntax.specs.laws.Laws.{BytesSpellAtMostOneModule}
 use Rattle.wasm_rules.specs.Validity.{IsValid}
 use Rattle.wasm_rules.specs.Linking.{IsLinkable}
-use Rattle.wasm_decode.specs.declared.fault.DecodeFault.{DecodeFault}
 use Rattle.wasm_decode.specs.declared.fault.DecodeFault.TheVariants as decode
 use Rattle.wasm_validate.specs.declared.parts.fault.ValidFault.{ValidFault}
 use Rattle.wasm_validate.specs.declared.parts.fault.ValidFault.TheVariants as valid
@@ -27,13 +25,6 @@ one bytes m n is_m is_n =
     some_is m n (sym (module_complete bytes m is_m) ∙ module_complete bytes n is_n)
 
 module _ (bytes : List ℕ) where
-  pub not_spelled : (e : DecodeFault) → (e ≢ decode.Memory → HasNoModule bytes)
-      → ModuleFaultDenies (Decode e) (HasNoValidModule bytes)
-  not_spelled decode.Memory h = tt
-  not_spelled (decode.Malformed at) h = λ m a. h (λ e. absurd (cc)) m a.spelled a.limits
-  not_spelled (decode.Float at) h = λ m a. h (λ e. absurd (cc)) m a.spelled a.limits
-  not_spelled (decode.Limit passed) h = λ m a. h (λ e. absurd (cc)) m a.spelled a.limits
-
   pub not_valid : (m : Module) → IsModule bytes m → (e : ValidFault) → DeniesValid e (IsValid m)
       → ModuleFaultDenies (Valid e) (HasNoValidModule bytes)
   not_valid m spelled valid.Memory h = tt

@@ -4,8 +4,7 @@
 ghost use Rattle.std.specs.Prelude.{◌≡◌, ◌≢◌, ◌↔◌, ◌<◌, ◌≤◌, ◌-◌, IsTrue, Some, [], length, drop};
 ghost use Rattle.std.specs.Prelude.{reverse, slice_get, take};
 ghost use Rattle.machine_slots.specs.declared.slots.TheConstants.{SLOTS};
-ghost use Rattle.machine_frame.specs.rules.Stacked.{slots_held};
-ghost use Rattle.machine_frame.specs.rules.Stacked.{AreStacked};
+ghost use Rattle.machine_frame.specs.rules.Stacked.{slots_held, AreStacked};
 ghost use Rattle.machine_frame.specs.Stacked.{slots_end};
 ghost use Rattle.machine_frame.specs.rules.Threads.{places_of};
 ghost use Rattle.machine.specs.rules.LentFrames.{lent_frame};

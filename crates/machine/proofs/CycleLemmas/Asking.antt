@@ -11,14 +11,12 @@ use Rattle.wasm_syntax.specs.declared.instruction.Instruction.{Instruction}
 use Rattle.wasm_syntax.specs.declared.instruction.Instruction.TheVariants as instr
 use Rattle.wasm_syntax.specs.rules.Sequence.{Sequence, Stop, Plain, InBlock, InLoop, InIf, InIfElse}
 use Rattle.wasm_rules.specs.Types.{takes_of, gives_of, is_same_function_type}
-use Rattle.wasm_rules.specs.Configuration.{Callee, Imported, Own, Program, Label, Frame}
-use Rattle.wasm_rules.specs.Configuration.{FrameOf}
+use Rattle.wasm_rules.specs.Configuration.{Callee, Imported, Own, Program, Label, Frame, FrameOf}
 use Rattle.wasm_rules.specs.Configuration.{Thread, Configuration, Outcome, Goes, Traps, Asks}
 use Rattle.wasm_rules.specs.Effects.{Effect, Gives, Fails, Wrong, effect}
-use Rattle.wasm_rules.specs.Steps.{where_some, topmost, branch, returned, called}
-use Rattle.wasm_rules.specs.Steps.{calls_entry, signature_of, entered, is_exhausted}
-use Rattle.wasm_rules.specs.Steps.{after_effect}
-use Rattle.wasm_rules.specs.Steps.{goes_on, execute, counted_step_of}
+use Rattle.wasm_rules.specs.Steps.{where_some, topmost, branch, returned, called, calls_entry}
+use Rattle.wasm_rules.specs.Steps.{signature_of, entered, is_exhausted, after_effect, goes_on}
+use Rattle.wasm_rules.specs.Steps.{execute, counted_step_of}
 use Rattle.machine_frame.proofs.Threads.Calling.{same_signature}
 
 -- the instructions that call

@@ -14,8 +14,7 @@ use Rattle.wasm_rules.specs.Types.{number_in, takes_of}
 use Rattle.wasm_rules.specs.Typing.{Context}
 use Rattle.wasm_rules.specs.Shapes.{LabelShape}
 use Rattle.wasm_rules.specs.Validity.{module_context}
-use Rattle.wasm_rules.specs.Configuration.{Imported, Program, Label, Thread, Configuration}
-use Rattle.wasm_rules.specs.Configuration.{Asks}
+use Rattle.wasm_rules.specs.Configuration.{Imported, Program, Label, Thread, Configuration, Asks}
 use Rattle.wasm_rules.specs.Configuration.{FrameOf}
 use Rattle.wasm_rules.specs.Steps.{topmost, signature_of, counted_step_of}
 use Rattle.machine_jumps.specs.Jumps.{HasShape}
@@ -30,10 +29,10 @@ use Rattle.machine.specs.Routines.Routines.{opcodes_in, tables_in}
 use Rattle.machine_frame.proofs.FrameLemmas.Effects.{has_room}
 use Rattle.machine.specs.declared.execution.code.Executable.{Executable}
 use Rattle.machine.specs.declared.execution.state.State.{State}
-use Rattle.machine.specs.Execution.Codes.{HasSignature, HasOwnFunction, parts_of_state}
+use Rattle.machine.specs.Execution.Codes.{HasSignature, parts_of_state}
 use Rattle.machine.specs.Execution.Waiting.{AsksAt, IsAsking, TakesWords}
 use Rattle.machine.proofs.CycleLemmas.Codes.{read_at}
-use Rattle.machine.proofs.CycleLemmas.Advancing.{ready, top_of, own_of, own_function, frame_is_at}
+use Rattle.machine.proofs.CycleLemmas.Advancing.{ready, top_of, own_of, frame_is_at}
 use Rattle.machine.proofs.CycleLemmas.Asking.{IsCall, only_calls, called_given, entry_given}
 use Rattle.machine.proofs.CycleLemmas.FunctionSignatures.{signature_there}
 use Rattle.wasm_validate.proofs.BodyLemmas.LevelViews.{at_top as first_of}
@@ -102,9 +101,6 @@ module _ (code : Executable) (s : State) (functions : List FunctionType) (progra
 
     abbrev here : Instruction → Type 0
     here i = slice_get (opcodes_in code.«module» frame.function) frame.position ≡ Some i
-
-    pub own_there : HasOwnFunction code frame.function
-    own_there = own_function code s functions program d h.stands frame frames e
 
     -- it is at a call
     pub call_here : (i : Instruction) × here i × IsCall i
@@ -236,11 +232,6 @@ module _ (code : Executable) (s : State) (frame : StackFrame) (first : slice_get
     pub few_there : frame.position < 4096
     few_there = position_few code s r.functions r.program r.configuration r.function r.arguments
         r.waits r.at frame others frames_are
-
-    pub own_is_there : HasOwnFunction code frame.function
-    own_is_there =
-        own_there code s r.functions r.program r.configuration r.function r.arguments r.waits r.at
-        frame others frames_are
 
     pub within_there : (opcodes : List Instruction)
         → opcodes ≡ opcodes_in code.«module» frame.function → frame.position < length opcodes

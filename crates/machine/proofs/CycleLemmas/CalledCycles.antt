@@ -76,13 +76,8 @@ module _ (code : Executable) (s : State) (functions : List FunctionType) (progra
   direct f at =
       calls_lead (module_context code.«module» functions) program (opcodes_in code.«module»)
       (tables_in code.«module» code.routines.items) code.table.items
-      (parts_of_state s) d at.0 at.1 f
-      (record {
-        ready = ready code s functions program d stands;
-        stands = stands.stands;
-        frames_are = at.2;
-        here = at.3;
-      })
+      (parts_of_state s) d at.0 at.1 f (ready code s functions program d stands) stands.stands
+      (record { frames_are = at.2; here = at.3 })
 
   pub direct_import : (f : ℕ) (call : Call) → StateIsAtOpcode code s (instr.Call f)
       → slice_get code.calls.items f ≡ Some call

@@ -20,8 +20,7 @@ use Rattle.wasm_rules.specs.Types.{AreOf, number_in, takes_of, imported_function
 use Rattle.wasm_rules.specs.Types.{with_function_index}
 use Rattle.wasm_rules.specs.Validity.{module_context}
 use Rattle.wasm_rules.specs.Linking.{IsItemOffered, IsOffered}
-use Rattle.wasm_rules.specs.Configuration.{Callee, Imported, Own, Program, Thread}
-use Rattle.wasm_rules.specs.Configuration.{Configuration}
+use Rattle.wasm_rules.specs.Configuration.{Callee, Imported, Own, Program, Thread, Configuration}
 use Rattle.wasm_rules.specs.Configuration.{Asks, Traps}
 use Rattle.wasm_rules.specs.Steps.{counted_step, IsCounted}
 use Rattle.machine_slots.specs.declared.limits.TheConstants.{FRAMES, HELD_VALUES}

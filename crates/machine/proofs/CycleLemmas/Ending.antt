@@ -2,8 +2,7 @@
 use Rattle.std.proofs.Common.{◌≡◌, ⊎_elim, ℕ, suc, ◌+◌, ◌-◌, ◌<◌, ◌≤◌, ◌^◌, List, [], ◌∷◌, ◌++◌}
 use Rattle.std.proofs.Common.{length, Some, refl, sym, ap, ◌∙◌, subst, arith, length-append}
 use Rattle.std.proofs.Common.{length-take, length-drop, append-nil, take, drop}
-use Rattle.std.specs.Prelude.{slice_get, reverse, replicate, nat_le, Bool, true, false}
-use Rattle.std.specs.Prelude.{◌==◌}
+use Rattle.std.specs.Prelude.{slice_get, reverse, replicate, nat_le, Bool, true, false, ◌==◌}
 use Rattle.std.proofs.lemmas.List.{reverse-append, take-append-drop}
 use Rattle.std.proofs.lemmas.Bool.Decides.{nat_tests}
 use Rattle.wasm_syntax.specs.declared.types.FunctionType.{FunctionType}
@@ -48,14 +47,6 @@ module _ (code : Executable) (s : State) (functions : List FunctionType) (progra
     (d : Configuration) (stands : StateStandsFor code s functions program d) where
   abbrev c : Context
   c = module_context code.«module» functions
-
-  -- what is held alone decides
-  pub held_stands : (new : State) → parts_of_state new ≡ parts_of_state s
-      → StateStandsFor code new functions program d
-  held_stands new e = record {
-    is_code = stands.is_code;
-    stands = subst (λ z. PartsStandFor c program code.table.items z d) (sym e) stands.stands;
-  }
 
   -- ---- no frame is left
 
@@ -294,13 +285,8 @@ module _ (code : Executable) (s : State) (functions : List FunctionType) (progra
   leaves_by_return frame frames e at =
       let h = returns_lead (module_context code.«module» functions) program
       (opcodes_in code.«module») (tables_in code.«module» code.routines.items) code.table.items
-      (parts_of_state s) d frame frames
-      (record {
-        ready = ready code s functions program d stands;
-        stands = stands.stands;
-        frames_are = e;
-        here = at;
-      }) in
+      (parts_of_state s) d frame frames (ready code s functions program d stands) stands.stands
+      (record { frames_are = e; here = at }) in
       record { own = h.0; one = h.1; room = h.2; goes = h.3 }
 
   module _ (frame : StackFrame) (frames : List StackFrame) (P : Configuration

@@ -47,13 +47,8 @@ module _ (code : Executable) (s : State) (functions : List FunctionType) (progra
   some_entry =
       let l = indirect_calls_lead (module_context code.«module» functions) program
       (opcodes_in code.«module») (tables_in code.«module» code.routines.items) code.table.items
-      (parts_of_state s) d at.0 at.1 t
-      (record {
-        ready = ready code s functions program d stands;
-        stands = stands.stands;
-        frames_are = at.2;
-        here = at.3;
-      }) in (
+      (parts_of_state s) d at.0 at.1 t (ready code s functions program d stands) stands.stands
+      (record { frames_are = at.2; here = at.3 }) in (
         l.2,
         record {
           signature = l.0;

@@ -9,8 +9,7 @@ use Rattle.wasm_rules.specs.Types.{imported_functions}
 use Rattle.wasm_syntax.specs.rules.Modules.{function_type_of}
 use Rattle.wasm_rules.specs.Validity.{AreTypesAt, IsFunctionValid, IsValid, memories_of}
 use Rattle.wasm_rules.specs.Configuration.{Callee, Imported, Own, Program}
-use Rattle.wasm_rules.specs.Instantiation.{AreCallees, IsProgram, least_pages_of}
-use Rattle.wasm_rules.specs.Instantiation.{most_pages_of}
+use Rattle.wasm_rules.specs.Instantiation.{AreCallees, IsProgram, least_pages_of, most_pages_of}
 
 -- of its own functions
 own_callees : (m : Module) (functions : List FunctionType) (own : List Function)

@@ -10,9 +10,8 @@ use Rattle.wasm_syntax.specs.declared.module.Import.{Import}
 use Rattle.wasm_syntax.specs.declared.module.Module.{Module}
 use Rattle.wasm_rules.specs.Validity.{IsValid, tables_of, memories_of}
 use Rattle.wasm_rules.specs.Configuration.{Store}
-use Rattle.wasm_rules.specs.Instantiation.{AreInitial, filled_table, filled_memory}
-use Rattle.wasm_rules.specs.Instantiation.{empty_table, empty_memory, most_pages_of}
-use Rattle.wasm_rules.specs.Instantiation.{IsInitialStore}
+use Rattle.wasm_rules.specs.Instantiation.{AreInitial, filled_table, filled_memory, empty_table}
+use Rattle.wasm_rules.specs.Instantiation.{empty_memory, most_pages_of, IsInitialStore}
 use Rattle.wasm_rules.specs.Linking.{HasExportedMemory, IsLinkable}
 use Rattle.wasm_validate.proofs.PartLemmas.Lookups.{is_false}
 use Rattle.machine.specs.declared.instance.fault.LinkFault.{LinkFault}

@@ -1,6 +1,6 @@
 -- Constants, and the globals' initial values.
 use Rattle.std.proofs.Common.{◌≡◌, inl, inr, ℕ, zero, suc, ◌+◌, ◌<◌, List, [], ◌∷◌, ◌++◌, length}
-use Rattle.std.proofs.Common.{get_or, drop, Some, refl, sym, ap, subst, arith, append_assoc}
+use Rattle.std.proofs.Common.{get_or, drop, Some, refl, ap, arith}
 use Rattle.std.specs.Prelude.{slice_get, IsSome}
 use Rattle.std.specs.Option.{option_and_then}
 use Rattle.std.specs.List.{AllByRecursion}
@@ -12,7 +12,6 @@ use Rattle.wasm_syntax.specs.declared.module.Global.{Global}
 use Rattle.wasm_rules.specs.Types.{imported_globals}
 use Rattle.wasm_rules.specs.Validity.{IsConstant, IsGlobalValid}
 use Rattle.wasm_rules.specs.Instantiation.{constant_of, AreInitial}
-use Rattle.wasm_validate.proofs.PartLemmas.Loops.{next}
 
 -- a global's value is its initial value
 pub global_value : (globals : List Global) (values : List Value) (x : ℕ) → AreInitial globals values
@@ -38,14 +37,6 @@ initial_at (f ∷ globals) (v ∷ values) (suc i) g lt is h =
 abbrev pub Continues : List Global → List Value → ℕ → Type 0
 Continues globals values i = (more : List Value) → AreInitial (drop i globals) more
     → AreInitial globals (values ++ more)
-
-pub continues_with : (globals : List Global) (values : List Value) (i : ℕ) (g : Global) (v : Value)
-    → i < length globals → g ≡ get_or globals i g → constant_of [] g.initial ≡ Some v
-    → Continues globals values i → Continues globals (values ++ v ∷ []) (i + 1)
-continues_with globals values i g v lt is e so_far = λ more h.
-    let P : List Global → Type 0 = λ gs. AreInitial gs (v ∷ more) in
-    let all = so_far (v ∷ more) (subst P (sym (next globals i g lt is)) (e, h)) in
-    rw append_assoc all
 
 -- a valid global begins with a constant where none is imported
 constant_there : (expression : List Instruction) (t : ValueType) → IsConstant [] expression t

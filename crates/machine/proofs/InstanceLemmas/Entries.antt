@@ -1,7 +1,7 @@
 -- Entries of a table, written one by one.
 use Rattle.std.proofs.Common.{◌≡◌, ℕ, ◌+◌, ◌<◌, List, [], ◌∷◌, length, get_or, set, drop, Option}
-use Rattle.std.proofs.Common.{Some, refl, sym, ap, ◌∙◌, arith, append_assoc, add-zero}
-use Rattle.std.proofs.lemmas.List.{take_more_set, drop-set-lt, take-append-drop}
+use Rattle.std.proofs.Common.{Some, refl, sym, ap, ◌∙◌, arith, append_assoc}
+use Rattle.std.proofs.lemmas.List.{take_more_set, drop-set-lt}
 use Rattle.wasm_validate.proofs.PartLemmas.Loops.{next}
 use Rattle.machine.proofs.InstanceLemmas.Filled.{entries_put}
 
@@ -16,9 +16,6 @@ put_more table f functions from h =
     drop-set-lt ((from + 1) + length functions) table from (Some f) (omega arith)
     ∙ ap (λ n. drop n table) same in
     rw (front, back, append_assoc) refl
-
-pub put_none : (table : List (Option ℕ)) (from : ℕ) → entries_put table [] from ≡ table
-put_none table from = rw add-zero (take-append-drop from table)
 
 -- the functions from here on, by this one and what follows it
 pub put_next : (table : List (Option ℕ)) (functions : List ℕ) (i from : ℕ) (f : ℕ)

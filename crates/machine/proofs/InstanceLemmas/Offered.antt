@@ -126,19 +126,6 @@ not_all_offered types [] e r h = r
 not_all_offered types (i ∷ imports) e (inl r) h = not_offered types i e r h.0
 not_all_offered types (i ∷ imports) e (inr r) h = not_all_offered types imports e r.1 h.1
 
-pub refused_here : (types : List FunctionType) (imports : List Import) (i : ℕ) (x : Import)
-    (e : LinkFault) → i < length imports → x ≡ get_or imports i x → IsImportRefused types x e
-    → AreImportsRefused types (drop i imports) e
-refused_here types imports i x e h is r = let P : List Import
-    → Type 0 = λ xs. AreImportsRefused types xs e in subst P (sym (next imports i x h is)) (inl r)
-
-pub refused_further : (types : List FunctionType) (imports : List Import) (i : ℕ) (x : Import)
-    (e : LinkFault) → i < length imports → x ≡ get_or imports i x → IsOffered offer types x
-    → AreImportsRefused types (drop (i + 1) imports) e → AreImportsRefused types (drop i imports) e
-refused_further types imports i x e h is o r = let P : List Import
-    → Type 0 = λ xs. AreImportsRefused types xs e in
-    subst P (sym (next imports i x h is)) (inr (o, r))
-
 -- ---- the loop over the calls
 
 abbrev pub found_among : List Call → List ℕ → Option Call

@@ -18,8 +18,7 @@ use Rattle.machine_frame.proofs.Threads.Showing.{places_count, shown_frames}
 use Rattle.machine.specs.declared.execution.code.Executable.{Executable}
 use Rattle.machine.specs.declared.execution.state.State.{State}
 use Rattle.machine.specs.Execution.Codes.{StateStandsFor, parts_of_state}
-use Rattle.machine.specs.Insides.{seen, IsReducedIn, IsMachine, with_memory_of}
-use Rattle.machine.specs.Insides.{IsLoading}
+use Rattle.machine.specs.Insides.{seen, IsReducedIn, IsMachine, with_memory_of, IsLoading}
 use Rattle.machine.specs.rules.Loading.{ShowsSome}
 use Rattle.machine.specs.Loading.Checks.{FitsAround}
 use Rattle.machine.proofs.Inside.{typed_memory, memory_in, least_fits, reduced_with}

@@ -1,7 +1,6 @@
 -- Frames that are checked from the running one out, and how many values they hold.
-use Rattle.std.proofs.Common.{◌≡◌, ℕ, suc, ◌+◌, ◌-◌, ◌<◌, ◌≤◌, List, [], ◌∷◌}
-use Rattle.std.proofs.Common.{length, drop, get_or, Some, refl, sym, ap, ◌∙◌, subst, arith}
-use Rattle.std.proofs.Common.{length-append}
+use Rattle.std.proofs.Common.{◌≡◌, ℕ, suc, ◌+◌, ◌-◌, ◌<◌, ◌≤◌, List, [], ◌∷◌, length, drop, get_or}
+use Rattle.std.proofs.Common.{Some, refl, sym, ap, ◌∙◌, subst, arith, length-append}
 use Rattle.std.specs.Prelude.{reverse, slice_get}
 use Rattle.std.proofs.lemmas.List.{length-reverse, get_or-reverse, at_drop_all}
 use Rattle.std.proofs.lemmas.Option.{slice_get-get_or, get_or_from_slice_get}
@@ -13,10 +12,9 @@ use Rattle.wasm_rules.specs.Configuration.{Own, Program}
 use Rattle.machine_slots.specs.rules.Places.{ShownFrame}
 use Rattle.machine_slots.specs.declared.limits.TheConstants.{HELD_VALUES}
 use Rattle.machine_frame.specs.declared.rules.frame.StackFrame.{StackFrame}
-use Rattle.machine_frame.specs.rules.Stacked.{AreStacked}
+use Rattle.machine_frame.specs.rules.Stacked.{AreStacked, slots_held}
 use Rattle.machine_frame.specs.rules.Threads.{places_of}
 use Rattle.machine_frame.specs.laws.Fitting.{IsOwnPlace, FitCallers, FitFrames, FewHeld}
-use Rattle.machine_frame.specs.rules.Stacked.{slots_held}
 use Rattle.machine_frame.proofs.Threads.Showing.{parts_of}
 use Rattle.machine.specs.Loading.Checks.{FitsTop, FitsBelow}
 use Rattle.machine.proofs.LoadingLemmas.Words.{front_there}

@@ -11,15 +11,13 @@ use Rattle.wasm_rules.specs.Typed.{IsTypedEntry}
 use Rattle.machine_slots.specs.rules.Places.{ShownFrame}
 use Rattle.machine_slots.specs.declared.slots.TheConstants.{SLOTS}
 use Rattle.machine_frame.specs.declared.rules.frame.StackFrame.{StackFrame}
-use Rattle.machine_frame.specs.rules.Stacked.{AreStacked}
+use Rattle.machine_frame.specs.rules.Stacked.{AreStacked, slots_held}
 use Rattle.machine_frame.specs.rules.Threads.{places_of}
-use Rattle.machine_frame.specs.rules.Stacked.{slots_held}
 use Rattle.machine.specs.declared.execution.code.Executable.{Executable}
 use Rattle.machine.specs.declared.execution.state.State.{State}
 use Rattle.machine.specs.declared.loading.fault.LoadFault.{LoadFault}
 use Rattle.machine.specs.declared.loading.fault.LoadFault.TheVariants.{Unfit}
-use Rattle.machine.specs.Insides.{seen, IsMachine, IsLoading, IsLoadedCode}
-use Rattle.machine.specs.Insides.{with_memory_of}
+use Rattle.machine.specs.Insides.{seen, IsMachine, IsLoading, IsLoadedCode, with_memory_of}
 use Rattle.machine.specs.rules.Values.{least_of}
 use Rattle.machine.specs.rules.Loading.{IsSlotPushed, with_frames}
 use Rattle.machine.proofs.Placed.{reduced_zeroed}

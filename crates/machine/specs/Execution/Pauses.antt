@@ -6,8 +6,7 @@ use Rattle.wasm_syntax.specs.declared.value.Trap.{Trap}
 use Rattle.wasi_abi.specs.declared.call.Call.{Call}
 use Rattle.wasi_abi.specs.rules.Calls.{call_type_of}
 use Rattle.wasm_rules.specs.Types.{AreOf, number_in, takes_of}
-use Rattle.wasm_rules.specs.Configuration.{Imported, Program, Thread, Configuration, Asks}
-use Rattle.wasm_rules.specs.Configuration.{Traps}
+use Rattle.wasm_rules.specs.Configuration.{Imported, Program, Thread, Configuration, Asks, Traps}
 use Rattle.wasm_rules.specs.Steps.{counted_step, stopped, IsReduced, IsEnded}
 use Rattle.machine_frame.specs.rules.Walks.{Walks}
 use Rattle.machine.specs.declared.execution.code.Executable.{Executable}

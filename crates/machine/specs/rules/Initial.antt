@@ -7,8 +7,7 @@ use Rattle.wasm_syntax.specs.declared.module.Global.{Global}
 use Rattle.wasm_syntax.specs.declared.module.Element.{Element}
 use Rattle.wasm_syntax.specs.declared.module.Data.{Data}
 use Rattle.wasm_rules.specs.Configuration.{Store}
-use Rattle.wasm_rules.specs.Instantiation.{AreInitial, filled_table}
-use Rattle.wasm_rules.specs.Instantiation.{filled_memory, IsInitialStore}
+use Rattle.wasm_rules.specs.Instantiation.{AreInitial, filled_table, filled_memory, IsInitialStore}
 use Rattle.wasm_rules.specs.Validity.{memories_of}
 use Rattle.wasm_rules.specs.Linking.{IsOffered, HasEntry, HasExportedMemory, FitsPages}
 use Rattle.machine.specs.rules.Offers.{offer}

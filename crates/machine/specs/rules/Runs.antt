@@ -8,8 +8,7 @@ use Rattle.wasm_syntax.specs.declared.module.Module.{Module}
 use Rattle.wasi_abi.specs.declared.call.Call.{Call}
 use Rattle.wasi_abi.specs.rules.Calls.{call_type_of}
 use Rattle.wasm_rules.specs.Types.{AreOf, number_in, takes_of, gives_of}
-use Rattle.wasm_rules.specs.Configuration.{Imported, Program, Thread, Configuration, Asks}
-use Rattle.wasm_rules.specs.Configuration.{Traps}
+use Rattle.wasm_rules.specs.Configuration.{Imported, Program, Thread, Configuration, Asks, Traps}
 use Rattle.wasm_rules.specs.Steps.{counted_step, stopped, answered, IsEnded, ReducesTo, Steps}
 use Rattle.wasm_rules.specs.Instantiation.{Begins}
 use Rattle.wasm_rules.specs.Linking.{IsLinkable}

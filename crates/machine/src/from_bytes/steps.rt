@@ -1,8 +1,7 @@
 //! Decoding, validation and linking, one after another.
 
 ghost use Rattle.std.specs.Prelude.{◌≤◌, IfOk, IfErr};
-ghost use Rattle.machine.specs.rules.Acceptance.{Accepts, ModuleFaultDenies};
-ghost use Rattle.machine.specs.rules.Acceptance.{HasNoAcceptedModule};
+ghost use Rattle.machine.specs.rules.Acceptance.{Accepts, ModuleFaultDenies, HasNoAcceptedModule};
 ghost use Rattle.machine.specs.rules.Acceptance.{HasNoValidModule, IsRead, IsReported};
 ghost use Rattle.machine.specs.rules.Acceptance.{IsReportedOfReading};
 

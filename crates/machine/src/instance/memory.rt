@@ -4,8 +4,7 @@ ghost use Rattle.std.specs.Prelude.{◌≡◌, ◌*◌, ◌≤◌, ◌↔◌, If
 ghost use Rattle.std.specs.List.{AllByRecursion};
 ghost use Rattle.guest_memory.specs.rules.Bytes.{page_size};
 ghost use Rattle.wasm_rules.specs.Validity.{IsMemoryTypeValid};
-ghost use Rattle.wasm_rules.specs.Instantiation.{empty_memory, least_pages_of};
-ghost use Rattle.wasm_rules.specs.Instantiation.{most_pages_of};
+ghost use Rattle.wasm_rules.specs.Instantiation.{empty_memory, least_pages_of, most_pages_of};
 ghost use Rattle.wasm_rules.specs.Linking.{FitsPages};
 ghost use Rattle.machine.specs.rules.Initial.{CanFillMemory, FillsMemory};
 

@@ -49,7 +49,7 @@ fn fits_around(code: &Executable, context: &ModuleContext, state: &State) -> boo
 
 /// Whether the state shows some configuration of the code's program. Fails only where memory is
 /// refused.
-pub fn fits(alloc: Global, code: &Executable, state: &State) -> Result<bool, AllocError>
+pub fn fits_program(alloc: Global, code: &Executable, state: &State) -> Result<bool, AllocError>
     requires stacked { AreStacked state.now.frames state.now.slots }
     requires code { IsSomeCode code.now }
     ensures { (functions : List Signature) (program : Program)

@@ -5,7 +5,7 @@ ghost use Rattle.std.specs.Prelude.{◌≡◌};
 use crate::execution::{Executable, State, clear};
 use crate::instance::{entry_of, first_pages};
 use crate::loading::fault::LoadFault;
-use crate::loading::fits::fits;
+use crate::loading::fits::fits_program;
 use crate::loading::parts::{push_frame, push_slot, set_bytes};
 use crate::running_machine::Machine;
 use std::alloc::Global;
@@ -60,8 +60,7 @@ impl Machine {
 
 impl Loading {
     ghost use Rattle.std.specs.Prelude.{◌≢◌, ◌⊎◌, ℕ, OnOk, OnErr, IfOk, IfErr, MatchResult, []};
-    ghost use Rattle.std.specs.Prelude.{sum_by};
-    ghost use Rattle.std.specs.Prelude.{length};
+    ghost use Rattle.std.specs.Prelude.{sum_by, length};
     ghost use Rattle.wasm_rules.specs.Linking.{HasEntry};
     ghost use Rattle.machine_slots.specs.rules.Places.{ShownFrame};
     ghost use Rattle.machine_slots.specs.declared.limits.TheConstants.{FRAMES};
@@ -141,7 +140,7 @@ impl Loading {
         ensures shows { OnOk result (ShowsSome self.now) }
         ensures refused { IfErr result (LoadDenies self.now) }
     {
-        let told = fits(alloc, &self.code, &self.state)?;
+        let told = fits_program(alloc, &self.code, &self.state)?;
         if told { Ok(()) } else { Err(LoadFault::Unfit) }
     }
 

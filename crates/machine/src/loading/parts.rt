@@ -1,7 +1,6 @@
 //! The parts of a machine's state, as they are put together.
 
-ghost use Rattle.std.specs.Prelude.{◌≡◌, ◌≢◌, ◌⊎◌, ◌*◌, ◌≤◌, OnOk, OnErr, IfErr, [], ◌∷◌};
-ghost use Rattle.std.specs.Prelude.{length};
+ghost use Rattle.std.specs.Prelude.{◌≡◌, ◌≢◌, ◌⊎◌, ◌*◌, ◌≤◌, OnOk, OnErr, IfErr, [], ◌∷◌, length};
 ghost use Rattle.guest_memory.specs.rules.Bytes.{page_size};
 ghost use Rattle.machine.specs.declared.loading.fault.LoadFault.TheVariants.{Unfit};
 ghost use Rattle.machine.specs.rules.Loading.{BytesDenied};

@@ -1,8 +1,7 @@
 use Rattle.std.proofs.Common.{[], refl}
 use Rattle.machine.proofs.CycleLemmas.Codes.{read_at, none_at}
 use Rattle.machine.proofs.CycleLemmas.CalledCycles.{direct_import, direct_own, arguments_there}
-use Rattle.machine.proofs.CycleLemmas.CalledCycles.{asked}
-use Rattle.machine.proofs.CycleLemmas.CalledCycles.{enough, more_locals, few_locals, entered}
+use Rattle.machine.proofs.CycleLemmas.CalledCycles.{asked, enough, more_locals, few_locals, entered}
 use Rattle.machine.proofs.execution.machine_loop.call.Goals as goal
 
 pub ask-requires : goal.ask-requires

@@ -3,12 +3,10 @@ use Rattle.wasm_syntax.specs.declared.value.Trap.TheVariants as trap
 use Rattle.machine.specs.declared.execution.state.State.{State}
 use Rattle.machine.proofs.CycleLemmas.Codes.{read_at, none_at}
 use Rattle.machine.proofs.CycleLemmas.CalledCycles.{trapped, arguments_there, asked, enough}
-use Rattle.machine.proofs.CycleLemmas.CalledCycles.{more_locals}
-use Rattle.machine.proofs.CycleLemmas.CalledCycles.{few_locals, entered}
+use Rattle.machine.proofs.CycleLemmas.CalledCycles.{more_locals, few_locals, entered}
 use Rattle.machine.proofs.CycleLemmas.Indirect.{names_at, one_word, entry, others_are, undefined}
 use Rattle.machine.proofs.CycleLemmas.Indirect.{uninitialized, have_signatures, mismatched}
-use Rattle.machine.proofs.CycleLemmas.Indirect.{indirect_import}
-use Rattle.machine.proofs.CycleLemmas.Indirect.{indirect_own}
+use Rattle.machine.proofs.CycleLemmas.Indirect.{indirect_import, indirect_own}
 use Rattle.machine.proofs.execution.machine_loop.call_indirect.Goals as goal
 
 pub top-place-requires : goal.top-place-requires

@@ -2,8 +2,7 @@ use Rattle.std.proofs.Common.{◌+◌, Some, ap, ◌∙◌, arith}
 use Rattle.std.proofs.lemmas.Option.{slice_get_within}
 use Rattle.machine.proofs.CycleLemmas.AtCalls.{few_there, room_of, within_there, no_other}
 use Rattle.machine.proofs.CycleLemmas.AtCalls.{direct_there, indirect_there, read_there}
-use Rattle.machine.proofs.CycleLemmas.AtCalls.{signature_read}
-use Rattle.machine.proofs.CycleLemmas.AtCalls.{takes_direct, takes_indirect}
+use Rattle.machine.proofs.CycleLemmas.AtCalls.{signature_read, takes_direct, takes_indirect}
 use Rattle.machine.proofs.execution.waiting.words_taken.Goals as goal
 
 pub offset_bounds-opcodes_of-frame : goal.offset_bounds-opcodes_of-frame

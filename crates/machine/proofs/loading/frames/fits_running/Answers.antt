@@ -6,9 +6,8 @@ use Rattle.wasm_validate.proofs.PartLemmas.Lookups.{is_false}
 use Rattle.machine.specs.rules.LentFrames.{lent_frame}
 use Rattle.machine.specs.Loading.Bodies.{HasMore}
 use Rattle.machine.proofs.LoadingLemmas.Bodies.{not_own, body_of, own_signature, one_result}
-use Rattle.machine.proofs.LoadingLemmas.Bodies.{same_words}
-use Rattle.machine.proofs.LoadingLemmas.Bodies.{top_fits, top_runs, runs, runs_more, runs_reached}
-use Rattle.machine.proofs.LoadingLemmas.Bodies.{runs_words}
+use Rattle.machine.proofs.LoadingLemmas.Bodies.{same_words, top_fits, top_runs, runs, runs_more}
+use Rattle.machine.proofs.LoadingLemmas.Bodies.{runs_reached, runs_words}
 use Rattle.machine.proofs.loading.frames.fits_running.Goals as goal
 
 pub operand_types-requires : goal.operand_types-requires

@@ -1,14 +1,12 @@
-use Rattle.std.proofs.Common.{◌≡◌, ◌-◌, List, length, take, refl, sym, ap, ◌∙◌, arith}
-use Rattle.std.proofs.Common.{Some}
+use Rattle.std.proofs.Common.{◌≡◌, ◌-◌, List, length, take, refl, sym, ap, ◌∙◌, arith, Some}
 use Rattle.std.specs.Prelude.{slice_get}
 use Rattle.wasm_syntax.specs.declared.types.ValueType.{ValueType}
 use Rattle.wasm_rules.specs.Validity.{module_context}
 use Rattle.wasm_validate.proofs.PartLemmas.Lookups.{is_false}
 use Rattle.machine.specs.rules.LentFrames.{lent_frame}
 use Rattle.machine.proofs.LoadingLemmas.Bodies.{not_own, body_of, own_signature, one_result}
-use Rattle.machine.proofs.LoadingLemmas.Bodies.{same_words}
-use Rattle.machine.proofs.LoadingLemmas.Bodies.{below_fits, below_waits, waits, waits_there}
-use Rattle.machine.proofs.LoadingLemmas.Bodies.{waits_reached, waits_words, none_there}
+use Rattle.machine.proofs.LoadingLemmas.Bodies.{same_words, below_fits, below_waits, waits}
+use Rattle.machine.proofs.LoadingLemmas.Bodies.{waits_there, waits_reached, waits_words, none_there}
 use Rattle.machine.proofs.loading.frames.fits_waiting.Goals as goal
 
 pub operand_types-requires : goal.operand_types-requires

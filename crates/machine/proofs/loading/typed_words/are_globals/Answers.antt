@@ -5,8 +5,7 @@ use Rattle.std.proofs.lemmas.List.{length-map}
 use Rattle.std.proofs.lemmas.Option.{slice_get-get_or, slice_get-map}
 use Rattle.wasm_rules.specs.Types.{value_type_of}
 use Rattle.wasm_validate.proofs.PartLemmas.Lookups.{is_false}
-use Rattle.machine.proofs.LoadingLemmas.Words.{past_there}
-use Rattle.machine.proofs.LoadingLemmas.Words.{words_count, word_at, one_more, all_here}
+use Rattle.machine.proofs.LoadingLemmas.Words.{past_there, words_count, word_at, one_more, all_here}
 use Rattle.machine.proofs.loading.typed_words.are_globals.Goals as goal
 
 pub returns-then-types-words : goal.returns-then-types-words

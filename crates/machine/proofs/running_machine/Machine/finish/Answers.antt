@@ -4,8 +4,7 @@ use Rattle.machine.specs.rules.Values.{MachineValue}
 use Rattle.machine.specs.rules.Runs.{WaitsFor, Answers}
 use Rattle.machine.specs.Insides.{seen}
 use Rattle.machine.proofs.Finished.{is_waiting, stands_for_some_there, machine_finished}
-use Rattle.machine.proofs.Finished.{holds_finished}
-use Rattle.machine.proofs.Finished.{answers_finished}
+use Rattle.machine.proofs.Finished.{holds_finished, answers_finished}
 use Rattle.machine.proofs.running_machine.Machine.finish.Goals as goal
 
 pub answer-requires : goal.answer-requires

@@ -6,7 +6,7 @@ use Rattle.wasm_validate.proofs.PartLemmas.Lookups.{is_false}
 use Rattle.machine.specs.Loading.Checks.{LooksUpCode}
 use Rattle.machine.proofs.LoadingLemmas.Parts.{if_ok}
 use Rattle.machine.proofs.LoadingLemmas.Fits.{fits_program, fits_around}
-use Rattle.machine.proofs.loading.fits.fits.Goals as goal
+use Rattle.machine.proofs.loading.fits.fits_program.Goals as goal
 
 pub returns-then-not-around : goal.returns-then-not-around
 returns-then-not-around c = λ functions program is limit least. (
