@@ -36,16 +36,6 @@ top_path fs k none = by (path_of fs k) none where
   by None none = refl
   by (Some p) none = no_names p (λ front name e. none front name (ap (λ (q : Path). Some q) e))
 
--- what is after a directory that is below another one
-pub separator_below : (fs : Files) (d above : ℕ) → IsParent fs d above
-    → slash ∷ [] ≡ separator_behind (path_at fs d)
-separator_below fs d above is =
-    by is.path ∙ sym (ap (λ (o : Option Path). separator_behind (unwrap_or o [])) is.own)
-  where
-    by : (p : Path) → slash ∷ [] ≡ separator_behind (p ++ is.name ∷ [])
-    by [] = refl
-    by (first ∷ p) = refl
-
 -- what is spelled of a node in a directory
 pub spelled_below : (fs : Files) (k d : ℕ) (text name : List ℕ) → IsParent fs k d
     → ((path : Path) (last : Name) → path_of fs k ≡ Some (path ++ last ∷ []) → name ≡ last)

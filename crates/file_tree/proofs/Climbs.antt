@@ -11,12 +11,6 @@ use Rattle.file_tree.specs.declared.store.node.Hook.{Hook}
 use Rattle.file_tree.specs.declared.store.node.Hook.TheVariants.{Root, Removed, In}
 use Rattle.file_tree.specs.Links.{Up, climb, climb_from, IsTree}
 
--- the directory and the name in a hook, where there are any
-directory_of : Hook → ℕ
-directory_of Root = 0
-directory_of Removed = 0
-directory_of (In d name) = d
-
 root_is : {A : Type 0} (d : ℕ) (name : Name) → Root ≡ In d name → A
 root_is d name e = absurd cc
 
@@ -39,21 +33,6 @@ all_apart {k} (x ∷ xs) h = (
     either : (a b : Bool) → b ≡ true → (a || b) ≡ true
     either true b e = refl
     either false b e = e
-
-apart_first : (m k : ℕ) (xs : List ℕ) → list_any (eqb m) (k ∷ xs) ≡ false → k ≢ m
-apart_first m k xs off same =
-    absurd (let t : true
-    ≡ false = sym (both (eqb m k) (list_any (eqb m) xs) (eq-eqb m k (sym same))) ∙ off in cc) where
-      both : (a b : Bool) → a ≡ true → (a || b) ≡ true
-      both true b e = refl
-      both false b e = absurd cc
-
-apart_rest : (m k : ℕ) (xs : List ℕ) → list_any (eqb m) (k ∷ xs) ≡ false
-    → list_any (eqb m) xs ≡ false
-apart_rest m k xs off = second (eqb m k) (list_any (eqb m) xs) off where
-  second : (a b : Bool) → (a || b) ≡ false → b ≡ false
-  second true b e = absurd cc
-  second false b e = e
 
 -- a node has one path
 pub one_path : (hook : ℕ → Hook) (k : ℕ) (a b : Path) → Up hook k a → Up hook k b → a ≡ b

@@ -1,16 +1,14 @@
 -- Entries tell where nodes hang: so they tell paths, and the whole file system.
-use Rattle.std.proofs.Common.{◌≡◌, ◌≢◌, ◌⊎◌, inl, inr, ℕ, suc, Bool, true, false, cond, eqb}
-use Rattle.std.proofs.Common.{List, [], ◌∷◌, ◌++◌, reverse, Option, Some, None, refl, sym, ap}
-use Rattle.std.proofs.Common.{subst, ◌∙◌}
+use Rattle.std.proofs.Common.{◌≡◌, ◌≢◌, ◌⊎◌, inl, inr, ℕ, suc, Bool, true, false, cond, eqb, List}
+use Rattle.std.proofs.Common.{[], ◌∷◌, ◌++◌, reverse, Option, Some, None, refl, sym, ap, subst, ◌∙◌}
 use Rattle.std.specs.Prelude.{slice_get, is_some, unwrap_or}
 use Rattle.std.proofs.lemmas.Bool.{eqb-true, eq-eqb}
 use mathlib.Core.List.{reverse-cons}
 use Rattle.file_tree.specs.declared.store.node.Hook.{Hook}
 use Rattle.file_tree.specs.declared.store.node.Hook.TheVariants.{Root, Removed, In}
 use Rattle.file_tree.specs.declared.store.node.Node.{Node}
-use Rattle.file_tree.specs.rules.Files.{Name, Path, Files, Entry, IsNodeName}
-use Rattle.file_tree.specs.rules.Files.{IsFiles, path_of, is_directory}
-use Rattle.file_tree.specs.rules.Files.{entries_of, inserted, sorted, is_before}
+use Rattle.file_tree.specs.rules.Files.{Name, Path, Files, Entry, IsNodeName, IsFiles, path_of}
+use Rattle.file_tree.specs.rules.Files.{is_directory, entries_of, inserted, sorted, is_before}
 use Rattle.file_tree.specs.rules.Changes.{path_at}
 use Rattle.file_tree.specs.laws.Rebuilding.{entry_under, ListsNode, EntriesTellPaths}
 use Rattle.file_tree.specs.Links.{Up, node_in, hook_held, hook_of, is_hung, AreNodes, files}

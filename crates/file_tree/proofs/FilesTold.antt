@@ -8,17 +8,15 @@ use Rattle.file_tree.specs.declared.store.node.Hook.{Hook}
 use Rattle.file_tree.specs.declared.store.node.Hook.TheVariants.{Root, Removed, In}
 use Rattle.file_tree.specs.declared.store.node.Node.{Node}
 use Rattle.file_tree.specs.rules.Files.{Name, Path, FileNode, Files, Content, Entry, IsFiles}
-use Rattle.file_tree.specs.rules.Files.{path_of, holds_directory}
-use Rattle.file_tree.specs.rules.Files.{is_directory_content}
+use Rattle.file_tree.specs.rules.Files.{path_of, holds_directory, is_directory_content, entries_of}
+use Rattle.file_tree.specs.rules.Files.{is_directory}
 use Rattle.file_tree.specs.laws.Laws.{node_number, content_of}
-use Rattle.file_tree.specs.laws.Rebuilding.{IsBuiltLike}
-use Rattle.file_tree.specs.laws.Rebuilding.{ListsNode, EntriesTellFiles}
+use Rattle.file_tree.specs.laws.Rebuilding.{IsBuiltLike, ListsNode, EntriesTellFiles}
 use Rattle.file_tree.specs.Links.{Up, climb, hook_of, is_hung, AreNodes, files}
 use Rattle.file_tree.proofs.Climbs.{there}
 use Rattle.file_tree.proofs.Lookups.{path_shown, hung_has_path}
 use Rattle.file_tree.proofs.EntriesTell.{entry_of_hook, hook_of_entry, all_told}
 use Rattle.file_tree.proofs.Rebuilt.{rebuilt, rebuilt_are, rebuilt_show, own_nodes, IsFoundIn}
-use Rattle.file_tree.specs.rules.Files.{entries_of, is_directory}
 use Rattle.file_tree.proofs.SameNames.{heads}
 
 -- ---- lists of nodes with the same numbers and contents

@@ -21,8 +21,7 @@ use Rattle.file_tree.specs.declared.limits.TheConstants.{NODES}
 use Rattle.file_tree.specs.rules.Changes.{IsFree, path_at, empty}
 use Rattle.file_tree.specs.Links.{Up, climb, IsTree, node_in, hook_held, hook_of, content_held}
 use Rattle.file_tree.specs.Links.{content_shown, holds_directory_node, is_directory_in}
-use Rattle.file_tree.specs.Links.{file_bytes_of, used_in, AreNodes, IsNowhere}
-use Rattle.file_tree.specs.Links.{shown_node, files}
+use Rattle.file_tree.specs.Links.{file_bytes_of, used_in, AreNodes, IsNowhere, shown_node, files}
 use Rattle.file_tree.proofs.SameNames.{same_or_not}
 use Rattle.file_tree.proofs.Climbs.{path_is, no_path, climb_sound}
 use Rattle.file_tree.proofs.Lookups.{path_shown, directory_shown, node_nowhere}

@@ -9,8 +9,7 @@ use Rattle.file_tree.specs.Store.Stored.{changed}
 use Rattle.file_tree.specs.Store.Changes.{with_hook}
 use Rattle.file_tree.specs.rules.Files.{Name, IsNodeName, IsSmallContent}
 use Rattle.file_tree.specs.Links.{IsTree, node_in, hook_held, hook_of, content_held, content_shown}
-use Rattle.file_tree.specs.Links.{holds_directory_node, is_directory_in, used_in}
-use Rattle.file_tree.specs.Links.{AreNodes, IsPlace}
+use Rattle.file_tree.specs.Links.{holds_directory_node, is_directory_in, used_in, AreNodes, IsPlace}
 use Rattle.file_tree.proofs.Lists.{in_changed_same, in_changed_other, rising_changed}
 use Rattle.file_tree.proofs.Lists.{length-changed, all_changed, all_in, used_changed}
 

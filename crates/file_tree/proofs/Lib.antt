@@ -2,7 +2,6 @@ pub mod Renames
 pub mod SameNames
 pub mod Climbs
 pub mod Lookups
-pub mod Fresh
 pub mod Lists
 pub mod Grows
 pub mod Rises

@@ -23,8 +23,7 @@ use Rattle.file_tree.proofs.Lookups.{node_at_place, node_nowhere, path_shown}
 use Rattle.file_tree.proofs.Seen.{child_shown}
 use Rattle.file_tree.proofs.Lists.{shown_changed}
 use Rattle.file_tree.proofs.Grows.{removed_or_not, way_up, some_path, IsFreeIn, free_in}
-use Rattle.file_tree.proofs.Hangs.{Hangs, hung_here, hung_others, hung_used}
-use Rattle.file_tree.proofs.Hangs.{hung_nodes}
+use Rattle.file_tree.proofs.Hangs.{Hangs, hung_here, hung_others, hung_used, hung_nodes}
 
 -- ---- a node that hangs in another place
 

@@ -12,16 +12,13 @@ use Rattle.file_tree.specs.declared.store.node.Node.{Node}
 use Rattle.file_tree.specs.Store.Stored.{changed}
 use Rattle.file_tree.specs.Store.Changes.{with_hook}
 use Rattle.file_tree.specs.rules.Files.{Name, Path, FileNode, Files, Content, Entry, IsFiles}
-use Rattle.file_tree.specs.rules.Files.{is_before}
-use Rattle.file_tree.specs.rules.Files.{inserted, sorted, node_of, path_of, entries_of}
+use Rattle.file_tree.specs.rules.Files.{is_before, inserted, sorted, node_of, path_of, entries_of}
 use Rattle.file_tree.specs.rules.Files.{entries_under, changed_at, hung}
 use Rattle.file_tree.specs.rules.Changes.{path_at, CanHang}
 use Rattle.file_tree.specs.laws.Laws.{node_number, content_of}
-use Rattle.file_tree.specs.laws.Rebuilding.{entry_under, HasHung}
-use Rattle.file_tree.specs.laws.Rebuilding.{HangingAddsAnEntry}
+use Rattle.file_tree.specs.laws.Rebuilding.{entry_under, HasHung, HangingAddsAnEntry}
 use Rattle.file_tree.specs.Links.{node_in, hook_held, hook_of, AreNodes, files, IsPlace}
-use Rattle.file_tree.specs.Links.{hooked_name}
-use Rattle.file_tree.specs.Links.{hooked_entry, hooked_entries, with_entry}
+use Rattle.file_tree.specs.Links.{hooked_name, hooked_entry, hooked_entries, with_entry}
 use Rattle.file_tree.proofs.Order.{Before, before_or_not, before_both}
 use Rattle.file_tree.proofs.Seen.{entries_shown, own_hooks}
 use Rattle.file_tree.proofs.Grows.{free_in}

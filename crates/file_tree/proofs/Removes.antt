@@ -1,7 +1,6 @@
 -- A node that loses its path.
-use Rattle.std.proofs.Common.{◌≡◌, ◌≢◌, ℕ, inl, inr, true, not, eqb, List, [], ◌∷◌}
-use Rattle.std.proofs.Common.{length, reverse, get_or, Option, Some, None, refl, sym, ap, subst}
-use Rattle.std.proofs.Common.{◌∙◌}
+use Rattle.std.proofs.Common.{◌≡◌, ◌≢◌, ℕ, inl, inr, true, not, eqb, List, [], ◌∷◌, length, reverse}
+use Rattle.std.proofs.Common.{get_or, Option, Some, None, refl, sym, ap, subst, ◌∙◌}
 use Rattle.std.specs.Prelude.{option_map}
 use Rattle.std.proofs.lemmas.Bool.{not-true}
 use Rattle.file_tree.specs.declared.store.node.Hook.{Hook}
@@ -20,8 +19,7 @@ use Rattle.file_tree.proofs.Climbs.{path_is, no_path}
 use Rattle.file_tree.proofs.Lookups.{directory_shown, node_at_place}
 use Rattle.file_tree.proofs.Lists.{shown_changed_one, none_changed, number_in}
 use Rattle.file_tree.proofs.Grows.{removed_or_not}
-use Rattle.file_tree.proofs.Hangs.{Hangs, hung_here, hung_others, hung_used}
-use Rattle.file_tree.proofs.Hangs.{hung_nodes}
+use Rattle.file_tree.proofs.Hangs.{Hangs, hung_here, hung_others, hung_used, hung_nodes}
 use Rattle.file_tree.proofs.Seen.{empty_shown, no_child}
 
 pub record Loses (hook after : ℕ → Hook) (next k : ℕ) : Type 0 where

@@ -12,16 +12,14 @@ use Rattle.file_tree.specs.Store.Stored.{changed}
 use Rattle.file_tree.specs.Store.Changes.{with_hook}
 use Rattle.file_tree.specs.rules.Files.{Name, IsNodeName, Path, FileNode, Files, path_of, hung}
 use Rattle.file_tree.specs.rules.Changes.{path_at, CanHang}
-use Rattle.file_tree.specs.Links.{climb, node_in, hook_of, content_shown, is_directory_in}
-use Rattle.file_tree.specs.Links.{used_in, AreNodes, shown_node, files, IsPlace}
-use Rattle.file_tree.specs.Links.{IsNowhere, is_hung}
+use Rattle.file_tree.specs.Links.{climb, node_in, hook_of, content_shown, is_directory_in, used_in}
+use Rattle.file_tree.specs.Links.{AreNodes, shown_node, files, IsPlace, IsNowhere, is_hung}
 use Rattle.file_tree.proofs.Climbs.{in_is}
 use Rattle.file_tree.proofs.Lookups.{node_at_place, hung_has_path}
 use Rattle.file_tree.proofs.Lists.{numbers_below, all_in, number_in, shown_changed_one}
 use Rattle.file_tree.proofs.Lists.{none_changed}
 use Rattle.file_tree.proofs.Grows.{Grows, grown_tree, same_climb, new_climb, IsFreeIn, free_in}
-use Rattle.file_tree.proofs.Hangs.{Hangs, hung_here, hung_others, hung_used}
-use Rattle.file_tree.proofs.Hangs.{hung_nodes}
+use Rattle.file_tree.proofs.Hangs.{Hangs, hung_here, hung_others, hung_used, hung_nodes}
 
 -- all of it, where files are what the nodes show
 pub record IsReturned (ns : List Node) (next k i d : ℕ) (name : Name) (fs : Files) : Type 0 where

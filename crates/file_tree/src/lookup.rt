@@ -38,7 +38,7 @@ fn count_below(nodes: &FileNodes, number: u64) -> usize
 }
 
 /// The place of the node with this number.
-pub fn place_of(nodes: &FileNodes, number: u64) -> Option<usize>
+pub fn node_index(nodes: &FileNodes, number: u64) -> Option<usize>
     ensures there { IfSome result (λ place. IsPlace nodes.now number place) }
     ensures within { IfSome result (λ place. place < length nodes.now) }
     ensures nowhere { IfNone result (IsNowhere nodes.now number) }
@@ -57,7 +57,7 @@ pub fn place_of(nodes: &FileNodes, number: u64) -> Option<usize>
 pub fn node_of(nodes: &FileNodes, number: u64) -> Option<&Node>
     ensures { AreKeptAs (option_copied result) (node_in nodes.now number) }
 {
-    match place_of(nodes, number) {
+    match node_index(nodes, number) {
         Some(place) => Some(nodes.get(place)),
         None => None,
     }
@@ -93,7 +93,7 @@ pub fn size_held(node: Option<&Node>) -> usize
 pub fn chunk_held(nodes: &FileNodes, number: u64, index: usize) -> &[u8]
     ensures { result.now ≡ chunk_of (bytes_held_in (node_in nodes.now number)) index }
 {
-    match place_of(nodes, number) {
+    match node_index(nodes, number) {
         Some(place) => nodes.chunk(place, index),
         None => b"",
     }
@@ -108,7 +108,7 @@ pub fn read_held(nodes: &FileNodes, number: u64, from: usize, into: &mut [u8]) -
         ≡ take (length into.old) (drop from (bytes_held_in (node_in nodes.now number)))
         ++ drop result into.old }
 {
-    match place_of(nodes, number) {
+    match node_index(nodes, number) {
         Some(place) => nodes.read(place, from, into),
         None => 0,
     }

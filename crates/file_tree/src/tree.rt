@@ -34,8 +34,8 @@ ghost use Rattle.file_tree.specs.declared.limits.TheConstants.{NODES, FILE_BYTES
 
 use crate::children::{leads_to, parent_of};
 use crate::lookup::{
-    chunk_held, holds_directory, holds_node, holds_path, name_held, new_content, node_of,
-    number_held, place_of, read_held, size_held,
+    chunk_held, holds_directory, holds_node, holds_path, name_held, new_content, node_index,
+    node_of, number_held, read_held, size_held,
 };
 use crate::node_type::NodeType;
 use crate::store::{ByteList, FileNodes, Hook, Node, NodeContent};
@@ -283,7 +283,7 @@ impl Tree {
             ≡ with_file_bytes number (written (bytes_of_node self.old number) from bytes.now)
             self.old }
     {
-        if let Some(place) = place_of(&self.nodes, number) {
+        if let Some(place) = node_index(&self.nodes, number) {
             self.nodes.write(place, from as usize, bytes);
         }
     }
@@ -298,7 +298,7 @@ impl Tree {
             ≡ with_file_bytes number (resized (bytes_of_node self.old number) size) self.old) }
         ensures unchanged { OnErr result (self.new ≡ self.old) }
     {
-        let Some(place) = place_of(&self.nodes, number) else {
+        let Some(place) = node_index(&self.nodes, number) else {
             return Ok(());
         };
         let bytes = size_held(Some(self.nodes.get(place))) as u64;
@@ -314,7 +314,7 @@ impl Tree {
         requires { CanLose self.old number }
         ensures { self.new ≡ removed number self.old }
     {
-        if let Some(place) = place_of(&self.nodes, number) {
+        if let Some(place) = node_index(&self.nodes, number) {
             self.nodes.unhang(place);
         }
     }
@@ -325,7 +325,7 @@ impl Tree {
         requires { is_some (path_of self.old number) ≡ false }
         ensures { self.new ≡ forgotten number self.old }
     {
-        if let Some(place) = place_of(&self.nodes, number) {
+        if let Some(place) = node_index(&self.nodes, number) {
             let bytes = size_held(Some(self.nodes.get(place))) as u64;
             self.nodes.remove(place);
             self.used -= bytes;
@@ -365,7 +365,7 @@ impl Tree {
         requires { CanHang self.old number directory name }
         ensures { self.new ≡ hung number (path_at self.old directory ++ name ∷ []) self.old }
     {
-        if let Some(at) = place_of(&self.nodes, number) {
+        if let Some(at) = node_index(&self.nodes, number) {
             self.nodes.move_to(at, directory, name);
         }
     }
@@ -386,7 +386,7 @@ impl Tree {
         ensures { self.new ≡ renamed (path_at self.old number) (path_at self.old directory
             ++ name ∷ []) self.old }
     {
-        if let Some(place) = place_of(&self.nodes, number) {
+        if let Some(place) = node_index(&self.nodes, number) {
             self.nodes.move_to(place, directory, name);
         }
     }

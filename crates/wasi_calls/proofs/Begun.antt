@@ -1,7 +1,6 @@
 -- The lines that bytes begin are those that a write adds, unfinished ones counted.
-use Rattle.std.proofs.Common.{◌≡◌, ℕ, suc, ◌+◌, ◌<◌, ◌≤◌, List, [], ◌∷◌, ◌++◌, length}
-use Rattle.std.proofs.Common.{drop, get_or, refl, sym, ap, ◌∙◌, arith, length-append, add-one}
-use Rattle.std.proofs.Common.{drop-cons}
+use Rattle.std.proofs.Common.{◌≡◌, ℕ, suc, ◌+◌, ◌≤◌, List, [], ◌∷◌, ◌++◌, length}
+use Rattle.std.proofs.Common.{refl, ap, ◌∙◌, arith, length-append}
 use Rattle.std.specs.Prelude.{Bool, true, false, if◌then◌else◌, ◌==◌, nat_lt}
 use Rattle.std.proofs.lemmas.Bool.{eqb-true}
 use Rattle.wasi_abi.specs.rules.Answers.{newline}
@@ -111,18 +110,6 @@ stream_begins Stderr bytes h =
     )
 
 -- ---- a loop over bytes
-
--- one more byte of a list, where a count has this total whatever comes behind
-pub count_more : (begun len next next_len : ℕ) (total : List ℕ → ℕ) (bytes : List ℕ) (i x : ℕ)
-    → i < length bytes → x ≡ get_or bytes i 0
-    → ((rest : List ℕ) → next + count_begun next_len rest ≡ begun + count_begun len (x ∷ rest))
-    → ((rest : List ℕ) → begun + count_begun len (drop i bytes ++ rest) ≡ total rest)
-    → (rest : List ℕ) → next + count_begun next_len (drop (i + 1) bytes ++ rest) ≡ total rest
-count_more begun len next next_len total bytes i x lt at step so_far rest =
-    let split : drop i bytes ≡ x ∷ drop (i + 1) bytes =
-    rw (add-one, drop-cons bytes i 0) (ap (λ (y : ℕ). y ∷ drop (suc i) bytes) (sym at)) in
-    step (drop (i + 1) bytes ++ rest) ∙ ap (λ (ys : List ℕ). begun + count_begun len (ys ++ rest))
-    (sym split) ∙ so_far rest
 
 -- ---- they are few
 

@@ -10,7 +10,8 @@ use Rattle.wasi_calls_rules.specs.Checks.{Bytes}
 use Rattle.wasi_calls_rules.specs.CallRules.{call_rule}
 use Rattle.wasi_calls.proofs.LinesInFront.{write_behind}
 use Rattle.wasi_calls.proofs.OpeningInFront.{fd_readdir_behind, path_open_behind}
-use Rattle.wasi_calls.proofs.OpeningInFront.{path_rename_behind}
+use Rattle.wasi_calls.proofs.OpeningInFront.{path_rename_behind, fd_readdir_behind}
+use Rattle.wasi_calls.proofs.OpeningInFront.{path_rename_behind, path_open_behind}
 use Rattle.wasi_calls.proofs.SmallInFront.{IsBehind, texts_get_behind, texts_sizes_get_behind}
 use Rattle.wasi_calls.proofs.SmallInFront.{clock_res_get_behind, clock_time_get_behind}
 use Rattle.wasi_calls.proofs.SmallInFront.{close_behind, sync_behind, fdstat_behind}
@@ -18,8 +19,6 @@ use Rattle.wasi_calls.proofs.SmallInFront.{set_flags_behind, filestat_behind, se
 use Rattle.wasi_calls.proofs.SmallInFront.{prestat_behind, prestat_name_behind, seek_behind}
 use Rattle.wasi_calls.proofs.SmallInFront.{tell_behind, random_get_behind}
 use Rattle.wasi_calls.proofs.MovesInFront.{pwrite_behind, pread_behind, read_behind}
-use Rattle.wasi_calls.proofs.OpeningInFront.{fd_readdir_behind, path_rename_behind}
-use Rattle.wasi_calls.proofs.OpeningInFront.{path_open_behind}
 use Rattle.wasi_calls.proofs.PathsInFront.{path_filestat_behind, create_directory_behind}
 use Rattle.wasi_calls.proofs.PathsInFront.{remove_directory_behind, unlink_file_behind}
 

@@ -1,9 +1,7 @@
 -- Bytes of a stream, cut one after another: what goes on, what is in front, and what stays true of
 -- the unfinished line.
-use Rattle.std.proofs.Common.{◌≡◌, ℕ, suc, ◌+◌, ◌-◌, ◌<◌, ◌≤◌, List, [], ◌∷◌, ◌++◌, length}
-use Rattle.std.proofs.Common.{take, drop, get_or, take_at}
-use Rattle.std.proofs.Common.{refl, sym, ap, ◌∙◌, arith, append_assoc, drop-cons, add-one}
-use Rattle.std.proofs.Common.{length-append}
+use Rattle.std.proofs.Common.{◌≡◌, ℕ, suc, ◌+◌, ◌-◌, ◌≤◌, List, [], ◌∷◌, ◌++◌, length, take}
+use Rattle.std.proofs.Common.{take_at, refl, sym, ap, ◌∙◌, arith, append_assoc, length-append}
 use Rattle.std.specs.Prelude.{Bool, true, false, cond, if◌then◌else◌, ◌==◌, ◌&&◌, not, nat_lt}
 use Rattle.std.specs.List.{prefix_len}
 use Rattle.wasi_calls_rules.specs.Checks.{has_no_newline}
@@ -17,15 +15,6 @@ use Rattle.wasi_calls_rules.specs.declared.output_stream.OutputStream.{OutputStr
 use Rattle.wasi_calls.proofs.Endings.{is_text}
 
 -- ---- one more byte of a list
-
-pub cut_more : (stream : OutputStream) (c d total : Cut) (bytes : List ℕ) (i x : ℕ)
-    → i < length bytes → x ≡ get_or bytes i 0 → d ≡ cut_byte stream c x
-    → cut_all stream c (drop i bytes) ≡ total → cut_all stream d (drop (i + 1) bytes) ≡ total
-cut_more stream c d total bytes i x lt at is so_far =
-    let split : drop i bytes ≡ x ∷ drop (i + 1) bytes =
-    rw (add-one, drop-cons bytes i 0) (ap (λ (y : ℕ). y ∷ drop (suc i) bytes) (sym at)) in
-    ap (λ (e : Cut). cut_all stream e (drop (i + 1) bytes)) is ∙ sym (ap (cut_all stream c) split)
-    ∙ so_far
 
 -- ---- lines in front
 

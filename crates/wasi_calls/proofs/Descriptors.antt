@@ -6,8 +6,7 @@ use Rattle.std.proofs.lemmas.List.{replicate-append-replicate}
 use Rattle.wasi_abi.specs.rules.Numbers.{input_rights, output_rights, directory_rights, all_rights}
 use Rattle.wasi_abi.specs.declared.errno.Errno.TheVariants.{Badf}
 use Rattle.wasi_calls_rules.specs.WasiStates.{Node, Descriptor, WasiState, stream}
-use Rattle.wasi_calls_rules.specs.WasiStates.{first_descriptors}
-use Rattle.wasi_calls_rules.specs.WasiStates.{IsDescriptor, IsWasiState}
+use Rattle.wasi_calls_rules.specs.WasiStates.{first_descriptors, IsDescriptor, IsWasiState}
 use Rattle.wasi_calls_rules.specs.Checks.{some_or, flat, open_descriptor}
 use Rattle.wasi_calls_rules.specs.Small.{with_descriptor}
 use Rattle.wasi_calls_rules.proofs.Tables.{is_descriptor}
@@ -57,13 +56,6 @@ pub open_is : (h : WasiState) (fd : ℕ) (d : Descriptor) → IsWasiState h
     → open_descriptor h fd ≡ Ok d → IsDescriptor h.files d
 open_is h fd d is e =
     is_descriptor h.files h.descriptors fd d (file_state h is).table (is_open h fd d e)
-
--- two that are open under one number are one
-pub same_open : (h : WasiState) (fd : ℕ) (d e : Descriptor) → open_descriptor h fd ≡ Ok d
-    → slice_get h.descriptors fd ≡ Some (Some e) → e ≡ d
-same_open h fd d e o there =
-    let both : Some (Some e) ≡ Some (Some d) = sym there ∙ is_open h fd d o in
-    cc
 
 pub descriptor_at : (h : WasiState) (n : ℕ) (d : Descriptor) → IsWasiState h
     → slice_get h.descriptors n ≡ Some (Some d) → IsDescriptor h.files d

@@ -15,9 +15,8 @@ use Rattle.wasi_calls_rules.specs.Small.{call_done, roomy}
 use Rattle.wasi_calls_rules.specs.Moving.{size_after, file_written, write_offset, offset_after}
 use Rattle.wasi_calls_rules.specs.Moving.{target_written, fd_write}
 use Rattle.wasi_calls_rules.proofs.Steps.{HoldsAfter, done_with, step, next}
-use Rattle.wasi_calls.specs.rules.Held.{HeldWasiState, ShowsWasiState, behind_lines}
+use Rattle.wasi_calls.specs.rules.Held.{HeldWasiState, ShowsWasiState, behind_lines, held_released}
 use Rattle.wasi_calls.specs.Held.{behind_lines_of_call_rule}
-use Rattle.wasi_calls.specs.rules.Held.{held_released}
 use Rattle.wasi_calls.specs.rules.Outputs.{count_begun}
 use Rattle.wasi_calls.specs.Writes.{unfinished_of}
 use Rattle.wasi_calls.specs.Moves.{total_len, Wanted, wanted}
@@ -159,17 +158,3 @@ module _ (fd iovs count ret : ℕ) (m : Bytes) (old : HeldWasiState) (h : WasiSt
         in_front s.before old.host,
         in_front s.before own.0.host,
       )
-
-  -- a write to a stream is done
-  pub write_done : (halt : Halt) (number : ℕ) → w.descriptor.target ≡ Stream number
-      → fd_write fd iovs count ret m h ≡ Err halt → ⊥
-  write_done halt number named e =
-      let bytes : Bytes = gathered m w.buffers in
-      let own : fd_write fd iovs count ret m old.host
-      ≡ call_done (with_part m ret (u32_bytes (total_len w.buffers)))
-      (stream_written (output_stream number) bytes old.host) =
-      call_rule_of ∙ ap (λ (t : Target). target_written t fd w.descriptor bytes
-      old.host >>= λ after. call_done (with_part m ret (u32_bytes (total_len w.buffers)))
-      after) named in
-      let both = sym e ∙ behind ∙ ap (behind_lines_of_call_rule s.before) own in
-      absurd (cc)

@@ -5,8 +5,7 @@ use Rattle.std.specs.declared.alloc.AllocError.{AllocError}
 use Rattle.file_tree.specs.declared.node_type.NodeType.{NodeType}
 use Rattle.file_tree.specs.declared.limits.TheConstants.{NODES}
 use Rattle.file_tree.specs.rules.Changes.{empty, path_at, IsFree, CanLose}
-use Rattle.file_tree.specs.rules.Files.{Name, Files, IsFiles, path_of, child, is_directory}
-use Rattle.file_tree.specs.rules.Files.{created}
+use Rattle.file_tree.specs.rules.Files.{Name, Files, IsFiles, path_of, child, is_directory, created}
 use Rattle.file_tree.proofs.Seen.{some_path, not_nil}
 use Rattle.wasi_calls_rules.specs.WasiStates.{WasiState, IsWasiState}
 use Rattle.wasi_calls_rules.specs.Entries.{is_directory_empty, without}

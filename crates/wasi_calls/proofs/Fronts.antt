@@ -3,9 +3,9 @@
 use Rattle.std.proofs.Common.{◌≡◌, ℕ, zero, suc, ◌+◌, ◌-◌, ◌*◌, ◌<◌, ◌≤◌, min, inl, inr, List, []}
 use Rattle.std.proofs.Common.{◌∷◌, ◌++◌, length, take, drop, refl, sym, ap, ◌∙◌, append_assoc}
 use Rattle.std.proofs.Common.{arith, length-drop, length-append}
-use Rattle.std.specs.Prelude.{Bool, true, false, ◌&&◌, nat_le, sum_by, Result, Ok, Err}
+use Rattle.std.specs.Prelude.{Bool, true, false, ◌&&◌, sum_by, Result, Ok}
 use Rattle.std.specs.List.{list_all}
-use Rattle.std.proofs.lemmas.Bool.{cases_lt, le-leb}
+use Rattle.std.proofs.lemmas.Bool.{cases_lt}
 use Rattle.std.proofs.lemmas.List.Sums.{sum_by-cons}
 use Rattle.std.proofs.lemmas.List.{append-nil, take-append-le, take_all, take-take, drop_all}
 use Rattle.std.proofs.Math.Seq.{take-append-add}
@@ -13,10 +13,9 @@ use Rattle.guest_memory.specs.rules.Bytes.{part, with_part}
 use Rattle.guest_memory.proofs.Ranges.{length-part}
 use Rattle.wasi_abi.specs.declared.errno.Errno.TheVariants.{Fault}
 use Rattle.wasi_abi.specs.rules.Layouts.{u32_at}
-use Rattle.wasi_calls_rules.specs.Checks.{Bytes, Halt, Refuses, ◌>>=◌, check_or, in_memory, Buffer}
-use Rattle.wasi_calls_rules.specs.Checks.{buffers_at, is_inside, few_buffers, gathered, scattered}
-use Rattle.wasi_calls_rules.specs.declared.limits.TheConstants.{IOVECS, MOVED_BYTES}
-use Rattle.wasi_calls.specs.Moves.{total_len, fronts, AreInside, moved_buffers}
+use Rattle.wasi_calls_rules.specs.Checks.{Bytes, Halt, ◌>>=◌, check_or, Buffer}
+use Rattle.wasi_calls_rules.specs.Checks.{buffers_at, is_inside, gathered, scattered}
+use Rattle.wasi_calls.specs.Moves.{total_len, fronts, AreInside}
 
 -- ---- lengths
 
@@ -120,22 +119,6 @@ named_on m at count room front =
     check_or (list_all (is_inside m) (buffers_at m at count)) Fault >>= λ _.
     Ok (front ++ fronts room (buffers_at m at count))
 
-all_fronts : (bs : List Buffer) (t : Bool)
-    → ((check_or t Fault >>= λ _. Ok bs) >>= λ (cs : List Buffer). Ok (fronts MOVED_BYTES cs))
-    ≡ (check_or t Fault >>= λ _. Ok ([] ++ fronts MOVED_BYTES bs))
-all_fronts bs true = refl
-all_fronts bs false = refl
-
-pub few_is : (count : ℕ) → count ≤ IOVECS → few_buffers count ≡ Ok tt
-few_is count le = let few : nat_le count IOVECS ≡ true = le-leb count IOVECS le in rw few refl
-
-pub moved_is : (m : Bytes) (iovs count : ℕ) (u v : Unit {0}) → few_buffers count ≡ Ok u
-    → in_memory m iovs (8 * count) ≡ Ok v
-    → moved_buffers m iovs count ≡ named_on m iovs count MOVED_BYTES []
-moved_is m iovs count u v few inside =
-    rw (few, inside)
-    (all_fronts (buffers_at m iovs count) (list_all (is_inside m) (buffers_at m iovs count)))
-
 -- the buffer that an iovec names
 abbrev pub buffer_at : Bytes → ℕ → Buffer
 buffer_at m at = record { from = u32_at m at; len = u32_at m (at + 4) }
@@ -148,11 +131,6 @@ next_is true t front after x u e =
     ap (λ (y : List Buffer). check_or t Fault
     >>= λ _. Ok y) (sym (append_assoc front (x ∷ []) after))
 next_is false t front after x u e = absurd (cc)
-
-none_is : (p t : Bool) (bs : List Buffer) (halt : Halt) → check_or p Fault ≡ Err halt
-    → (check_or (p && t) Fault >>= λ _. Ok bs) ≡ Err halt
-none_is true t bs halt e = absurd (cc)
-none_is false t bs halt e = let same : Refuses Fault ≡ halt = cc in ap (λ (x : Halt). Err x) same
 
 module _ (m : Bytes) (iovs count i : ℕ) (lt : i < count) where
   unrolled : count - i ≡ suc (count - (i + 1))
@@ -181,32 +159,5 @@ module _ (m : Bytes) (iovs count i : ℕ) (lt : i < count) where
       (sym (next_is (is_inside m b) (list_all (is_inside m) bs) front (fronts (room - b.len) bs)
       (record { from = b.from; len = min room b.len }) u fine)
       ∙ before)
-
-  pub named_fails : (room : ℕ) (front : List Buffer) (total : Result (List Buffer) Halt)
-      (halt : Halt) → check_or (is_inside m (buffer_at m (iovs + 8 * i))) Fault ≡ Err halt
-      → named_on m (iovs + 8 * i) (count - i) room front ≡ total → total ≡ Err halt
-  named_fails room front total halt fails so_far =
-      let b : Buffer = buffer_at m (iovs + 8 * i) in
-      let bs : List Buffer = buffers_at m ((iovs + 8 * i) + 8) (count - (i + 1)) in
-      let before : named_on m (iovs + 8 * i) (suc (count - (i + 1))) room front ≡ total =
-      rw unrolled at so_far in
-      sym before ∙ none_is (is_inside m b) (list_all (is_inside m) bs)
-      (front ++ fronts room (b ∷ bs)) halt fails
-
-pub named_done : (m : Bytes) (iovs count i room : ℕ) (front : List Buffer)
-    (total : Result (List Buffer) Halt) → count ≤ i
-    → named_on m (iovs + 8 * i) (count - i) room front ≡ total → total ≡ Ok front
-named_done m iovs count i room front total le so_far =
-    let none : count - i ≡ 0 = omega arith in
-    let last : named_on m (iovs + 8 * i) 0 room front ≡ total = rw none at so_far in
-    sym last ∙ ap (λ (x : List Buffer). Ok x) (append-nil front)
-
-pub named_first : (m : Bytes) (iovs count : ℕ)
-    → named_on m (iovs + 8 * 0) (count - 0) MOVED_BYTES []
-    ≡ named_on m iovs count MOVED_BYTES []
-named_first m iovs count =
-    let at : iovs + 8 * 0 ≡ iovs = omega arith in
-    let all : count - 0 ≡ count = omega arith in
-    rw (at, all) refl
 
 -- ---- bytes

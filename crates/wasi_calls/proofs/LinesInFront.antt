@@ -1,38 +1,29 @@
 -- Rules don't look at the lines that were emitted before: with other lines in front a call does the
 -- same.
 use Rattle.std.proofs.Common.{◌≡◌, ℕ, List, [], ◌∷◌, ◌++◌, take, length, refl, sym, ap, ◌∙◌}
-use Rattle.std.specs.Prelude.{Bool, true, false, ◌==◌, if◌then◌else◌, Option, Result, Ok, Err, OnOk}
-use Rattle.std.specs.Prelude.{IfErr, IsOk, is_ok}
+use Rattle.std.specs.Prelude.{if◌then◌else◌, Result, Ok, Err, IsOk, is_ok}
 use Rattle.guest_memory.specs.rules.Bytes.{with_part}
-use Rattle.guest_memory.specs.rules.Memories.{LinearMemory}
 use Rattle.file_tree.specs.rules.Files.{bytes_of_node}
 use Rattle.wasi_abi.specs.rules.Layouts.{u32_bytes}
-use Rattle.wasi_abi.specs.rules.Numbers.{fd_read_right, fd_seek_right, fd_write_right}
+use Rattle.wasi_abi.specs.rules.Numbers.{fd_write_right}
 use Rattle.wasi_abi.specs.declared.answer.Question.TheVariants as question
-use Rattle.wasi_abi.specs.declared.answer.Answer.{Answer}
 use Rattle.wasi_abi.specs.declared.answer.Answer.TheVariants as answer
 use Rattle.wasi_calls_rules.specs.WasiStates.{Line, Target, Stream, Node, Descriptor, WasiState}
 use Rattle.wasi_calls_rules.specs.Checks.{Bytes, Halt, Ruling, ◌>>=◌, open_descriptor, no_directory}
-use Rattle.wasi_calls_rules.specs.Checks.{a_file, with_right, in_memory, Buffer, buffers}
-use Rattle.wasi_calls_rules.specs.Checks.{few_buffers, movable, gathered, scattered, node_named}
-use Rattle.wasi_calls_rules.specs.Checks.{answered_by}
+use Rattle.wasi_calls_rules.specs.Checks.{with_right, in_memory, buffers}
+use Rattle.wasi_calls_rules.specs.Checks.{few_buffers, movable, gathered}
 use Rattle.wasi_calls_rules.specs.Lines.{cut_all, output_stream, stream_written}
 use Rattle.wasi_calls_rules.specs.declared.output_stream.OutputStream.{OutputStream}
 use Rattle.wasi_calls_rules.specs.declared.output_stream.OutputStream.TheVariants.{Stdout, Stderr}
 use Rattle.wasi_calls_rules.specs.Small.{call_done, roomy}
-use Rattle.wasi_calls_rules.specs.Moving.{Got, input_taken, has_bytes, input_read, target_read}
 use Rattle.wasi_calls_rules.specs.Moving.{size_after, file_written, write_offset, offset_after}
-use Rattle.wasi_calls_rules.specs.Moving.{target_written, fd_read, fd_pread, fd_write, fd_pwrite}
-use Rattle.wasi_calls_rules.specs.CallRules.{CallEnding, IsDone, IsRefused, IsAsk}
-use Rattle.wasi_calls_rules.specs.CallRules.{IsExit}
-use Rattle.wasi_calls_rules.specs.CallRules.{NoMemory, TellsCallRule}
+use Rattle.wasi_calls_rules.specs.Moving.{target_written, fd_write}
+use Rattle.wasi_calls_rules.specs.CallRules.{CallEnding, IsDone, IsRefused, IsAsk, IsExit, NoMemory}
+use Rattle.wasi_calls_rules.specs.CallRules.{TellsCallRule}
 use Rattle.wasi_calls.specs.rules.Held.{HeldWasiState, ShowsWasiState, behind_lines}
 use Rattle.wasi_calls.specs.Held.{behind_lines_of_call_rule}
-use Rattle.wasi_calls.specs.declared.stop.CallStop.{CallStop}
 use Rattle.wasi_calls.specs.declared.stop.CallStop.TheVariants as stop
-use Rattle.wasi_calls.specs.rules.Calls.{ShowsCallRule, ending_of_call}
-use Rattle.wasi_calls.specs.Calls.{call_outcome}
-use Rattle.wasi_calls.specs.Steps.{StopsStep}
+use Rattle.wasi_calls.specs.rules.Calls.{ShowsCallRule}
 use Rattle.wasi_calls.proofs.Cuts.{behind_cut, all_behind}
 
 -- a step that gives a host, the same
@@ -127,85 +118,6 @@ module _ (before : List Line) where
       (target_written d.target fd d bytes h) (with_part m ret (u32_bytes (length bytes)))
       (target_behind d.target fd d bytes h)))))))
 
-  pub pwrite_behind : (fd iovs count offset ret : ℕ) (m : Bytes) (h : WasiState)
-      → fd_pwrite fd iovs count offset ret m (behind_lines before h)
-      ≡ behind_lines_of_call_rule before (fd_pwrite fd iovs count offset ret m h)
-  pwrite_behind fd iovs count offset ret m h =
-      next (open_descriptor h fd) _ _ (λ d.
-      next (a_file h d) _ _ (λ _. next (with_right fd_write_right d) _ _ (λ _.
-      next (with_right fd_seek_right d) _ _ (λ _. next (few_buffers count) _ _ (λ _.
-      next (buffers m iovs count) _ _ (λ bs. next (in_memory m ret 4) _ _ (λ _.
-      let bytes : Bytes = take (movable bs) (gathered m bs) in
-      host_next (file_written (node_named d.target) offset bytes (behind_lines before h))
-      (file_written (node_named d.target) offset bytes h)
-      (with_part m ret (u32_bytes (length bytes)))
-      (file_behind (node_named d.target) offset bytes h))))))))
-
-  -- a step that gives bytes that were read, the same
-  abbrev behind_got : Result Got Halt → Result Got Halt
-  behind_got (Ok got) = Ok (record { bytes = got.bytes; host = behind_lines before got.host })
-  behind_got (Err halt) = Err halt
-
-  got_next : (s r : Result Got Halt) (m : Bytes) (bs : List Buffer) (ret : ℕ) → s ≡ behind_got r
-      → (s >>= λ got.
-      call_done (with_part (scattered m bs got.bytes) ret (u32_bytes (length got.bytes))) got.host)
-      ≡ behind_lines_of_call_rule before (r
-      >>= λ got. call_done (with_part (scattered m bs got.bytes) ret
-      (u32_bytes (length got.bytes))) got.host)
-  got_next s (Ok got) m bs ret e = rw e refl
-  got_next s (Err halt) m bs ret e = rw e refl
-
-  got_after : {A : Type 0} (r : Result A Halt) (f g : A → Result Got Halt)
-      → ((x : A) → f x ≡ behind_got (g x)) → (r >>= f) ≡ behind_got (r >>= g)
-  got_after (Ok x) f g e = e x
-  got_after (Err halt) f g e = refl
-
-  got_either : (p : Bool) (a b c d : Result Got Halt) → a ≡ behind_got c → b ≡ behind_got d
-      → (if p then a else b) ≡ behind_got (if p then c else d)
-  got_either true a b c d e f = e
-  got_either false a b c d e f = f
-
-  line_behind : (n : ℕ) (a : Answer) (h : WasiState)
-      → input_taken n a (behind_lines before h) ≡ behind_got (input_taken n a h)
-  line_behind n (answer.Request text) h = refl
-  line_behind n answer.End h = refl
-  line_behind n (answer.Realtime t) h = refl
-  line_behind n (answer.Monotonic t) h = refl
-  line_behind n (answer.Random bytes) h = refl
-
-  input_behind : (n : ℕ) (given : Option Answer) (h : WasiState)
-      → input_read n given (behind_lines before h) ≡ behind_got (input_read n given h)
-  input_behind n given h =
-      got_either (n == 0) _ _ _ _ refl (got_either (has_bytes h.unread) _ _ _ _ refl
-      (got_either h.input_ended _ _ _ _ refl
-      (got_after (answered_by h question.Request given) _ _ (λ a. line_behind n a h))))
-
-  target_read_behind : (t : Target) (fd : ℕ) (d : Descriptor) (n : ℕ) (given : Option Answer)
-      (h : WasiState) → target_read t fd d n given (behind_lines before h)
-      ≡ behind_got (target_read t fd d n given h)
-  target_read_behind (Stream s) fd d n given h = input_behind n given h
-  target_read_behind (Node k) fd d n given h = refl
-
-  pub read_behind : (fd iovs count ret : ℕ) (given : Option Answer) (m : Bytes) (h : WasiState)
-      → fd_read fd iovs count ret given m (behind_lines before h)
-      ≡ behind_lines_of_call_rule before (fd_read fd iovs count ret given m h)
-  read_behind fd iovs count ret given m h =
-      next (open_descriptor h fd) _ _ (λ d. next (no_directory h d) _ _ (λ _.
-      next (with_right fd_read_right d) _ _ (λ _. next (few_buffers count) _ _ (λ _.
-      next (buffers m iovs count) _ _ (λ bs. next (in_memory m ret 4) _ _ (λ _.
-      got_next (target_read d.target fd d (movable bs) given (behind_lines before h))
-      (target_read d.target fd d (movable bs) given h) m bs ret
-      (target_read_behind d.target fd d (movable bs) given h)))))))
-
-  pub pread_behind : (fd iovs count offset ret : ℕ) (m : Bytes) (h : WasiState)
-      → fd_pread fd iovs count offset ret m (behind_lines before h)
-      ≡ behind_lines_of_call_rule before (fd_pread fd iovs count offset ret m h)
-  pread_behind fd iovs count offset ret m h =
-      next (open_descriptor h fd) _ _ (λ d.
-      next (a_file h d) _ _ (λ _. next (with_right fd_read_right d) _ _ (λ _.
-      next (with_right fd_seek_right d) _ _ (λ _. next (few_buffers count) _ _ (λ _.
-      next (buffers m iovs count) _ _ (λ bs. next (in_memory m ret 4) _ _ (λ _. refl)))))))
-
 -- ---- what is told, of every host that is shown
 
 ok_behind : (before : List Line) (r : Ruling) → IsOk r
@@ -254,30 +166,3 @@ module _ (r : WasiState → Ruling) (behind : (before : List Line) (h : WasiStat
     k.1,
     same_held held.released old.released held.host old.host released k.2,
   )
-
--- what is told of a write
-pub written_told : (w : Result (Unit {0}) CallStop) (memory old_memory : LinearMemory)
-    (held old : HeldWasiState) (r : Ruling)
-    → OnOk w (r ≡ Ok (record { memory = memory.bytes; host = held.host }))
-    → IfErr w (λ why. StopsStep why r) → IfErr w (λ _. memory ≡ old_memory)
-    → IfErr w (λ _. held ≡ old)
-    → TellsCallRule (ending_of_call (call_outcome w)) memory.bytes held.host
-    old_memory.bytes old.host r
-written_told (Ok x) memory old_memory held old r done stopped same_memory same_host = done
-written_told (Err (stop.Refused e)) memory old_memory held old r done stopped same_memory
-    same_host = (
-      stopped,
-      ap (λ (m : LinearMemory). m.bytes) same_memory,
-      ap (λ (h : HeldWasiState). h.host) same_host,
-    )
-written_told (Err (stop.Asks question)) memory old_memory held old r done stopped same_memory
-    same_host = (
-      stopped,
-      ap (λ (m : LinearMemory). m.bytes) same_memory,
-      ap (λ (h : HeldWasiState). h.host) same_host,
-    )
-written_told (Err stop.Memory) memory old_memory held old r done stopped same_memory same_host = (
-  stopped,
-  ap (λ (m : LinearMemory). m.bytes) same_memory,
-  ap (λ (h : HeldWasiState). h.host) same_host,
-)

@@ -9,9 +9,8 @@ use Rattle.wasi_abi.specs.rules.Layouts.{u32_bytes}
 use Rattle.wasi_abi.specs.rules.Numbers.{fd_read_right, fd_write_right, fd_seek_right}
 use Rattle.wasi_calls_rules.specs.WasiStates.{Line, Target, Stream, Node, Descriptor, WasiState}
 use Rattle.wasi_calls_rules.specs.Checks.{Bytes, Buffer, Halt, ◌>>=◌, open_descriptor, a_file}
-use Rattle.wasi_calls_rules.specs.Checks.{no_directory, with_right, few_buffers, buffers}
-use Rattle.wasi_calls_rules.specs.Checks.{in_memory, movable, gathered, scattered, node_named}
-use Rattle.wasi_calls_rules.specs.Checks.{answered_by}
+use Rattle.wasi_calls_rules.specs.Checks.{no_directory, with_right, few_buffers, buffers, in_memory}
+use Rattle.wasi_calls_rules.specs.Checks.{movable, gathered, scattered, node_named, answered_by}
 use Rattle.wasi_calls_rules.specs.Small.{call_done}
 use Rattle.wasi_calls_rules.specs.Moving.{Got, input_taken, has_bytes, input_read, target_read}
 use Rattle.wasi_calls_rules.specs.Moving.{fd_read, fd_pread, file_written, fd_pwrite}

@@ -5,11 +5,10 @@ use Rattle.std.specs.Prelude.{Bool, true, false, not, ◌&&◌, ◌||◌, nat_le
 use Rattle.std.specs.Prelude.{Some, None}
 use Rattle.file_tree.specs.rules.Files.{Name, Path, is_directory}
 use Rattle.wasi_abi.specs.declared.errno.Errno.TheVariants.{Exist, Inval, Isdir, Noent, Notdir}
-use Rattle.wasi_abi.specs.rules.Numbers.{fd_readdir_right, path_open_right}
-use Rattle.wasi_abi.specs.rules.Numbers.{path_create_file_right, path_filestat_set_size_right}
-use Rattle.wasi_abi.specs.rules.Numbers.{path_rename_source_right, path_rename_target_right}
-use Rattle.wasi_abi.specs.rules.Numbers.{create_flag, directory_flag, exclusive_flag}
-use Rattle.wasi_abi.specs.rules.Numbers.{truncate_flag, has_flag}
+use Rattle.wasi_abi.specs.rules.Numbers.{fd_readdir_right, path_open_right, path_create_file_right}
+use Rattle.wasi_abi.specs.rules.Numbers.{path_filestat_set_size_right, path_rename_source_right}
+use Rattle.wasi_abi.specs.rules.Numbers.{path_rename_target_right, create_flag, directory_flag}
+use Rattle.wasi_abi.specs.rules.Numbers.{exclusive_flag, truncate_flag, has_flag}
 use Rattle.wasi_calls_rules.specs.WasiStates.{Line, WasiState}
 use Rattle.wasi_calls_rules.specs.Checks.{Bytes, Ruling, ◌>>=◌, check_or, some_or, open_descriptor}
 use Rattle.wasi_calls_rules.specs.Checks.{a_directory, with_right, needs, within_rights}

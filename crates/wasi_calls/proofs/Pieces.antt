@@ -2,13 +2,12 @@
 use Rattle.std.proofs.Common.{◌≡◌, ℕ, ◌+◌, ◌<◌, ◌≤◌, inl, inr, List, [], ◌∷◌, ◌++◌, length, take}
 use Rattle.std.proofs.Common.{drop, get_or, refl, sym, ap, ◌∙◌, append_assoc, arith, length-take}
 use Rattle.std.proofs.Common.{length-drop, length-append}
-use Rattle.std.specs.Prelude.{Bool, true, false, ◌&&◌, ◌==◌, not}
 use Rattle.std.proofs.lemmas.Bool.{cases_lt}
 use Rattle.std.proofs.lemmas.List.{take_all, take-take, drop_more, drop_all, drop-drop, drop-take}
 use Rattle.std.proofs.lemmas.List.{drop-append-le, take-append-drop}
 use Rattle.guest_memory.specs.rules.Bytes.{part, with_part}
 use Rattle.guest_memory.proofs.Ranges.{length-with_part}
-use Rattle.wasi_calls_rules.specs.Checks.{Bytes, Buffer, gathered, scattered, has_no_newline}
+use Rattle.wasi_calls_rules.specs.Checks.{Bytes, Buffer, gathered, scattered}
 use Rattle.wasi_calls_rules.specs.Lines.{Cut, cut_byte, cut_all}
 use Rattle.wasi_calls_rules.specs.declared.output_stream.OutputStream.{OutputStream}
 use Rattle.wasi_calls.specs.Moves.{total_len, AreInside}
@@ -42,15 +41,6 @@ pub cut_both : (stream : OutputStream) (c : Cut) (xs ys : Bytes)
     → cut_all stream c (xs ++ ys) ≡ cut_all stream (cut_all stream c xs) ys
 cut_both stream c [] ys = refl
 cut_both stream c (x ∷ xs) ys = cut_both stream (cut_byte stream c x) xs ys
-
-pub no_newline_both : (xs ys : Bytes)
-    → has_no_newline (xs ++ ys) ≡ (has_no_newline xs && has_no_newline ys)
-no_newline_both [] ys = refl
-no_newline_both (x ∷ xs) ys = by_test (not (x == 10)) (no_newline_both xs ys) where
-  by_test : (p : Bool) → has_no_newline (xs ++ ys) ≡ (has_no_newline xs && has_no_newline ys)
-      → (p && has_no_newline (xs ++ ys)) ≡ ((p && has_no_newline xs) && has_no_newline ys)
-  by_test true e = e
-  by_test false e = refl
 
 -- ---- bytes put into buffers
 
@@ -109,15 +99,6 @@ pub record IsMoved (old now : Bytes) (bs rest : List Buffer) (source : Bytes) (m
   pub puts : scattered now rest (drop moved source) ≡ scattered old bs source
   pub counts : moved + length (take (total_len rest) (drop moved source))
       ≡ length (take (total_len bs) source)
-
-pub moved_none : (m : Bytes) (bs : List Buffer) (source : Bytes) → AreInside m bs
-    → IsMoved m m bs bs source 0
-moved_none m bs source inside = record {
-  size = refl;
-  inside = inside;
-  puts = refl;
-  counts = omega arith;
-}
 
 module _ (old now : Bytes) (bs items : List Buffer) (source : Bytes) (moved i : ℕ) (b : Buffer)
     (split : drop i items ≡ b ∷ drop (i + 1) items)

@@ -14,8 +14,7 @@ use Rattle.wasi_calls_rules.specs.Entries.{gives_way, renamed_over, whole_path, 
 use Rattle.wasi_calls_rules.specs.Checks.{Bytes}
 use Rattle.wasi_calls_rules.specs.Paths.{Leaf}
 use Rattle.wasi_calls_rules.proofs.KeepsWasiStates.{file_state, with_file_state, losing_kept}
-use Rattle.wasi_calls_rules.proofs.KeepsWasiStates.{way_empty}
-use Rattle.wasi_calls_rules.proofs.KeepsWasiStates.{child_not_root}
+use Rattle.wasi_calls_rules.proofs.KeepsWasiStates.{way_empty, child_not_root}
 use Rattle.wasi_calls_rules.proofs.NodesAfter.{child_path, child_parent}
 use Rattle.wasi_calls_rules.proofs.FileState.{cleared_other, free_then, moved_kept, path_at_is}
 use Rattle.wasi_calls.specs.Renamings.{MayTake, place_renamed}

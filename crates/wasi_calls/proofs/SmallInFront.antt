@@ -18,12 +18,11 @@ use Rattle.wasi_calls_rules.specs.Checks.{Bytes, Ruling, check_or, open_descript
 use Rattle.wasi_calls_rules.specs.Checks.{with_right, in_memory, node_named, answered_by}
 use Rattle.wasi_calls_rules.specs.Small.{with_zeros, texts_get, texts_sizes_get, clock_res_get}
 use Rattle.wasi_calls_rules.specs.Small.{time_put, clock_question, clock_time_get, fd_close}
-use Rattle.wasi_calls_rules.specs.Small.{fd_syncs}
-use Rattle.wasi_calls_rules.specs.Small.{file_type_of, fd_fdstat_get, fd_fdstat_set_flags}
+use Rattle.wasi_calls_rules.specs.Small.{fd_syncs, file_type_of, fd_fdstat_get, fd_fdstat_set_flags}
 use Rattle.wasi_calls_rules.specs.Small.{filestat_bytes_of, fd_filestat_get, roomy}
-use Rattle.wasi_calls_rules.specs.Small.{fd_filestat_set_size, fd_prestat_get}
-use Rattle.wasi_calls_rules.specs.Small.{fd_prestat_dir_name, seek_base, file_offset, fd_seek}
-use Rattle.wasi_calls_rules.specs.Small.{fd_tell, call_done, random_put, random_get}
+use Rattle.wasi_calls_rules.specs.Small.{fd_filestat_set_size, fd_prestat_get, fd_prestat_dir_name}
+use Rattle.wasi_calls_rules.specs.Small.{seek_base, file_offset, fd_seek, fd_tell, call_done}
+use Rattle.wasi_calls_rules.specs.Small.{random_put, random_get}
 use Rattle.wasi_calls.specs.rules.Held.{behind_lines}
 use Rattle.wasi_calls.specs.Held.{behind_lines_of_call_rule}
 use Rattle.wasi_calls.proofs.LinesInFront.{next}

@@ -68,17 +68,6 @@ pub record PointersRemain (texts : List Bytes) (array buffer : ℕ) (old now : L
       ≡ with_part old.bytes array (pointers_to buffer texts)
 
 module _ (texts : List Bytes) (array buffer : ℕ) (old : LinearMemory) where
-  pub no_pointers : PointersRemain texts array buffer old old texts 0 buffer
-  no_pointers =
-      let same : array + 0 ≡ array = omega arith in
-      record {
-        limit = refl;
-        size = refl;
-        place = omega arith;
-        end = refl;
-        puts = ap (λ (k : ℕ). with_part old.bytes k (pointers_to buffer texts)) same;
-      }
-
   pub all_pointers : (now : LinearMemory) (rest : List Bytes) (offset begin : ℕ) → rest ≡ []
       → array + 4 * length texts ≤ length old.bytes
       → PointersRemain texts array buffer old now rest offset begin
@@ -161,9 +150,6 @@ pub record TextsRemain (texts : List Bytes) (buffer : ℕ) (old now : LinearMemo
 
 module _ (texts : List Bytes) (buffer : ℕ) (old : LinearMemory)
     (room : buffer + length (with_zeros texts) ≤ length old.bytes) where
-  pub no_texts : TextsRemain texts buffer old old texts buffer
-  no_texts = record { limit = refl; size = refl; end = refl; puts = refl }
-
   pub all_texts : (now : LinearMemory) (rest : List Bytes) (begin : ℕ) → rest ≡ []
       → TextsRemain texts buffer old now rest begin
       → now ≡ with_bytes buffer (with_zeros texts) old

@@ -3,12 +3,10 @@ use Rattle.std.proofs.Common.{◌≡◌, ◌≢◌, ℕ, ◌+◌, ◌++◌, true
 use Rattle.std.proofs.Common.{refl, sym, ap, subst, ◌∙◌, arith}
 use Rattle.std.specs.Prelude.{Some, Result, Ok, IsTrue}
 use Rattle.std.proofs.lemmas.List.{length-append}
-use Rattle.file_tree.specs.rules.Files.{Name, Path, Files, IsFiles, path_of, child}
-use Rattle.file_tree.specs.rules.Files.{is_directory}
+use Rattle.file_tree.specs.rules.Files.{Name, Path, Files, IsFiles, path_of, child, is_directory}
 use Rattle.file_tree.proofs.Seen.{some_path}
 use Rattle.wasi_calls_rules.specs.Checks.{Halt, ◌>>=◌}
-use Rattle.wasi_calls_rules.specs.Paths.{WalkEnd, is_back, directory_entered}
-use Rattle.wasi_calls_rules.specs.Paths.{onward, walk}
+use Rattle.wasi_calls_rules.specs.Paths.{WalkEnd, is_back, directory_entered, onward, walk}
 use Rattle.wasi_calls_rules.proofs.NodesAfter.{child_path, child_parent}
 use Rattle.wasi_calls.specs.Places.{AreWalked}
 

@@ -223,20 +223,6 @@ pub record IsPut (m : Bytes) (bs rest : List Buffer) (k from place : ℕ) (old n
       ≡ written (bytes_of_node old k) from (gathered m bs)
   pub within : place + total_len rest ≤ length (bytes_of_node now k)
 
-pub put_none : (m : Bytes) (bs : List Buffer) (k from : ℕ) (fs : Files) → AreInside m bs
-    → IsThere fs (Node k) → is_directory fs k ≡ false
-    → with_file_bytes k (bytes_of_node fs k) fs ≡ fs
-    → from + total_len bs ≤ length (bytes_of_node fs k) → IsPut m bs bs k from from fs fs
-put_none m bs k from fs inside there file own within = record {
-  inside = inside;
-  there = there;
-  file = file;
-  size = refl;
-  is = sym own;
-  on = refl;
-  within = within;
-}
-
 pub put_next : (m : Bytes) (bs items : List Buffer) (k from place i : ℕ) (old now : Files)
     (b : Buffer) (split : drop i items ≡ b ∷ drop (i + 1) items) (piece : Bytes) (after : Files)
     (n : ℕ) → IsPut m bs (drop i items) k from place old now → piece ≡ part m b.from b.len

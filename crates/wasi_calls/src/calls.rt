@@ -14,10 +14,9 @@ ghost use Rattle.wasi_calls_rules.specs.CallRules.{call_rule, TellsCallRule};
 ghost use Rattle.wasi_calls_rules.specs.declared.limits.TheConstants.{MOVED_BYTES};
 ghost use Rattle.wasi_abi.specs.declared.call.Call.TheVariants.{ProcExit};
 ghost use Rattle.wasi_calls.specs.rules.Held.{ShowsWasiState};
-ghost use Rattle.wasi_calls.specs.rules.Calls.{AreArguments};
+ghost use Rattle.wasi_calls.specs.rules.Calls.{AreArguments, ending_of_call, ShowsCallRule};
+ghost use Rattle.wasi_calls.specs.rules.Calls.{EndsNothing, IsAsLarge};
 ghost use Rattle.wasi_calls.specs.Calls.{call_outcome, check_outcome};
-ghost use Rattle.wasi_calls.specs.rules.Calls.{ending_of_call, ShowsCallRule, EndsNothing};
-ghost use Rattle.wasi_calls.specs.rules.Calls.{IsAsLarge};
 ghost use Rattle.wasi_calls.specs.declared.outcome.CallOutcome.TheVariants.{Memory as WantOfMemory};
 
 use crate::arguments::{

@@ -1,12 +1,11 @@
 //! What the calls that move bytes have in common: their arguments and their checks.
 
-ghost use Rattle.std.specs.Prelude.{◌≡◌, ◌≤◌, ◌^◌, min, [], IfOk, OnOk, IfErr, Err};
+ghost use Rattle.std.specs.Prelude.{◌≡◌, ◌≤◌, ◌^◌, min, [], IfOk, OnOk, IfErr, Err, false};
 ghost use Rattle.wasi_abi.specs.Bits.{bit_of};
 ghost use Rattle.wasi_abi.specs.rules.Numbers.{rights_number};
 ghost use Rattle.wasi_calls_rules.specs.WasiStates.{Node, IsThere};
 ghost use Rattle.wasi_calls_rules.specs.Checks.{Refuses};
 ghost use Rattle.file_tree.specs.rules.Files.{is_directory};
-ghost use Rattle.std.specs.Prelude.{false};
 ghost use Rattle.wasi_calls_rules.specs.declared.limits.TheConstants.{IOVECS};
 ghost use Rattle.wasi_calls.specs.Moves.{wanted, wanted_at, PassesChecks, AtNode};
 

@@ -1,8 +1,7 @@
 //! The output streams, and the lines that wait to be released.
 
-ghost use Rattle.std.specs.Prelude.{◌≡◌, ◌+◌, ◌-◌, ◌<◌, ◌≤◌, ◌^◌, ◌++◌, ◌==◌, true, not};
-ghost use Rattle.std.specs.Prelude.{[], ◌∷◌, length, take, drop, IfOk, OnOk, OnErr};
-ghost use Rattle.std.specs.Prelude.{vec_len, vec_capacity};
+ghost use Rattle.std.specs.Prelude.{◌≡◌, ◌+◌, ◌-◌, ◌<◌, ◌≤◌, ◌^◌, ◌++◌, ◌==◌, true, not, [], ◌∷◌};
+ghost use Rattle.std.specs.Prelude.{length, take, drop, IfOk, OnOk, OnErr, vec_len, vec_capacity};
 ghost use Rattle.std.specs.List.{prefix_len};
 ghost use Rattle.wasi_abi.specs.rules.Answers.{newline};
 ghost use Rattle.wasi_calls_rules.specs.Checks.{gathered, has_no_newline};

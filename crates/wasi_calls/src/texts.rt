@@ -5,8 +5,7 @@ ghost use Rattle.guest_memory.specs.rules.Memories.{with_bytes};
 ghost use Rattle.wasi_abi.specs.declared.config.TheConstants.{MOST_TEXTS};
 ghost use Rattle.wasi_calls_rules.specs.WasiStates.{WasiState as TheWasiState};
 ghost use Rattle.wasi_calls_rules.specs.Checks.{Refuses};
-ghost use Rattle.wasi_calls_rules.specs.Small.{with_zeros, pointers_to};
-ghost use Rattle.wasi_calls_rules.specs.Small.{texts_get, texts_sizes_get};
+ghost use Rattle.wasi_calls_rules.specs.Small.{with_zeros, pointers_to, texts_get, texts_sizes_get};
 ghost use Rattle.wasi_calls.specs.FewTexts.{AreFewTexts};
 ghost use Rattle.wasi_calls.specs.rules.Calls.{IsAsLarge};
 

@@ -9,12 +9,10 @@ use Rattle.file_tree.specs.declared.limits.TheConstants.{CHUNK_BYTES}
 use Rattle.file_tree.specs.rules.Bytes.{written, resized}
 use Rattle.file_tree.specs.rules.Chunks.{chunks_for, chunk_of}
 use Rattle.file_tree.specs.Store.Bodies.{Chunks, FileBody, InChunks, len_of, bytes_of_file}
-use Rattle.file_tree.specs.Store.Bodies.{AreFullAt}
-use Rattle.file_tree.specs.Store.Bodies.{HasChunks, Rekeys, TurnsInto}
+use Rattle.file_tree.specs.Store.Bodies.{AreFullAt, HasChunks, Rekeys, TurnsInto}
 use Rattle.file_tree.specs.Store.Chunked.{overlaid, AreChunks}
 use Rattle.file_tree.specs.Store.Stored.{stored}
-use Rattle.file_tree.proofs.StoreLemmas.Keys.{length-stored, stored_at, with_room}
-use Rattle.file_tree.proofs.StoreLemmas.Keys.{stored-with_room}
+use Rattle.file_tree.proofs.StoreLemmas.Keys.{length-stored, stored_at, with_room, stored-with_room}
 use Rattle.file_tree.proofs.StoreLemmas.Sized.{zeros_of, size_is, is_put, is_grown, is_cut, is_read}
 use Rattle.file_tree.proofs.StoreLemmas.Sized.{is_piece, enough, no_more}
 

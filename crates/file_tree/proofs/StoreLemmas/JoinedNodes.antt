@@ -1,8 +1,7 @@
 -- Nodes with the bytes of their files: what they share with those in the slab, and what a change of
 -- one file leaves of the others.
-use Rattle.std.proofs.Common.{◌≡◌, ℕ, zero, suc, ◌<◌, Bool, true}
-use Rattle.std.proofs.Common.{false, cond, List, [], ◌∷◌, ◌++◌, length, get_or, Option, Some}
-use Rattle.std.proofs.Common.{None, refl, sym, ap, ◌∙◌, arith, take}
+use Rattle.std.proofs.Common.{◌≡◌, ℕ, zero, suc, ◌<◌, Bool, true, false, cond, List, [], ◌∷◌, ◌++◌}
+use Rattle.std.proofs.Common.{length, get_or, Option, Some, None, refl, sym, ap, ◌∙◌, arith, take}
 use Rattle.std.specs.Prelude.{option_map}
 use Rattle.std.specs.List.{AllByRecursion, concat}
 use Rattle.file_tree.specs.declared.store.node.Hook.{Hook}
@@ -11,16 +10,14 @@ use Rattle.file_tree.specs.declared.store.node.NodeContent.{NodeContent}
 use Rattle.file_tree.specs.declared.store.node.NodeContent.TheVariants.{Directory, File}
 use Rattle.file_tree.specs.declared.store.node.Node.{Node}
 use Rattle.file_tree.specs.rules.Files.{Name, is_directory_content}
-use Rattle.file_tree.specs.Links.{content_shown, file_bytes_of, child_in, is_hooked}
-use Rattle.file_tree.specs.Links.{name_of_hook}
+use Rattle.file_tree.specs.Links.{content_shown, file_bytes_of, child_in, is_hooked, name_of_hook}
 use Rattle.file_tree.specs.Nearest.{nearest_node, next_node, node_listed, is_nearer, IsCountListed}
 use Rattle.file_tree.specs.Store.Bodies.{Chunks, FileBody, InChunks, Joined, len_of}
 use Rattle.file_tree.specs.Store.Bodies.{bytes_of_file, HasChunks}
 use Rattle.file_tree.specs.Store.Changes.{with_content}
 use Rattle.file_tree.specs.Store.Cuts.{AreOrdered}
 use Rattle.file_tree.specs.Store.Joined.{file_body, joined_content, joined_node, joined_nodes}
-use Rattle.file_tree.specs.Store.Joined.{kept_number}
-use Rattle.file_tree.specs.Store.Joined.{IsKeptAs, new_node}
+use Rattle.file_tree.specs.Store.Joined.{kept_number, IsKeptAs, new_node}
 use Rattle.file_tree.specs.Store.Kept.{IsLower}
 use Rattle.file_tree.specs.Store.Named.{IsFreeHook}
 use Rattle.file_tree.specs.Store.Stored.{stored, changed}

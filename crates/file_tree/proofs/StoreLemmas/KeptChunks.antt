@@ -303,9 +303,6 @@ module _ (old new : Chunks) (ns : List Node) (i : ℕ) (n : Node) (now : List No
     (file : is_directory_content (content_shown n.content) ≡ false) where
   module _ (from : ℕ) (bytes : List ℕ) (t : TurnsInto old new (file_body n.content)
       (file_body n.content) (written (bytes_of_file old (file_body n.content)) from bytes)) where
-    all : List ℕ
-    all = written (bytes_of_file old (file_body n.content)) from bytes
-
     pub written_kept : KeepsFiles new ns
     written_kept =
         subst (KeepsFiles new) (changed_to_own ns i n is)
@@ -458,11 +455,6 @@ empty_held chunks = record {
   are = no_keys chunks [] refl;
   shape = record { full = tt; count = refl; zeros = refl };
 }
-
-pub none_kept : (chunks : Chunks) (ns : List Node) → chunks.slots ≡ [] → ns ≡ []
-    → KeepsFiles chunks ns
-none_kept chunks ns e f =
-    subst (KeepsFiles chunks) (sym f) (record { held = tt; apart = tt; count = rw e refl })
 
 keys_added : (ns : List Node) (n : Node) → node_keys n ≡ [] → keys_in (ns ++ n ∷ []) ≡ keys_in ns
 keys_added [] n e =

@@ -6,8 +6,7 @@ use Rattle.std.proofs.lemmas.Bool.{cases_eq}
 use Rattle.file_tree.specs.rules.Files.{is_before}
 use Rattle.file_tree.specs.Store.Cuts.{HasElement, AreOrdered, IsCut}
 use Rattle.file_tree.specs.Store.Named.{IsBehind, IsUpTo, AreNamed, NoKey, OnlyKey}
-use Rattle.file_tree.proofs.Order.{Before, not_itself, before_both, one_before, in_front, behind_if}
-use Rattle.file_tree.proofs.Order.{not_behind_if}
+use Rattle.file_tree.proofs.Order.{not_itself, one_before, in_front, behind_if, not_behind_if}
 use Rattle.file_tree.proofs.StoreLemmas.Cuts.{ordered_but}
 use Rattle.file_tree.proofs.StoreLemmas.Places.{held_by_all}
 
@@ -78,12 +77,6 @@ module _ (address : ℕ → List ℕ) where
   abbrev After : ℕ → ℕ → Type 0
   After j k = IsBehind (address j) (address k)
 
-  after_both : (i j k : ℕ) → After i j → After j k → After i k
-  after_both i j k h g =
-      in_front (address i) (address k)
-      (before_both (address i) (address j) (address k) (behind_if (address i) (address j) h)
-      (behind_if (address j) (address k) g))
-
   -- a key at or before the cut is before the new one
   is_before_the_new : (key k : ℕ) → address k ≢ address key → IsUpTo (address key) (address k)
       → After k key
@@ -106,21 +99,6 @@ module _ (address : ℕ → List ℕ) where
         ]),
         ordered_put key xs p order.1 cut.1 (λ k at. other k (inr at)),
       )
-
-  -- two keys of one address are one
-  one_key : (xs : List ℕ) (j k : ℕ) → AreOrdered After xs → HasElement xs j → HasElement xs k
-      → address j ≡ address k → j ≡ k
-  one_key [] j k order h g e = absurd h
-  one_key (x ∷ xs) j k order (inl a) (inl b) e = sym a ∙ b
-  one_key (x ∷ xs) j k order (inl a) (inr b) e =
-      absurd (not_itself (address j) (subst (Before (address j)) (sym e)
-      (subst (λ (y : ℕ). Before (address y) (address k)) a (behind_if (address x) (address k)
-      (held_by_all (After x) xs k order.0 b)))))
-  one_key (x ∷ xs) j k order (inr a) (inl b) e =
-      absurd (not_itself (address k)
-      (subst (Before (address k)) e (subst (λ (y : ℕ). Before (address y) (address j)) b
-      (behind_if (address x) (address j) (held_by_all (After x) xs j order.0 a)))))
-  one_key (x ∷ xs) j k order (inr a) (inr b) e = one_key xs j k order.1 a b e
 
   -- a key at a place isn't there once it is taken out
   not_left : (xs : List ℕ) (i d : ℕ) → AreOrdered After xs → i < length xs
@@ -179,18 +157,6 @@ module _ (address : ℕ → List ℕ) where
             (out ∙ sym is) at);
         all = λ k at some out. held_but names i d k (are.all k at some (λ none. none)) (λ e. out (e
             ∙ is));
-      }
-
-  pub key_not_hung : (order names : List ℕ) (key : ℕ) → AreNamed NoKey address order names
-      → address key ≡ []
-      → AreNamed (OnlyKey key) address order names
-  key_not_hung order names key are none =
-      record {
-        ordered = are.ordered;
-        among = are.among;
-        hung = are.hung;
-        without = λ k at out. are.hung k at (ap address out ∙ none);
-        all = λ k at some out. are.all k at some (λ none. none);
       }
 
   pub key_left : (order names : List ℕ) (key : ℕ) → AreNamed (OnlyKey key) address order names

@@ -1,13 +1,12 @@
 -- Nodes by rising numbers.
-use Rattle.std.proofs.Common.{◌≡◌, ◌≢◌, ℕ, zero, suc, ◌+◌, ◌<◌, ◌≤◌, List, [], ◌∷◌, length, get_or}
+use Rattle.std.proofs.Common.{◌≡◌, ◌≢◌, ℕ, zero, suc, ◌<◌, ◌≤◌, List, [], ◌∷◌, length, get_or}
 use Rattle.std.proofs.Common.{arith}
 use Rattle.std.specs.List.{AllByRecursion}
 use Rattle.file_tree.specs.declared.store.node.Node.{Node}
 use Rattle.file_tree.specs.Store.Stored.{changed}
 use Rattle.file_tree.specs.Store.Cuts.{AreOrdered, IsCut}
 use Rattle.file_tree.specs.Store.Kept.{IsLower, HasLower, HasNoLower}
-use Rattle.file_tree.specs.Links.{AreRisingNodes, IsPlace, IsNowhere}
-use Rattle.file_tree.proofs.Lists.{numbers_from}
+use Rattle.file_tree.specs.Links.{IsPlace, IsNowhere}
 
 -- a change that keeps numbers
 module _ (f : Node → Node) (keeps : (n : Node) → (f n).number ≡ n.number) where
@@ -35,12 +34,6 @@ lower_down k n m b h = omega (arith, b, h)
 
 pub not_lower_up : (k : ℕ) (n m : Node) → IsLower n m → HasNoLower k n → HasNoLower k m
 not_lower_up k n m b h = omega (arith, b, h)
-
-pub cut_within : (k : ℕ) (ns : List Node) (i : ℕ)
-    → IsCut (HasLower k) (HasNoLower k) ns i → i ≤ length ns
-cut_within k ns zero cut = omega arith
-cut_within k [] (suc i) cut = absurd cut
-cut_within k (n ∷ ns) (suc i) cut = omega (arith, cut_within k ns i cut.1)
 
 pub place_at_cut : (k : ℕ) (ns : List Node) (i : ℕ) (d : Node) → i < length ns
     → IsCut (HasLower k) (HasNoLower k) ns i → (get_or ns i d).number ≡ k → IsPlace ns k i
@@ -80,16 +73,3 @@ nowhere_at_end k (n ∷ ns) (suc i) cut le =
     ((λ s. absurd (omega (arith, s, cut.0))), nowhere_at_end k ns i cut.1 (omega (arith, le)))
 
 -- ---- nodes of a tree
-
-from_least : (n : Node) (ns : List Node)
-    → AllByRecursion (λ (m : Node). n.number + 1 ≤ m.number) ns → AllByRecursion (IsLower n) ns
-from_least n [] h = tt
-from_least n (m ∷ ns) h = (omega (arith, h.0), from_least n ns h.1)
-
-pub rising_ordered : (least : ℕ) (ns : List Node) (next : ℕ)
-    → AreRisingNodes least ns next → AreOrdered IsLower ns
-rising_ordered least [] next h = tt
-rising_ordered least (n ∷ ns) next h = (
-  from_least n ns (numbers_from (n.number + 1) ns next h.1),
-  rising_ordered (n.number + 1) ns next h.1,
-)

@@ -1,8 +1,7 @@
 -- Bytes with zeros after them.
 use Rattle.std.proofs.Common.{◌≡◌, ℕ, zero, suc, ◌+◌, ◌-◌, ◌≤◌, List, [], ◌∷◌, ◌++◌, length, take}
 use Rattle.std.proofs.Common.{drop, refl, sym, ap, ◌∙◌, arith}
-use Rattle.std.specs.Prelude.{replicate, if◌then◌else◌, Result, Ok, Err, OnOk}
-use Rattle.std.specs.Prelude.{is_ok}
+use Rattle.std.specs.Prelude.{replicate, if◌then◌else◌}
 use Rattle.std.proofs.lemmas.List.{append-nil, take-replicate}
 use Rattle.file_tree.specs.rules.Bytes.{written, resized}
 
@@ -27,13 +26,6 @@ is_resized (x ∷ xs) (suc n) =
     ap (λ (k : ℕ). x ∷ (take n xs ++ replicate k 0)) e
     ∙ ap (λ (ys : List ℕ). x ∷ ys) (is_resized xs n
     ∙ front_padded xs n n (suc n) (omega arith) (omega arith))
-
-pub resized_where_ok : {A E : Type 0} (r : Result A E) (old new : List ℕ) (n len : ℕ)
-    → len ≡ length old → new ≡ (if is_ok r then take n old ++ replicate (n - len) 0 else old)
-    → OnOk r (new ≡ resized old n)
-resized_where_ok (Ok a) old new n len same e =
-    e ∙ ap (λ (k : ℕ). take n old ++ replicate (n - k) 0) same ∙ is_resized old n
-resized_where_ok (Err a) old new n len same e = tt
 
 -- what is put over bytes that reach as far as it
 pub is_written : (old : List ℕ) (from : ℕ) (bytes : List ℕ) → from + length bytes ≤ length old

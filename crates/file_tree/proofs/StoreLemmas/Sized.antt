@@ -1,5 +1,5 @@
 -- Chunks of a file of a size, and what a change makes of them.
-use Rattle.std.proofs.Common.{◌≡◌, ℕ, zero, suc, ◌+◌, ◌*◌, ◌-◌, ◌<◌, ◌≤◌, min, max, List, [], ◌∷◌}
+use Rattle.std.proofs.Common.{◌≡◌, ℕ, zero, suc, ◌+◌, ◌*◌, ◌-◌, ◌<◌, ◌≤◌, min, List, [], ◌∷◌}
 use Rattle.std.proofs.Common.{◌++◌, length, take, drop, refl, sym, ap, subst, ◌∙◌, get_or, arith}
 use Rattle.std.proofs.Common.{length-append, length-take, length-drop}
 use Rattle.std.specs.Prelude.{replicate}
@@ -204,18 +204,6 @@ module _ (cs : List (List ℕ)) (len : ℕ) (are : AreChunks cs len) where
       ∙ ap (λ (xs : List ℕ). take n (drop from xs)) e
       ∙ ap (λ (k : ℕ). take k (drop from now)) same
       ∙ take_min most (drop from now)
-
-  -- how many bytes are read
-  pub count_read : (now : List ℕ) (from most n : ℕ) → take len (concat cs) ≡ now
-      → n ≡ min most (len - from)
-      → (n ≡ length (take most (drop from now))) × (from + n ≤ max from len) × (n ≤ most)
-      × (max from len ≤ max from (length cs * CHUNK_BYTES))
-  count_read now from most n e count = (
-    omega (arith, count, length-take most (drop from now), length-drop from now, size_is now e),
-    omega (arith, count),
-    omega (arith, count),
-    omega (arith, fits),
-  )
 
   -- the bytes in the chunk at a place
   pub is_piece : (now : List ℕ) (i n : ℕ) (c : List ℕ) → take len (concat cs) ≡ now

@@ -16,10 +16,9 @@ use Rattle.file_tree.specs.Store.Bodies.{Chunks, AreFullAt, Rekeys}
 use Rattle.file_tree.specs.Store.Chunked.{overlaid, AreFull}
 use Rattle.file_tree.specs.Store.Cuts.{HasElement}
 use Rattle.file_tree.specs.Store.Stored.{stored, changed}
-use Rattle.file_tree.proofs.StoreLemmas.Keys.{IsKeyAt, Adds, length-stored, present_at, replaced}
-use Rattle.file_tree.proofs.StoreLemmas.Keys.{value_at, changed_keys, changed_value, some_or_none}
-use Rattle.file_tree.proofs.StoreLemmas.Keys.{not_both, stored_push, keys_push, removed_keys}
-use Rattle.file_tree.proofs.StoreLemmas.Keys.{removed_value}
+use Rattle.file_tree.proofs.StoreLemmas.Keys.{IsKeyAt, Adds, length-stored, replaced, value_at}
+use Rattle.file_tree.proofs.StoreLemmas.Keys.{changed_keys, changed_value, some_or_none, not_both}
+use Rattle.file_tree.proofs.StoreLemmas.Keys.{stored_push, keys_push, removed_keys, removed_value}
 use Rattle.file_tree.proofs.StoreLemmas.Overs.{full_append, full_take, piece_full, piece_written}
 use Rattle.file_tree.proofs.StoreLemmas.Overs.{piece_read, piece_cleared, none_cleared}
 use Rattle.file_tree.proofs.StoreLemmas.Overs.{length-joined}
@@ -281,12 +280,6 @@ module _ (old new : Chunks) (keys : List ℕ) (last key : ℕ) (h : AreFullAt ol
         (key_at_held keys last key (omega (arith, is_last)))));
     count = omega (arith, e, is_last, length-remove keys last (omega (arith, is_last)));
   }
-
-pub last_there : (old : Chunks) (keys : List ℕ) (last key : ℕ) → AreFullAt old keys
-    → length keys ≡ suc last → key ≡ get_or keys last key → ContainsKey old key
-last_there old keys last key h is_last is =
-    subst (ContainsKey old) (sym is) (present_at old keys last key h.are.present
-    (omega (arith, is_last)))
 
 -- ---- chunks that end where they are to be cleared
 

@@ -9,8 +9,7 @@
 //!   Where memory ends they are dropped, and nothing has changed.
 
 ghost use Rattle.std.specs.Prelude.{◌≡◌, ◌+◌, ◌-◌, ◌<◌, ◌≤◌, ◌^◌, ◌++◌, [], min, length, take};
-ghost use Rattle.std.specs.Prelude.{drop};
-ghost use Rattle.std.specs.Prelude.{OnOk, OnErr};
+ghost use Rattle.std.specs.Prelude.{drop, OnOk, OnErr};
 ghost use Rattle.file_tree.specs.declared.limits.TheConstants.{FILE_BYTES};
 ghost use Rattle.file_tree.specs.rules.Bytes.{written, resized};
 ghost use Rattle.file_tree.specs.rules.Chunks.{chunk_of};

@@ -9,9 +9,8 @@ use Rattle.wasi_abi.specs.declared.answer.Question.{Question}
 use Rattle.wasi_abi.specs.declared.call.Call.{Call}
 use Rattle.wasi_calls_rules.specs.WasiStates.{WasiState}
 use Rattle.wasi_calls_rules.specs.Checks.{Bytes, Done, Halt, Ruling, Refuses, Asks, Ends}
-use Rattle.wasi_calls_rules.specs.CallRules.{call_rule, CallEnding, IsDone, IsRefused}
-use Rattle.wasi_calls_rules.specs.CallRules.{IsAsk, IsExit}
-use Rattle.wasi_calls_rules.specs.CallRules.{NoMemory}
+use Rattle.wasi_calls_rules.specs.CallRules.{call_rule, CallEnding, IsDone, IsRefused, IsAsk}
+use Rattle.wasi_calls_rules.specs.CallRules.{IsExit, NoMemory}
 use Rattle.wasi_calls.specs.declared.outcome.CallOutcome.{CallOutcome}
 use Rattle.wasi_calls.specs.declared.outcome.CallOutcome.TheVariants as outcome
 use Rattle.wasi_calls.specs.declared.stop.CallStop.TheVariants as stop

@@ -4,8 +4,7 @@ ghost use Rattle.std.specs.Prelude.{◌≡◌, ◌≢◌, ◌<◌, ◌≤◌, �
 ghost use Rattle.std.specs.Prelude.{slice_get, slice_set};
 ghost use Rattle.file_tree.specs.rules.Files.{is_directory};
 ghost use Rattle.wasi_calls_rules.specs.WasiStates.{Node, Descriptor as Opened, IsThere};
-ghost use Rattle.wasi_calls_rules.specs.WasiStates.{IsDescriptor};
-ghost use Rattle.wasi_calls_rules.specs.WasiStates.{IsWasiState};
+ghost use Rattle.wasi_calls_rules.specs.WasiStates.{IsDescriptor, IsWasiState};
 ghost use Rattle.wasi_calls_rules.specs.Checks.{open_descriptor, names_directory};
 ghost use Rattle.wasi_calls_rules.specs.Checks.{no_directory, a_file, a_directory};
 ghost use Rattle.std.specs.List.{list_any};

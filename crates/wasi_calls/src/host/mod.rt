@@ -71,8 +71,7 @@ impl Model for WasiState {
 
 impl WasiState {
     ghost use Rattle.wasi_calls.specs.rules.Held.{HeldWasiState, ShowsWasiState, held_ended};
-    ghost use Rattle.wasi_calls.specs.rules.Held.{held_released};
-    ghost use Rattle.wasi_calls.specs.rules.Held.{held_widened};
+    ghost use Rattle.wasi_calls.specs.rules.Held.{held_released, held_widened};
     ghost use Rattle.wasi_abi.specs.declared.version.Version.TheVariants.{Two};
 
     /// The host of a process that begins. It fails only when out of memory.

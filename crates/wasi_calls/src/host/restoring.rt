@@ -7,9 +7,8 @@ ghost use Rattle.wasi_abi.specs.declared.version.Version.{Version};
 ghost use Rattle.wasi_calls_rules.specs.WasiStates.{IsThere, IsDescriptor, IsUnfinished};
 ghost use Rattle.wasi_calls_rules.specs.WasiStates.{IsWasiState};
 ghost use Rattle.wasi_calls.specs.declared.host.restoring.PartsFault.TheVariants as fault;
-ghost use Rattle.wasi_calls.specs.Restoring.{MayBeOpen, MayAllBeOpen, HasRoot};
-ghost use Rattle.wasi_calls.specs.Restoring.{is_kept, AreRemovedNamed};
-ghost use Rattle.wasi_calls.specs.Restoring.{IsDescriptorTable};
+ghost use Rattle.wasi_calls.specs.Restoring.{MayBeOpen, MayAllBeOpen, HasRoot, is_kept};
+ghost use Rattle.wasi_calls.specs.Restoring.{AreRemovedNamed, IsDescriptorTable};
 ghost use Rattle.wasi_calls.specs.rules.Restored.{held_host_from};
 ghost use Rattle.wasi_calls.specs.Views.{target_of};
 

@@ -1,12 +1,11 @@
 use Rattle.std.proofs.Common.{◌+◌, ◌∙◌, sym, ap, arith, length}
-use Rattle.std.specs.Prelude.{Ok}
+use Rattle.std.specs.Prelude.{Ok, option_copied}
 use Rattle.std.proofs.lemmas.Result.{err_from_is_err_and}
 use Rattle.wasi_abi.specs.rules.Layouts.{u32_bytes}
 use Rattle.guest_memory.specs.rules.Bytes.{with_part}
 use Rattle.wasi_calls_rules.specs.Checks.{Bytes, scattered}
 use Rattle.wasi_calls_rules.specs.Moving.{Got, target_read}
 use Rattle.wasi_calls.specs.Moves.{total_len}
-use Rattle.std.specs.Prelude.{option_copied}
 use Rattle.wasi_calls.proofs.MovedCallRules.{read_is, stops_after, cell_put}
 use Rattle.wasi_calls.proofs.read.read_within.Goals as goal
 

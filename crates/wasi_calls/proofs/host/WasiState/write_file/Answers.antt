@@ -11,8 +11,7 @@ use Rattle.wasi_calls.specs.rules.Held.{HeldWasiState}
 use Rattle.wasi_calls.proofs.Fronts.{length_gathered}
 use Rattle.wasi_calls.proofs.WrittenFiles.{bytes_now, file_now}
 use Rattle.wasi_calls.proofs.FileCallRules.{no_bytes, none_written, too_large, refused_write}
-use Rattle.wasi_calls.proofs.FileCallRules.{done_write}
-use Rattle.wasi_calls.proofs.FileCallRules.{files_made}
+use Rattle.wasi_calls.proofs.FileCallRules.{done_write, files_made}
 use Rattle.wasi_calls.proofs.host.WasiState.write_file.Goals as goal
 
 pub returns-then-len-eq0-clause-done : goal.returns-then-len-eq0-clause-done

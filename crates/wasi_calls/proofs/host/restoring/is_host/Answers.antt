@@ -3,10 +3,8 @@ use Rattle.std.proofs.lemmas.Bool.{both_ways}
 use Rattle.wasi_calls.specs.rules.Restored.{held_host_from}
 use Rattle.wasi_calls.proofs.Restored.{table_of, host_of}
 use Rattle.wasi_calls.proofs.host.restoring.is_host.Goals as goal
-use Rattle.wasi_calls.proofs.host.restoring.is_host.Goals.{then-fits_room}
-use Rattle.wasi_calls.proofs.host.restoring.is_host.Goals.{else-fits_room}
-use Rattle.wasi_calls.proofs.host.restoring.is_host.Goals.{then-is_table}
-use Rattle.wasi_calls.proofs.host.restoring.is_host.Goals.{else-is_table}
+use Rattle.wasi_calls.proofs.host.restoring.is_host.Goals.{then-fits_room, else-fits_room}
+use Rattle.wasi_calls.proofs.host.restoring.is_host.Goals.{then-is_table, else-is_table}
 
 pub returns-then-is_unfinished : goal.returns-then-is_unfinished
 returns-then-is_unfinished c = λ version.

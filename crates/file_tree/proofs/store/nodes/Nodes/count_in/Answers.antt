@@ -1,5 +1,4 @@
-use Rattle.std.proofs.Common.{arith, subst}
-use Rattle.std.proofs.Common.{◌≡◌, None, ℕ}
+use Rattle.std.proofs.Common.{arith, subst, ◌≡◌, None, ℕ}
 use Rattle.file_tree.specs.Store.Named.{in_directory, named_node}
 use Rattle.file_tree.proofs.StoreLemmas.NamedLookups.{keys_in_order, counted_at, none_past}
 use Rattle.file_tree.proofs.store.nodes.Nodes.count_in.Goals as goal

@@ -1,6 +1,6 @@
 use Rattle.std.proofs.Common.{sym, arith, ◌∙◌}
 use Rattle.file_tree.proofs.StoreLemmas.Numbers.{place_at_cut, nowhere_at_cut, nowhere_at_end}
-use Rattle.file_tree.proofs.lookup.place_of.Goals as goal
+use Rattle.file_tree.proofs.lookup.node_index.Goals as goal
 
 pub returns-then-place-len-clause-nowhere : goal.returns-then-place-len-clause-nowhere
 returns-then-place-len-clause-nowhere c =
