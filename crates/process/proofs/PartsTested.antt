@@ -79,14 +79,6 @@ module _ (machine : MachineValue) (held : HeldWasiState) (steps answers requests
         few_lines = few;
       }
 
-  pub is_counted : IsProcess (process_of machine held steps answers requests ended)
-      → AreCounted held.host.version steps answers requests
-  is_counted is = record {
-    few_steps = is.few_steps;
-    few_answers = is.few_answers;
-    few_requests = is.few_requests;
-  }
-
   -- it is one of some configuration that has not ended where the process has not
   pub stays_open : (is : IsProcess (process_of machine held steps answers requests ended))
       → ended ≡ None → IsEnded is.process.configuration → ⊥

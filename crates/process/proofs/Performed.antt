@@ -32,10 +32,8 @@ use Rattle.process.specs.Callings.{LeadsToProcess, Tells, FinishesAt, HasFinishe
 use Rattle.process.specs.Callings.{HasNumbers}
 use Rattle.process.proofs.Lines.{few_shown}
 use Rattle.process.proofs.Performing.{GivesErrno, GoesOnGiven, goes_on, number_small, next_is}
-use Rattle.process.proofs.Performing.{leads_on}
-use Rattle.process.proofs.Performing.{leads_out, IsSynced, is_synced, syncs_when, written}
-use Rattle.process.proofs.Performing.{unchanged}
-use Rattle.process.proofs.Performing.{same_guest}
+use Rattle.process.proofs.Performing.{leads_on, leads_out, IsSynced, is_synced, syncs_when, written}
+use Rattle.process.proofs.Performing.{unchanged, same_guest}
 
 module _ (old mid : MachineValue) (old_held mid_held : HeldWasiState) (c : Call)
     (arguments : List ℕ) (given : Option Answer) where
@@ -201,11 +199,6 @@ module _ (old mid : MachineValue) (old_held mid_held : HeldWasiState) (c : Call)
         λ s. let synced = is_synced guest p c arguments at given s in
             let done = synced.is_done in absurd (cc),
       )
-
-  pub exit_few : (code : ℕ)
-      → HasCalled old old_held c arguments given (outcome.Exit code) mid mid_held
-      → WaitsAtCall old old_held c arguments → mid_held ≡ old_held
-  exit_few code called w = (called.shown w.process.host w.shows.host).2
 
   pub memory_kept : HasCalled old old_held c arguments given outcome.Memory mid mid_held
       → WaitsAtCall old old_held c arguments → (mid ≡ old) × (mid_held ≡ old_held)

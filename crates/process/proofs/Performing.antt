@@ -29,8 +29,7 @@ use Rattle.machine.proofs.Written.{shows_what_is_written}
 use Rattle.process_rules.specs.Processes.{Ending, Exited, ProcessState, Guest, AreCalls, over}
 use Rattle.process_rules.specs.Processes.{closed}
 use Rattle.process_rules.specs.Runs.{Next, On, Over, given_by, after_call_rule, after_call}
-use Rattle.process_rules.specs.Runs.{after_counted_step}
-use Rattle.process_rules.specs.Runs.{next_of, stepped, LeadsTo}
+use Rattle.process_rules.specs.Runs.{after_counted_step, next_of, stepped, LeadsTo}
 use Rattle.process_rules.specs.Behind.{Syncs}
 use Rattle.process_rules.proofs.Quiet.{open_still}
 use Rattle.process_rules.proofs.ReachedTyped.{errno_small}

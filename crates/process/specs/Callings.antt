@@ -7,8 +7,7 @@ use Rattle.wasm_syntax.specs.declared.types.FunctionType.{FunctionType}
 use Rattle.wasm_syntax.specs.declared.value.Value.{Value}
 use Rattle.guest_memory.specs.rules.Bytes.{IsByte}
 use Rattle.wasm_rules.specs.Types.{AreOf, gives_of}
-use Rattle.wasm_rules.specs.Configuration.{Imported, Program, Thread, Configuration}
-use Rattle.wasm_rules.specs.Configuration.{Asks}
+use Rattle.wasm_rules.specs.Configuration.{Imported, Program, Thread, Configuration, Asks}
 use Rattle.wasm_rules.specs.Steps.{counted_step, answered, IsEnded, ReducesTo}
 use Rattle.wasi_abi.specs.declared.answer.Answer.{Answer}
 use Rattle.wasi_abi.specs.declared.call.Call.{Call}

@@ -30,7 +30,7 @@ now_on guest q xs ys n k f g (now.Ended how) same answered h = let few : k ≤ g
     (omega arith, h.1, answered_join xs ys answered h.2)
 
 pub slices_add : {S O : Type 0} (gives : Giving S) (takes : Taking O) → SlicesAdd gives takes
-slices_add gives takes first second third f g why s t u o p q a b = record {
+slices_add gives takes first second third f g why before between after a b = record {
   had_not_failed = a.had_not_failed;
   has_not_failed = b.has_not_failed;
   none_waits = b.none_waits;
@@ -40,7 +40,8 @@ slices_add gives takes first second third f g why s t u o p q a b = record {
       let two = b.shown guest middle one.0.shows in (
         record {
           exchanges = one.0.exchanges ++ two.0.exchanges;
-          exchanged = exchanges_join gives takes s u t o q p one.0.exchanges two.0.exchanges
+          exchanged = exchanges_join gives takes before.source after.source between.source
+              before.outlet after.outlet between.outlet one.0.exchanges two.0.exchanges
               one.0.exchanged two.0.exchanged;
           wanted = wanted_join guest start middle one.0.exchanges two.0.exchanges one.0.steps
               one.0.wanted one.0.leads one.1.2 two.0.wanted;

@@ -14,7 +14,7 @@ use Rattle.process_rules.specs.Runs.{Wants, next_of}
 use Rattle.process_rules.proofs.Growing.{move_counts}
 use Rattle.record_replay.specs.declared.fault.SourceFault.{SourceFault}
 use Rattle.record_replay.specs.rules.Calls.{Giving, Taking, Ask, Begun, Exchange, Asks, Exchanges}
-use Rattle.record_replay.specs.rules.Calls.{last_refused}
+use Rattle.record_replay.specs.rules.Calls.{last_refused, ports}
 use Rattle.process.specs.declared.fault.ProcessFault.{ProcessFault}
 use Rattle.process.specs.declared.fault.ProcessFault.TheVariants as stop
 use Rattle.process.specs.declared.stop.ProcessEnd.{ProcessEnd}
@@ -27,8 +27,7 @@ use Rattle.record_replay.specs.declared.slices.fault.SliceFault.TheVariants as f
 use Rattle.record_replay.specs.declared.slices.fault.Refusal.TheVariants as refusal
 use Rattle.record_replay.specs.rules.Slices.{handed_by, SliceLeadsTo, LeadsToQuestion, AreWanted}
 use Rattle.record_replay.specs.rules.Slices.{Slices}
-use Rattle.record_replay.specs.rules.Faults.{IsBadAnswer, LeadsUpTo, Fails, IsCause}
-use Rattle.record_replay.specs.rules.Faults.{SlicesInVain}
+use Rattle.record_replay.specs.rules.Faults.{IsBadAnswer, LeadsUpTo, Fails, IsCause, SlicesInVain}
 use Rattle.record_replay.specs.rules.Refusals.{slice_fault}
 use Rattle.record_replay.specs.Turns.{working, failing, taken_by, AnswersBy, AsksOnce}
 use Rattle.record_replay.specs.rules.Waiting.{first_waiting, ReleasesAll, ReleasesSome}
@@ -36,9 +35,8 @@ use Rattle.record_replay.proofs.Emitted.{released_count}
 use Rattle.record_replay.proofs.OnTheWay.{quiet_runs, owing_runs}
 use Rattle.record_replay.proofs.Joining.{tells, wanted_ask, asked_leads}
 use Rattle.record_replay.proofs.Going.{Goes, goes_none, leads, advance_on, owing_last}
-use Rattle.record_replay.proofs.Going.{leads_to_question}
-use Rattle.record_replay.proofs.Going.{asked_more}
-use Rattle.record_replay.proofs.Going.{answer_on, told_wanted, told_more, release_on}
+use Rattle.record_replay.proofs.Going.{leads_to_question, asked_more, answer_on, told_wanted}
+use Rattle.record_replay.proofs.Going.{told_more, release_on}
 
 -- whether a line waits
 abbrev pub waits : List Line → ℕ
@@ -136,7 +134,7 @@ module _ {S O : Type 0} (gives : Giving S) (takes : Taking O) where
     one_stop = at one_guest one_process turning.some.shows
 
     pub spent : AdvancesProcess now fuel_left (Ok stops.Spent) new
-        → Slices gives takes (working old) fuel ends.Spent (working new) s t o q
+        → Slices gives takes (working old) fuel ends.Spent (working new) (ports s o) (ports t q)
     unfolding advance_on
     spent advances = record {
       had_not_failed = refl;
@@ -163,7 +161,8 @@ module _ {S O : Type 0} (gives : Giving S) (takes : Taking O) where
     }
 
     pub over : (how : ProcessEnd) → AdvancesProcess now fuel_left (Ok (stops.Ended how)) new
-        → Slices gives takes (working old) fuel (ends.Ended how) (working new) s t o q
+        → Slices gives takes (working old) fuel (ends.Ended how) (working new) (ports s o)
+        (ports t q)
     unfolding advance_on
     over how advances = record {
       had_not_failed = refl;
@@ -283,7 +282,8 @@ module _ {S O : Type 0} (gives : Giving S) (takes : Taking O) where
     -- ---- where no step could be taken
 
     pub cannot_advance : (why : ProcessFault) → AdvancesProcess now fuel_left (Err why) new
-        → SlicesInVain gives takes (working old) fuel (slice_fault why) (failing new) s t o q
+        → SlicesInVain gives takes (working old) fuel (slice_fault why) (failing new) (ports s o)
+        (ports t q)
     unfolding advance_on
     cannot_advance stop.WrongAnswer advances = (
       refl,
@@ -377,7 +377,8 @@ module _ {S O : Type 0} (gives : Giving S) (takes : Taking O) where
 
   pub released_some : (old now new : ProcessValue) (fuel first : ℕ) (s t : S) (o q r : O)
       → Turning old now fuel first s t o q → ReleasesSome takes now new q r
-      → SlicesInVain gives takes (working old) fuel fault.Outlet (failing new) s t o r
+      → SlicesInVain gives takes (working old) fuel fault.Outlet (failing new) (ports s o)
+      (ports t r)
   released_some old now new fuel first s t o q r turning some = (
     refl,
     refl,
@@ -477,7 +478,8 @@ module _ {S O : Type 0} (gives : Giving S) (takes : Taking O) where
           → IsCause guest p fuel (asked_calls guest p shows) (so_far guest p shows).steps
           (so_far guest p shows).process why)
           → (guest : Guest) (p : ProcessState) → ShowsProcess old guest p
-          → (fails : Fails gives takes (working old) (failing new) guest p s u o q)
+          → (fails : Fails gives takes (working old) (failing new) guest p (ports s o)
+          (ports u q))
           × IsCause guest p fuel fails.exchanges fails.steps fails.process why
       stops_here why same cause guest p shows = (
         record {
@@ -521,7 +523,8 @@ module _ {S O : Type 0} (gives : Giving S) (takes : Taking O) where
       )
 
       waits_for : new ≡ mid → said ≡ Ok None
-          → Slices gives takes (working old) fuel ends.Waiting (working new) s u o q
+          → Slices gives takes (working old) fuel ends.Waiting (working new) (ports s o)
+          (ports u q)
       waits_for same is = record {
         had_not_failed = refl;
         has_not_failed = refl;
@@ -568,7 +571,8 @@ module _ {S O : Type 0} (gives : Giving S) (takes : Taking O) where
     stays_waiting once = (waiting_by once.said once.answers).0
 
     pub waiting : AsksOnce gives question mid (Ok false) new t u
-        → Slices gives takes (working old) fuel ends.Waiting (working new) s u o q
+        → Slices gives takes (working old) fuel ends.Waiting (working new) (ports s o)
+        (ports u q)
     waiting once = let by = waiting_by once.said once.answers in
         waits_for once.said once.asked by.0 by.1
 
@@ -641,7 +645,8 @@ module _ {S O : Type 0} (gives : Giving S) (takes : Taking O) where
 
     refused_by : (a : Answer) (why : ProcessFault) → gives t question (Ok (Some a)) u
         → GivesAnswer mid a (Err why) new
-        → SlicesInVain gives takes (working old) fuel (slice_fault why) (failing new) s u o q
+        → SlicesInVain gives takes (working old) fuel (slice_fault why) (failing new) (ports s o)
+        (ports u q)
     refused_by a stop.WrongAnswer asked h = (
       refl,
       refl,
@@ -684,23 +689,23 @@ module _ {S O : Type 0} (gives : Giving S) (takes : Taking O) where
     given_vainly : (a : Answer) (why : SliceFault) (given : Result (Unit {0}) ProcessFault)
         → gives t question (Ok (Some a)) u → GivesAnswer mid a given new
         → ◌≡◌ {A = Result Bool SliceFault} (Err why) (taken_by given)
-        → SlicesInVain gives takes (working old) fuel why (failing new) s u o q
+        → SlicesInVain gives takes (working old) fuel why (failing new) (ports s o) (ports u q)
     given_vainly a why (Ok done) asked h e = absurd (cc)
     given_vainly a why (Err stopped) asked h e =
         let same : slice_fault stopped ≡ why = cc in
         let P : SliceFault → Type 0 =
-        λ z. SlicesInVain gives takes (working old) fuel z (failing new) s u o q in
-        subst P same (refused_by a stopped asked h)
+        λ z. SlicesInVain gives takes (working old) fuel z (failing new) (ports s o) (ports u q)
+        in subst P same (refused_by a stopped asked h)
 
     vainly_by : (said : Result (Option Answer) SourceFault) (why : SliceFault)
         → gives t question said u → AnswersBy mid said (Err why) new
-        → SlicesInVain gives takes (working old) fuel why (failing new) s u o q
+        → SlicesInVain gives takes (working old) fuel why (failing new) (ports s o) (ports u q)
     vainly_by (Err e) why asked answers =
         let is = answers.0 in
         let same : fault.Source ≡ why = cc in
         let P : SliceFault → Type 0 =
-        λ z. SlicesInVain gives takes (working old) fuel z (failing new) s u o q in
-        subst P same (
+        λ z. SlicesInVain gives takes (working old) fuel z (failing new) (ports s o) (ports u q)
+        in subst P same (
           refl,
           refl,
           stops_here (Err e) asked fault.Source answers.1 (λ guest p shows.
@@ -711,5 +716,5 @@ module _ {S O : Type 0} (gives : Giving S) (takes : Taking O) where
         given_vainly a why answers.0 asked answers.1 answers.2
 
     pub vainly : (why : SliceFault) → AsksOnce gives question mid (Err why) new t u
-        → SlicesInVain gives takes (working old) fuel why (failing new) s u o q
+        → SlicesInVain gives takes (working old) fuel why (failing new) (ports s o) (ports u q)
     vainly why once = vainly_by once.said why once.asked once.answers

@@ -3,7 +3,7 @@ use Rattle.std.proofs.Common.{◌≡◌, ℕ, ◌+◌, ◌<◌, ◌≤◌, List,
 use Rattle.std.proofs.Common.{append_assoc}
 use Rattle.wasi_abi.specs.declared.answer.Answer.{Answer}
 use Rattle.process_rules.specs.Processes.{ProcessState, Guest}
-use Rattle.record_replay.specs.rules.Calls.{Giving, Taking, Exchange}
+use Rattle.record_replay.specs.rules.Calls.{Giving, Taking, Ports, Exchange}
 use Rattle.record_replay.proofs.Following.{exchanges_join}
 use Rattle.process.specs.rules.Values.{ShowsProcess}
 use Rattle.record_replay.specs.declared.slices.now.Now.TheVariants as now
@@ -13,8 +13,7 @@ use Rattle.record_replay.specs.declared.slices.fault.Refusal.TheVariants as refu
 use Rattle.record_replay.specs.rules.Workers.{WorkerValue}
 use Rattle.record_replay.specs.rules.Slices.{SliceLeadsTo, AreAnswered, Slices}
 use Rattle.record_replay.specs.rules.Faults.{StopsAtLine, StopsAtAnswer, LeadsUpTo, last_answer}
-use Rattle.record_replay.specs.rules.Faults.{Fails}
-use Rattle.record_replay.specs.rules.Faults.{IsCause, SlicesInVain}
+use Rattle.record_replay.specs.rules.Faults.{Fails, IsCause, SlicesInVain}
 use Rattle.record_replay.specs.laws.SliceLaws.{SlicesAddInVain}
 use Rattle.record_replay.proofs.Joining.{answered_join, leads_join, wanted_join}
 
@@ -72,45 +71,47 @@ module _ (guest : Guest) (p q : ProcessState) (xs : List Exchange) (n : ℕ)
         (omega arith, h.1, h.2, up_to_join r ys k h.2 h.3, h.4)
 
 module _ {S O : Type 0} (gives : Giving S) (takes : Taking O) (first second third : WorkerValue)
-    (f g : ℕ) (s t u : S) (o p q : O) (a : Slices gives takes first f now.Spent second s t o p)
-  where
-    -- what a slice in vain does to each process that is shown
-    abbrev InVain : WorkerValue → ℕ → S → O → SliceFault → Type 0
-    InVain from fuel source outlet why =
-        (guest : Guest) (start : ProcessState) → ShowsProcess from.process guest start
-        → (fails : Fails gives takes from third guest start source u outlet q)
-        × IsCause guest start fuel fails.exchanges fails.steps fails.process why
+    (f g : ℕ) (before between after : Ports S O)
+    (a : Slices gives takes first f now.Spent second before between) where
+  -- what a slice in vain does to each process that is shown
+  abbrev InVain : WorkerValue → ℕ → Ports S O → SliceFault → Type 0
+  InVain from fuel there why =
+      (guest : Guest) (start : ProcessState) → ShowsProcess from.process guest start
+      → (fails : Fails gives takes from third guest start there after)
+      × IsCause guest start fuel fails.exchanges fails.steps fails.process why
 
-    in_vain_join : (why : SliceFault) → InVain second g t p why → InVain first (f + g) s o why
-    in_vain_join why b = λ guest start shows.
-        let one = a.shown guest start shows in
-        let middle = one.0.process in
-        let two = b guest middle one.0.shows in (
-          record {
-            exchanges = one.0.exchanges ++ two.0.exchanges;
-            exchanged = exchanges_join gives takes s u t o q p one.0.exchanges two.0.exchanges
-                one.0.exchanged two.0.exchanged;
-            wanted = wanted_join guest start middle one.0.exchanges two.0.exchanges one.0.steps
-                one.0.wanted one.0.leads one.1.2 two.0.wanted;
-            steps = one.0.steps + two.0.steps;
-            process = two.0.process;
-            shows = two.0.shows;
-          },
-          cause_join guest start middle one.0.exchanges one.0.steps one.0.leads one.1.2
-              two.0.process
-              two.0.exchanges two.0.steps f g why one.1.0 two.1,
-        )
+  in_vain_join : (why : SliceFault) → InVain second g between why
+      → InVain first (f + g) before why
+  in_vain_join why b = λ guest start shows.
+      let one = a.shown guest start shows in
+      let middle = one.0.process in
+      let two = b guest middle one.0.shows in (
+        record {
+          exchanges = one.0.exchanges ++ two.0.exchanges;
+          exchanged = exchanges_join gives takes before.source after.source between.source
+              before.outlet after.outlet between.outlet one.0.exchanges two.0.exchanges
+              one.0.exchanged two.0.exchanged;
+          wanted = wanted_join guest start middle one.0.exchanges two.0.exchanges one.0.steps
+              one.0.wanted one.0.leads one.1.2 two.0.wanted;
+          steps = one.0.steps + two.0.steps;
+          process = two.0.process;
+          shows = two.0.shows;
+        },
+        cause_join guest start middle one.0.exchanges one.0.steps one.0.leads one.1.2
+            two.0.process
+            two.0.exchanges two.0.steps f g why one.1.0 two.1,
+      )
 
-    add_in_vain : (why : SliceFault) → SlicesInVain gives takes second g why third t u p q
-        → SlicesInVain gives takes first (f + g) why third s u o q
-    add_in_vain fault.Source h = (a.had_not_failed, h.1, in_vain_join fault.Source h.2)
-    add_in_vain fault.Outlet h = (a.had_not_failed, h.1, in_vain_join fault.Outlet h.2)
-    add_in_vain fault.Memory h = (a.had_not_failed, h.1, in_vain_join fault.Memory h.2)
-    add_in_vain fault.Failed h = let none = a.has_not_failed in let one = h.0 in absurd (cc)
-    add_in_vain (fault.Refused why) h =
-        (a.had_not_failed, h.1, in_vain_join (fault.Refused why) h.2)
+  add_in_vain : (why : SliceFault) → SlicesInVain gives takes second g why third between after
+      → SlicesInVain gives takes first (f + g) why third before after
+  add_in_vain fault.Source h = (a.had_not_failed, h.1, in_vain_join fault.Source h.2)
+  add_in_vain fault.Outlet h = (a.had_not_failed, h.1, in_vain_join fault.Outlet h.2)
+  add_in_vain fault.Memory h = (a.had_not_failed, h.1, in_vain_join fault.Memory h.2)
+  add_in_vain fault.Failed h = let none = a.has_not_failed in let one = h.0 in absurd (cc)
+  add_in_vain (fault.Refused why) h =
+      (a.had_not_failed, h.1, in_vain_join (fault.Refused why) h.2)
 
 pub slices_add_in_vain : {S O : Type 0} (gives : Giving S) (takes : Taking O)
     → SlicesAddInVain gives takes
-slices_add_in_vain gives takes first second third f g why s t u o p q a b =
-    add_in_vain gives takes first second third f g s t u o p q a why b
+slices_add_in_vain gives takes first second third f g why before between after a b =
+    add_in_vain gives takes first second third f g before between after a why b

@@ -24,10 +24,8 @@ use Rattle.record_replay.specs.rules.Waiting.{first_waiting, ReleasesAll}
 use Rattle.record_replay.proofs.Emitted.{lines_on, released_count, released_none}
 use Rattle.record_replay.proofs.OnTheWay.{owing_runs}
 use Rattle.record_replay.proofs.Joining.{handed_of_both, none_answered, answered_join}
-use Rattle.record_replay.proofs.Joining.{answered_tells}
-use Rattle.record_replay.proofs.Joining.{tells, tells_ask_nothing, releases_of_tells}
-use Rattle.record_replay.proofs.Joining.{none_wanted}
-use Rattle.record_replay.proofs.Joining.{wanted_ask, wanted_tells}
+use Rattle.record_replay.proofs.Joining.{answered_tells, tells, tells_ask_nothing}
+use Rattle.record_replay.proofs.Joining.{releases_of_tells, none_wanted, wanted_ask, wanted_tells}
 
 -- ---- so far
 

@@ -11,8 +11,7 @@ use Rattle.record_replay.specs.rules.Calls.{Ask, Begun, Exchange, Asks, Tells, a
 use Rattle.record_replay.specs.rules.Calls.{all_taken}
 use Rattle.record_replay.proofs.Following.{asks_of-append, releases_of-append, lines_in_order}
 use Rattle.record_replay.specs.rules.Slices.{handed, handed_by, SliceLeadsTo, HasAnswer}
-use Rattle.record_replay.specs.rules.Slices.{AreAnswered}
-use Rattle.record_replay.specs.rules.Slices.{LeadsToQuestion, AreWanted}
+use Rattle.record_replay.specs.rules.Slices.{AreAnswered, LeadsToQuestion, AreWanted}
 
 -- ---- answers
 

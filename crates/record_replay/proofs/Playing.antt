@@ -16,8 +16,7 @@ use Rattle.process.specs.declared.fault.ProcessFault.TheVariants as stop
 use Rattle.process.specs.declared.stop.ProcessEnd.{ProcessEnd}
 use Rattle.process.specs.declared.stop.Stop.TheVariants as stops
 use Rattle.process.specs.rules.Values.{ProcessValue, ShowsProcess, IsProcess, waiting_in}
-use Rattle.process.specs.rules.Stops.{ComesQuietly, ComesOwing, IsBeyond}
-use Rattle.process.specs.rules.Stops.{AdvancesProcess}
+use Rattle.process.specs.rules.Stops.{ComesQuietly, ComesOwing, IsBeyond, AdvancesProcess}
 use Rattle.record_replay.specs.rules.Calls.{Taking, Releases, all_taken, last_refused}
 use Rattle.record_replay.specs.rules.Waiting.{ReleasesAll, ReleasesSome}
 use Rattle.record_replay.specs.rules.Records.{none}

@@ -4,8 +4,7 @@ use Rattle.std.proofs.Common.{◌++◌, Some, None, refl, sym, ◌∙◌, ap, su
 use Rattle.std.specs.Prelude.{map}
 use Rattle.disk_layout.specs.declared.record.Record.{Record}
 use Rattle.process_rules.specs.Processes.{ProcessState, Guest}
-use Rattle.process_rules.specs.Runs.{Moves, Kept, Given, Runs}
-use Rattle.process_rules.specs.Runs.{none as no_step, take}
+use Rattle.process_rules.specs.Runs.{Moves, Kept, Given, Runs, none as no_step, take}
 use Rattle.process_rules.proofs.Growing.{move_counts, runs_count, runs_emit}
 use Rattle.process_rules.proofs.OneProcess.{runs_once}
 use Rattle.process_rules.proofs.Quiet.{runs_join}

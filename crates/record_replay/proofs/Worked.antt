@@ -5,7 +5,7 @@ use Rattle.wasm_rules.specs.Linking.{IsLinkable}
 use Rattle.machine.specs.declared.instance.fault.LinkFault.{LinkFault}
 use Rattle.machine.specs.rules.Offers.{offer}
 use Rattle.machine.specs.rules.Refusals.{IsRefused as IsUnlinked, LinkDenies as DeniesLink}
-use Rattle.record_replay.specs.rules.Calls.{Giving, Taking}
+use Rattle.record_replay.specs.rules.Calls.{Giving, Taking, Ports}
 use Rattle.machine.specs.declared.from_bytes.fault.ModuleFault.{ModuleFault}
 use Rattle.machine.specs.declared.from_bytes.fault.ModuleFault.TheVariants.{Link}
 use Rattle.machine.specs.rules.Acceptance.{IsRead, IsReported, IsReportedOfReading}
@@ -48,8 +48,9 @@ unlinked pages bytes m e read h none =
 -- ---- slices
 
 pub slices_of : {S O : Type 0} (gives : Giving S) (takes : Taking O) (v w old new : WorkerValue)
-    (fuel : ℕ) (why : Now) (s t : S) (o q : O) → v ≡ old → w ≡ new
-    → Slices gives takes v fuel why w s t o q → Slices gives takes old fuel why new s t o q
-slices_of gives takes v w old new fuel why s t o q same_old same_new h =
-    subst (λ z. Slices gives takes z fuel why new s t o q) same_old
-    (subst (λ z. Slices gives takes v fuel why z s t o q) same_new h)
+    (fuel : ℕ) (why : Now) (before after : Ports S O) → v ≡ old → w ≡ new
+    → Slices gives takes v fuel why w before after → Slices gives takes old fuel why new before
+    after
+slices_of gives takes v w old new fuel why before after same_old same_new h =
+    subst (λ z. Slices gives takes z fuel why new before after) same_old
+    (subst (λ z. Slices gives takes v fuel why z before after) same_new h)

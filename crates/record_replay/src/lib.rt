@@ -42,10 +42,10 @@
 //!
 //! # Definitions to read
 //!
-//! In `specs/rules/`: `Releases`, `AnswersInOrder`, `Exchanges` (`Calls.antt`); `HandsOut`,
-//! `KeepsLine`, `Refuses` (`Lists.antt`); `Recorded` (`Records.antt`); `Replays`, `ReplaysInVain`
-//! (`Replays.antt`); `Slices`, `SliceLeadsTo`, `IsNow` (`Slices.antt`); `SlicesInVain`, `IsCause`
-//! (`Faults.antt`).
+//! In `specs/rules/`: `Releases`, `AnswersInOrder`, `Ports`, `Exchanges` (`Calls.antt`);
+//! `HandsOut`, `KeepsLine`, `Refuses` (`Lists.antt`); `Recorded` (`Records.antt`); `Replays`,
+//! `ReplaysInVain` (`Replays.antt`); `Slices`, `SliceLeadsTo`, `IsNow` (`Slices.antt`);
+//! `SlicesInVain`, `IsCause` (`Faults.antt`).
 //!
 //! # Who may touch what
 //!

@@ -1,6 +1,5 @@
 -- What is asked of a process that was read from an image.
-use Rattle.std.proofs.Common.{◌≡◌, ◌≢◌, ℕ, zero, suc, ◌+◌, ◌<◌, ◌≤◌, ◌^◌, Bool, false, List}
-use Rattle.std.proofs.Common.{[], ◌∷◌}
+use Rattle.std.proofs.Common.{◌≡◌, ◌≢◌, ℕ, suc, ◌+◌, ◌<◌, ◌≤◌, ◌^◌, Bool, false, List, [], ◌∷◌}
 use Rattle.std.proofs.Common.{◌++◌, length, reverse, Option, Some, None, refl, sym, ap, ◌∙◌, subst}
 use Rattle.std.proofs.Common.{inl, inr, arith}
 use Rattle.std.specs.Prelude.{◌↔◌, IsTrue, slice_get, IfSome, IfNone, codes}
@@ -9,7 +8,6 @@ use Rattle.std.proofs.lemmas.Grind.{reverse_onto}
 use Rattle.std.proofs.lemmas.List.{reverse-reverse, length-reverse}
 use Rattle.std.proofs.lemmas.Bool.{both_ways}
 use Rattle.std.proofs.lemmas.Option.{slice_get_within, same_Some}
-use borrow.Author.Count.{below_more}
 use Rattle.wasm_syntax.specs.declared.module.Module.{Module}
 use Rattle.wasm_syntax.specs.declared.module.ExportItem.TheVariants as export
 use Rattle.wasm_rules.specs.Validity.{IsValid}
@@ -19,11 +17,8 @@ use Rattle.wasm_rules.proofs.Soundness.Beginning.{programs_typed}
 use Rattle.machine_slots.specs.rules.Places.{ShownFrame}
 use Rattle.machine.specs.rules.Loading.{ShowsSome}
 use Rattle.machine.specs.rules.Values.{MachineValue}
-use Rattle.process_rules.specs.Processes.{Ending}
 use Rattle.process_rules.proofs.OneStart.{item_number, entry_once}
-use Rattle.state_image.specs.rules.ProcessImage.{Saved}
-use Rattle.state_image.specs.rules.WellTyped.{EntryPoints, IsCalled, IsOutermost, IsAlive}
-use Rattle.state_image.specs.rules.WellTyped.{IsPlaceWithin}
+use Rattle.state_image.specs.rules.WellTyped.{EntryPoints, IsCalled, IsOutermost, IsPlaceWithin}
 use Rattle.state_image.specs.restoring.Processes.{MayCome}
 use Rattle.state_image.proofs.Machines.{all_reversed}
 use Rattle.state_image.proofs.ShownBounds.{memory_few}
@@ -87,10 +82,6 @@ some_reversed {X} x xs e =
     let long : length (reverse (x ∷ xs)) ≡ 0 = ap (λ (ys : List X). length ys) e in
     absurd (omega (arith, long, length-reverse (x ∷ xs)))
 
-pub none_outermost : (b : EntryPoints) (later : List ℕ) (places : List ShownFrame) → places ≡ []
-    → IsOutermost b later places
-none_outermost b later places e = subst (IsOutermost b later) (sym e) tt
-
 pub outermost_at : (b : EntryPoints) (later : List ℕ) (places : List ShownFrame) (p : ShownFrame)
     → slice_get (reverse places) 0 ≡ Some p
     → IsOutermost b later places ↔ IsCalled b later p.function
@@ -115,26 +106,10 @@ IsWithinAt places i =
 abbrev pub AreWithinBefore : ℕ → List ShownFrame → Type 0
 AreWithinBefore n places = (i : ℕ) → i < n → IsWithinAt places i
 
-same_place : (p q : ShownFrame) → Some p ≡ Some q → p ≡ q
-same_place p q e = cc
-
-pub one_more_within : (places : List ShownFrame) (n : ℕ) (p : ShownFrame)
-    → slice_get (reverse places) n ≡ Some p → IsPlaceWithin p → AreWithinBefore n places
-    → AreWithinBefore (n + 1) places
-one_more_within places n p e is before =
-    below_more (IsWithinAt places) n before
-    (λ q f. subst IsPlaceWithin (same_place p q (sym e ∙ f)) is)
-
 all_of : {X : Type 0} (P : X → Type 0) (xs : List X)
     → ((i : ℕ) (x : X) → slice_get xs i ≡ Some x → P x) → AllByRecursion P xs
 all_of P [] each = tt
 all_of P (x ∷ xs) each = (each 0 x refl, all_of P xs (λ i y e. each (suc i) y e))
-
-one_of : {X : Type 0} (P : X → Type 0) (xs : List X) (i : ℕ) (x : X) → AllByRecursion P xs
-    → slice_get xs i ≡ Some x → P x
-one_of P [] i x h e = absurd (cc)
-one_of {X} P (y ∷ xs) zero x h e = let same : y ≡ x = cc in subst P same h.0
-one_of P (y ∷ xs) (suc i) x h e = one_of P xs i x h.1 e
 
 pub all_within : (n : ℕ) (places : List ShownFrame) → length places ≤ n
     → AreWithinBefore n places → AllByRecursion IsPlaceWithin places
@@ -144,13 +119,6 @@ all_within n places le before =
     (omega (arith, le, slice_get_within turned i p e, length-reverse places)) p e) in
     subst (AllByRecursion IsPlaceWithin) (reverse-reverse places)
     (all_reversed ShownFrame IsPlaceWithin turned each)
-
-pub one_within : (places : List ShownFrame) (i : ℕ) (p : ShownFrame)
-    → slice_get (reverse places) i ≡ Some p → AllByRecursion IsPlaceWithin places
-    → IsPlaceWithin p
-one_within places i p e all =
-    one_of IsPlaceWithin (reverse places) i p
-    (all_reversed ShownFrame IsPlaceWithin places all) e
 
 -- ---- bounds
 
@@ -165,11 +133,6 @@ memory_within v valid some =
     (subst (IsTypedMemory some.program) (sym shows.memory) shows.typed.store.memory) typed.pages
 
 -- ---- alive
-
-pub alive_so : (s : Saved) (o : Option Ending) (told : Bool) → s.ended ≡ o
-    → (IsTrue told ↔ IsAlive o s) → IsTrue told ↔ IsAlive s.ended s
-alive_so s o told e tells =
-    let P : Option Ending → Type 0 = λ x. IsTrue told ↔ IsAlive x s in subst P (sym e) tells
 
 -- ---- over
 

@@ -1,14 +1,12 @@
 -- An image in front of other bytes tells its process, and that nothing is after it.
-use Rattle.std.proofs.Common.{◌≡◌, ℕ, List, [], ◌++◌, sym, ap, ◌∙◌, append-nil}
-use Rattle.std.proofs.Common.{append_assoc}
+use Rattle.std.proofs.Common.{◌≡◌, ℕ, List, [], ◌++◌, sym, ap, ◌∙◌, append-nil, append_assoc}
 use Rattle.std.specs.Prelude.{Option}
 use Rattle.file_tree.specs.rules.Files.{Files}
 use Rattle.wasi_calls_rules.specs.WasiStates.{Descriptor}
 use Rattle.state_image.specs.rules.ProcessImage.{Saved, Numbered, items_bytes, descriptor_bytes}
-use Rattle.state_image.specs.rules.ProcessImage.{open_from}
-use Rattle.state_image.specs.rules.ProcessImage.{process_image_mark, counts_bytes, phase_bytes}
-use Rattle.state_image.specs.rules.ProcessImage.{streams_bytes}
-use Rattle.state_image.specs.rules.ProcessImage.{machine_bytes, files_bytes, process_image}
+use Rattle.state_image.specs.rules.ProcessImage.{open_from, process_image_mark, counts_bytes}
+use Rattle.state_image.specs.rules.ProcessImage.{phase_bytes, streams_bytes, machine_bytes}
+use Rattle.state_image.specs.rules.ProcessImage.{files_bytes, process_image}
 use Rattle.state_image.specs.restoring.Processes.{progress_before}
 use Rattle.state_image.proofs.Marks.{same_version}
 use Rattle.state_image.proofs.Fields.{items_field}
@@ -20,8 +18,7 @@ use Rattle.state_image.proofs.PathsTold.{same_files}
 use Rattle.state_image.proofs.Places.{IsNumberedIn, HasPlaces, open_in, same_places}
 use Rattle.state_image.proofs.Places.{descriptor_field}
 use Rattle.state_image.proofs.Whole.{IsWithin, SameParts, from_descriptors, from_files}
-use Rattle.state_image.proofs.Whole.{from_machine}
-use Rattle.state_image.proofs.Whole.{from_streams, from_phase, from_counts}
+use Rattle.state_image.proofs.Whole.{from_machine, from_streams, from_phase, from_counts}
 
 -- ---- the fields in front of other bytes
 

@@ -2,13 +2,10 @@
 -- `gives` of `ReadLemmas` says so of each field that tells its value; they are here, and in
 -- `Fields`, `Marks`, `Machines` and `Named`. Parts of a process, nodes and descriptors have lemmas
 -- of their own.
-use Rattle.std.proofs.Common.{◌≡◌, ℕ, Bool, List, [], ◌∷◌, ◌++◌, length, refl, sym, ap, ◌∙◌}
-use Rattle.std.proofs.Common.{append_assoc, arith}
+use Rattle.std.proofs.Common.{◌≡◌, ℕ, Bool, List, [], ◌∷◌, ◌++◌, length, refl, sym, ap, ◌∙◌, arith}
 use Rattle.std.specs.Prelude.{Option, Some, None}
-use Rattle.std.specs.List.{flat_map}
 use Rattle.wasi_abi.specs.rules.Layouts.{u16_bytes, u32_bytes, u64_bytes}
 use Rattle.wasi_abi.specs.rules.Numbers.{directory_type, regular_file}
-use Rattle.file_tree.specs.rules.Files.{Files, FileNode}
 use Rattle.process_rules.specs.Processes.{Ending, Exited, Trapped}
 use Rattle.state_image.specs.declared.reading.progress.ReadCounts.{ReadCounts}
 use Rattle.state_image.specs.declared.reading.progress.ReadPhase.{ReadPhase}
@@ -17,25 +14,21 @@ use Rattle.state_image.specs.declared.reading.progress.ReadEnd.{ReadEnd}
 use Rattle.state_image.specs.declared.reading.descriptors.ReadDescriptor.{ReadDescriptor}
 use Rattle.state_image.specs.rules.ProcessImage.{Saved, phase_of, memory_bytes}
 use Rattle.state_image.specs.rules.ProcessImage.{counts_bytes, phase_bytes, streams_bytes}
-use Rattle.state_image.specs.rules.ProcessImage.{entry_bytes}
-use Rattle.state_image.specs.rules.ProcessImage.{node_bytes, Numbered, descriptor_bytes}
 use Rattle.state_image.specs.rules.Ranges.{IsIn, IsWhole, FitsCounts, FitsCode, FitsStreams}
 use Rattle.state_image.specs.rules.Parts.{counts_of, read_phase, read_end_of, StreamTexts}
 use Rattle.state_image.specs.rules.Parts.{streams_of}
 use Rattle.state_image.specs.rules.Fronts.{ContentFront, EntryCount, FileBytes, NodeFront}
 use Rattle.state_image.specs.rules.Fronts.{content_front_bytes, front_bytes, IsContentFrontIn}
-use Rattle.state_image.specs.rules.Fronts.{IsFrontIn, node_front_of, entries_after_front}
-use Rattle.state_image.specs.rules.RawDescriptors.{raw_bytes, IsRawIn, raw_of}
-use Rattle.state_image.specs.rules.Reading.{HasField, ReadsField, ReadsPart}
+use Rattle.state_image.specs.rules.Fronts.{IsFrontIn}
+use Rattle.state_image.specs.rules.RawDescriptors.{raw_bytes, IsRawIn}
+use Rattle.state_image.specs.rules.Reading.{ReadsPart}
 use Rattle.state_image.proofs.Fields.{Tells, cut, byte_field, number_field, counted_field}
 use Rattle.state_image.proofs.Counts.{SameCounts, same_counts, SamePhase, same_phase}
 use Rattle.state_image.proofs.Counts.{SameStreams, same_streams}
 use Rattle.state_image.proofs.Machines.{same_memory}
-use Rattle.state_image.proofs.StepsRead.{node_read_in_steps, descriptor_read_in_steps}
-use Rattle.state_image.proofs.ReadLemmas.{in_two, gives}
+use Rattle.state_image.proofs.ReadLemmas.{gives}
 use Rattle.state_image.proofs.FrontReads.{from_target_type, from_node, from_offset, from_flags}
-use Rattle.state_image.proofs.FrontReads.{from_base}
-use Rattle.state_image.proofs.FrontReads.{from_inheriting, content_in}
+use Rattle.state_image.proofs.FrontReads.{from_base, from_inheriting, content_in}
 
 -- ---- fields that tell their values
 
@@ -273,41 +266,3 @@ parts_of_processes s = (
 )
 
 -- ---- what is read in steps
-
--- a node's bytes lead to its front, and to the entries after it
-pub node_given : (result : Option NodeFront) (old new : List ℕ)
-    → ReadsField front_bytes IsFrontIn result old new
-    → (fs : Files) (n : FileNode) (rest : List ℕ) → IsFrontIn (node_front_of fs n)
-    → old ≡ node_bytes fs n ++ rest
-    → (result ≡ Some (node_front_of fs n))
-    × (new ≡ flat_map entry_bytes (entries_after_front fs n.number n.content) ++ rest)
-node_given result old new reads fs n rest within e =
-    let entries = flat_map entry_bytes (entries_after_front fs n.number n.content) in
-    gives front_field result reads (node_front_of fs n) (entries ++ rest) within
-    (e ∙ ap (λ (bytes : List ℕ). bytes ++ rest) (node_read_in_steps fs n)
-    ∙ append_assoc (front_bytes (node_front_of fs n)) entries rest)
-
--- a front and the entries after it are the bytes of the node
-pub node_read : (fs : Files) (n : FileNode) (old mid new : List ℕ)
-    → HasField front_bytes IsFrontIn (node_front_of fs n) old mid
-    → mid ≡ flat_map entry_bytes (entries_after_front fs n.number n.content) ++ new
-    → old ≡ node_bytes fs n ++ new
-node_read fs n old mid new has behind =
-    in_two (front_bytes (node_front_of fs n))
-    (flat_map entry_bytes (entries_after_front fs n.number n.content)) old mid new has.is behind
-    ∙ ap (λ (bytes : List ℕ). bytes ++ new) (sym (node_read_in_steps fs n))
-
--- a descriptor's bytes lead to what they have of it
-pub descriptor_given : (result : Option ReadDescriptor) (old new : List ℕ)
-    → ReadsField raw_bytes IsRawIn result old new
-    → (fs : Files) (d : Numbered) (rest : List ℕ) → IsRawIn (raw_of fs d)
-    → old ≡ descriptor_bytes fs d ++ rest
-    → (result ≡ Some (raw_of fs d)) × (new ≡ rest)
-descriptor_given result old new reads fs d rest within e =
-    gives raw_field result reads (raw_of fs d) rest within
-    (e ∙ ap (λ (bytes : List ℕ). bytes ++ rest) (descriptor_read_in_steps fs d))
-
-pub descriptor_read : (fs : Files) (d : Numbered) (old new : List ℕ)
-    → HasField raw_bytes IsRawIn (raw_of fs d) old new → old ≡ descriptor_bytes fs d ++ new
-descriptor_read fs d old new has =
-    has.is ∙ ap (λ (bytes : List ℕ). bytes ++ new) (sym (descriptor_read_in_steps fs d))

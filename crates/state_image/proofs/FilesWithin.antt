@@ -1,21 +1,18 @@
 -- The numbers of a file system are within the fields that an image has for them.
-use Rattle.std.proofs.Common.{◌≡◌, inl, inr, ℕ, suc, ◌<◌, ◌≤◌, List, []}
-use Rattle.std.proofs.Common.{◌∷◌, ◌++◌, length, length-append, map, Option, Some, None, refl, ap}
-use Rattle.std.proofs.Common.{arith, subst, sym}
+use Rattle.std.proofs.Common.{◌≡◌, inl, inr, ℕ, suc, ◌<◌, ◌≤◌, List, [], ◌∷◌, ◌++◌, length}
+use Rattle.std.proofs.Common.{length-append, map, Option, Some, None, refl, ap, arith, subst, sym}
 use Rattle.std.specs.List.{AllByRecursion}
 use Rattle.std.proofs.lemmas.List.{length-map}
-use Rattle.file_tree.specs.rules.Files.{IsNodeName, Name, Path, Files, FileNode, Content}
-use Rattle.file_tree.specs.rules.Files.{Directory, File, Entry, path_of, entry_of}
-use Rattle.file_tree.specs.rules.Files.{entries_in, entries_under, entries_of}
-use Rattle.file_tree.specs.rules.Files.{IsPlaced, IsSmallContent, IsFiles}
+use Rattle.file_tree.specs.rules.Files.{IsNodeName, Name, Path, Files, FileNode, Content, Directory}
+use Rattle.file_tree.specs.rules.Files.{File, Entry, path_of, entry_of, entries_in, entries_under}
+use Rattle.file_tree.specs.rules.Files.{entries_of, IsPlaced, IsSmallContent, IsFiles}
 use Rattle.file_tree.proofs.Order.{all_sorted}
 use Rattle.file_tree.proofs.Seen.{length-sorted}
 use Rattle.file_tree.proofs.Rebuilt.{numbers_below}
 use Rattle.state_image.specs.rules.Ranges.{IsIn, AreFew, IsEntryIn}
 use Rattle.state_image.specs.restoring.Named.{held_of, named}
 use Rattle.state_image.proofs.Named.{IsHeldIn, IsNamedIn, AreNamedIn}
-use Rattle.state_image.proofs.Among.{IsAmong, all_among, among_all, next_entries}
-use Rattle.state_image.proofs.Among.{is_entry_of}
+use Rattle.state_image.proofs.Among.{IsAmong, all_among, among_all, next_entries, is_entry_of}
 use Rattle.state_image.proofs.PathsTold.{placed_at}
 
 -- ---- how many entries

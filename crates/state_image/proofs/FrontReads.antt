@@ -48,9 +48,6 @@ after_position has lacks =
 
 -- ---- entries
 
-name_bytes : List ℕ → List ℕ
-name_bytes name = u16_bytes (length name) ++ name
-
 pub no_entry_number : {name old mid new : List ℕ}
     → HasField (λ name. u16_bytes (length name) ++ name) (λ name. IsIn 2 (length name)) name old mid
     → LacksField u64_bytes (IsIn 8) mid new → LacksField entry_bytes IsEntryIn old new

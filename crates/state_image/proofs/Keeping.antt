@@ -1,6 +1,6 @@
 -- What pushes keep that each push keeps.
 use Rattle.std.proofs.Common.{◌≡◌, ℕ, List, [], ◌∷◌, ◌++◌, sym, ap, ◌∙◌, subst, append_assoc}
-use Rattle.std.specs.Prelude.{Ok, Err}
+use Rattle.std.specs.Prelude.{Ok}
 use Rattle.std.proofs.lemmas.List.{append-nil}
 use Rattle.state_image.specs.rules.Sinks.{TakingPieces, joined, TakesPieces, Pushes, KeepsBytes}
 
@@ -30,21 +30,6 @@ module _ {S F : Type 0} (takes : TakingPieces S F) (P : List ℕ → S → Type 
       pushed.is
       ∙ (ap (λ x. joined pushed.taken ++ x) pushed.stops.0 ∙ append-nil (joined pushed.taken)) in
       subst (λ b. P b z) (sym is) (kept_on [] a z pushed.taken holds all)
-
-  -- it held of a prefix of the bytes, after which a piece was refused
-  pub pushes_keep_until : (a z : S) (bytes : List ℕ) (fault : F) → P [] a
-      → Pushes takes a bytes (Err fault) z
-      → (front : List ℕ) × (piece : List ℕ) × (behind : List ℕ) × (between : S)
-      × (bytes ≡ front ++ (piece ++ behind)) × P front between × takes between piece (Err fault) z
-  pushes_keep_until a z bytes fault holds pushed = (
-    joined pushed.taken,
-    pushed.stops.0,
-    pushed.stops.1,
-    pushed.between,
-    pushed.is ∙ ap (λ x. joined pushed.taken ++ x) pushed.stops.2,
-    kept_on [] a pushed.between pushed.taken holds pushed.all,
-    pushed.stops.3,
-  )
 
 -- what a sink of bytes has, once all were pushed
 pub kept : (F : Type 0) (old new bytes : List ℕ)

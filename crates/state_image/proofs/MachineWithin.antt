@@ -10,8 +10,7 @@ use Rattle.wasm_syntax.specs.declared.value.Value.{Value}
 use Rattle.wasm_syntax.specs.declared.value.Value.TheVariants as value
 use Rattle.wasm_rules.specs.Types.{IsOf, AreOf, number_in, value_type_of}
 use Rattle.wasm_rules.specs.Typing.{Context}
-use Rattle.wasm_rules.specs.Configuration.{Program, Label, LabelOf, FrameOf, Thread}
-use Rattle.wasm_rules.specs.Configuration.{Configuration}
+use Rattle.wasm_rules.specs.Configuration.{Program, Label, LabelOf, FrameOf, Thread, Configuration}
 use Rattle.wasm_rules.specs.Typed.{IsTypedMemory}
 use Rattle.wasm_rules.specs.Shapes.{LabelShape, ShapeOf}
 use Rattle.machine_slots.specs.rules.Places.{ShownFrame, HaveShape, all_below}

@@ -9,10 +9,8 @@ use Rattle.wasi_abi.specs.rules.Layouts.{u32_bytes, u64_bytes}
 use Rattle.machine_slots.specs.rules.Places.{ShownFrame, MachineState}
 use Rattle.state_image.specs.rules.ProcessImage.{items_bytes, place_bytes, memory_bytes}
 use Rattle.state_image.specs.rules.ProcessImage.{machine_bytes}
-use Rattle.state_image.specs.rules.Ranges.{IsIn, AreFew, AreWords, IsPlaceIn, IsWhole}
-use Rattle.state_image.specs.rules.Ranges.{HasMachine}
-use Rattle.state_image.proofs.Fields.{Tells, same_front, cut, number_field}
-use Rattle.state_image.proofs.Fields.{items_field}
+use Rattle.state_image.specs.rules.Ranges.{IsIn, AreFew, AreWords, IsPlaceIn, IsWhole, HasMachine}
+use Rattle.state_image.proofs.Fields.{Tells, same_front, cut, number_field, items_field}
 
 -- ---- words
 

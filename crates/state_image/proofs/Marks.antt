@@ -7,7 +7,7 @@ use Rattle.wasi_abi.specs.declared.version.Version.TheVariants.{One, Two}
 use Rattle.wasi_abi.specs.rules.Versions.{version_number, text_limit, widenings}
 use Rattle.state_image.specs.rules.ProcessImage.{Saved, process_image, process_image_mark}
 use Rattle.state_image.specs.rules.ProcessImage.{IsMarkedOtherwise}
-use Rattle.state_image.specs.rules.Reading.{HasField, LacksField, ReadsField}
+use Rattle.state_image.specs.rules.Reading.{HasField, ReadsField}
 use Rattle.state_image.specs.laws.Marks.{IsVersionOf}
 use Rattle.state_image.proofs.Fields.{Tells, same_front}
 
@@ -70,25 +70,6 @@ marked None mark {old} {new} has other = record {
 }
 
 -- ---- the mark of another version
-
--- bytes that begin with the mark of a version begin with that of another one where it is another
-pub other_mark : (v m : Version) {bytes bytes_left : List ℕ}
-    → HasField process_image_mark (λ version. Unit {0}) m bytes bytes_left
-    → (IsMarkedOtherwise v bytes → m ≡ v → ⊥) × ((m ≡ v → ⊥) → IsMarkedOtherwise v bytes)
-other_mark v m {bytes} {bytes_left} has = (
-  λ otherwise same. otherwise.other (
-      (same_version otherwise.marked m otherwise.rest bytes_left (sym otherwise.begins
-      ∙ has.is)).0 ∙ same
-      ),
-  λ other. record { marked = m; other = other; rest = bytes_left; begins = has.is },
-)
-
--- where no mark is in front there is none of another version
-pub no_mark : (v : Version) {bytes bytes_left : List ℕ}
-    → LacksField process_image_mark (λ version. Unit {0}) bytes bytes_left
-    → IsMarkedOtherwise v bytes → ⊥
-no_mark v lacks otherwise =
-    lacks.none otherwise.marked otherwise.rest tt otherwise.begins
 
 -- the image of a process has the mark of its version
 pub own_mark : (s : Saved) → IsMarkedOtherwise s.version (process_image s) → ⊥

@@ -7,13 +7,11 @@ use Rattle.wasi_abi.specs.rules.Layouts.{u16_bytes, u32_bytes, u64_bytes}
 use Rattle.file_tree.specs.rules.Files.{Files, FileNode, Content, Directory, File, Entry}
 use Rattle.file_tree.proofs.SameNames.{heads}
 use Rattle.state_image.specs.rules.ProcessImage.{items_bytes, entry_bytes, content_bytes}
-use Rattle.state_image.specs.rules.ProcessImage.{node_bytes}
-use Rattle.state_image.specs.rules.ProcessImage.{files_bytes}
+use Rattle.state_image.specs.rules.ProcessImage.{node_bytes, files_bytes}
 use Rattle.state_image.specs.restoring.Named.{Held, Entries, Bytes, NamedNode, held_of, named}
 use Rattle.state_image.specs.restoring.Named.{held_bytes, named_bytes}
 use Rattle.state_image.specs.rules.Ranges.{IsIn, AreFew, IsEntryIn}
-use Rattle.state_image.proofs.Fields.{Tells, same_front, cut, number_field}
-use Rattle.state_image.proofs.Fields.{items_field}
+use Rattle.state_image.proofs.Fields.{Tells, same_front, cut, number_field, items_field}
 use Rattle.state_image.proofs.Among.{entry_with}
 
 -- ---- the image is made of what is named

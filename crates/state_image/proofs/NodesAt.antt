@@ -6,8 +6,7 @@ use Rattle.std.proofs.lemmas.Option.{same_Some}
 use Rattle.wasi_abi.specs.rules.Layouts.{u16_bytes, u64_bytes}
 use Rattle.file_tree.specs.rules.Files.{Name, Files, FileNode, Content, Directory, File, Entry}
 use Rattle.file_tree.specs.rules.Files.{IsFiles, node_of, is_directory, holds_directory}
-use Rattle.file_tree.specs.rules.Files.{is_directory_content, bytes_of_node, bytes_held}
-use Rattle.file_tree.specs.rules.Files.{entries_of}
+use Rattle.file_tree.specs.rules.Files.{is_directory_content, bytes_of_node, bytes_held, entries_of}
 use Rattle.file_tree.specs.rules.Listings.{number_at, number_at_place, HasNameAtPlace}
 use Rattle.file_tree.proofs.Sizes.{file_is}
 use Rattle.state_image.specs.rules.ProcessImage.{entry_bytes}

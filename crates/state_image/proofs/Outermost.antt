@@ -18,10 +18,9 @@ use Rattle.wasm_rules.specs.Configuration.{Label, LabelOf, FrameOf, Thread}
 use Rattle.wasm_rules.specs.Configuration.{Configuration, Outcome, Goes, Traps, Asks, Stuck}
 use Rattle.wasm_rules.specs.Effects.{Effect, Gives, Fails, Wrong, effect}
 use Rattle.wasm_rules.specs.Instantiation.{calls_of}
-use Rattle.wasm_rules.specs.Steps.{where_some, topmost, branch, is_exhausted, entered}
-use Rattle.wasm_rules.specs.Steps.{called, calls, signature_of, calls_entry, after_effect}
-use Rattle.wasm_rules.specs.Steps.{execute, goes_on, counted_step_of, counted_step, returned}
-use Rattle.wasm_rules.specs.Steps.{exited, begun}
+use Rattle.wasm_rules.specs.Steps.{where_some, topmost, branch, is_exhausted, entered, called}
+use Rattle.wasm_rules.specs.Steps.{calls, signature_of, calls_entry, after_effect, execute, goes_on}
+use Rattle.wasm_rules.specs.Steps.{counted_step_of, counted_step, returned, exited, begun}
 use Rattle.wasm_rules.specs.Steps.{exited_by, ReducesTo, here, on}
 use Rattle.machine_slots.specs.rules.Places.{ShownFrame, ShowsCallers, ShowsThread}
 use Rattle.machine_frame.proofs.FramePosition.Effects.{table_stays}
@@ -35,8 +34,7 @@ use Rattle.process_rules.specs.Processes.{ProcessState, Guest, IsStart, closed_a
 use Rattle.process_rules.specs.Origins.{succeeding}
 use Rattle.process_rules.specs.Runs.{Next, On, Over, Wants, Nowhere, after_call_rule, after_call}
 use Rattle.process_rules.specs.Runs.{after_counted_step, next_of, stepped, LeadsTo, Moves, Kept}
-use Rattle.process_rules.specs.Runs.{Runs, none}
-use Rattle.process_rules.specs.Runs.{step, take, widen, succeed, widened, Reaches}
+use Rattle.process_rules.specs.Runs.{Runs, none, step, take, widen, succeed, widened, Reaches}
 use Rattle.process_rules.proofs.ReachedStates.{beginning}
 use Rattle.process_rules.proofs.MemoryKept.{reduced_store}
 use Rattle.state_image.specs.rules.WellTyped.{EntryPoints, IsCalled, IsOutermost}

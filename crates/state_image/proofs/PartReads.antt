@@ -1,6 +1,5 @@
 -- Counts, the phase and streams, read field by field.
-use Rattle.std.proofs.Common.{◌≡◌, ℕ, ◌<◌, List, [], ◌∷◌, ◌++◌, sym}
-use Rattle.std.proofs.Common.{◌∙◌, append_assoc, arith}
+use Rattle.std.proofs.Common.{◌≡◌, ℕ, ◌<◌, List, [], ◌∷◌, ◌++◌, sym, ◌∙◌, append_assoc, arith}
 use Rattle.std.specs.Prelude.{Option, Some, None}
 use Rattle.wasi_abi.specs.rules.Layouts.{u32_bytes, u64_bytes}
 use Rattle.process_rules.specs.Processes.{Ending, Exited, Trapped}
@@ -14,11 +13,6 @@ use Rattle.state_image.proofs.Counts.{from_lines, from_requests, from_answers}
 use Rattle.state_image.proofs.ReadLemmas.{in_two, is_that, none_first, none_after, none_of}
 
 -- ---- counts
-
--- no counts, since this one isn't there
-pub no_steps : {old new : List ℕ} → LacksField u64_bytes (IsIn 8) old new
-    → LacksField counts_bytes FitsCounts old new
-no_steps lacks = none_first (λ s. s.steps) from_answers (λ s h. h.steps) lacks
 
 pub no_answers : {old new : List ℕ} → LacksField u64_bytes (IsIn 8) old new
     → LacksField from_answers FitsCounts old new

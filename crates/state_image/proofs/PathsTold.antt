@@ -14,9 +14,8 @@ use Rattle.file_tree.proofs.Rebuilt.{has_path}
 use Rattle.file_tree.proofs.FilesTold.{same_node, own_paths, files_with}
 use Rattle.state_image.specs.restoring.Named.{Entries, Bytes, NamedNode, held_of, named}
 use Rattle.state_image.proofs.Named.{SameNamed}
-use Rattle.state_image.proofs.Among.{IsAmong, all_among, found_among, found_own}
-use Rattle.state_image.proofs.Among.{one_path, entry_with, has_entry, is_entry_of, among_sorted}
-use Rattle.state_image.proofs.Among.{sorted_among}
+use Rattle.state_image.proofs.Among.{IsAmong, all_among, found_among, found_own, one_path}
+use Rattle.state_image.proofs.Among.{entry_with, has_entry, is_entry_of, among_sorted, sorted_among}
 
 -- ---- what is named under a number
 

@@ -9,8 +9,7 @@ use Rattle.file_tree.specs.rules.Files.{Files, is_directory}
 use Rattle.file_tree.proofs.SameNames.{heads}
 use Rattle.wasi_calls_rules.specs.WasiStates.{Target, Stream, Node, Descriptor}
 use Rattle.state_image.specs.rules.ProcessImage.{target_bytes, Numbered, open_from}
-use Rattle.state_image.specs.rules.ProcessImage.{descriptor_bytes}
-use Rattle.state_image.specs.rules.ProcessImage.{items_bytes}
+use Rattle.state_image.specs.rules.ProcessImage.{descriptor_bytes, items_bytes}
 use Rattle.state_image.specs.rules.Ranges.{IsIn, AreFew}
 use Rattle.state_image.specs.restoring.Descriptors.{IsTargetIn}
 use Rattle.state_image.proofs.Fields.{Tells, cut, number_field, items_field}

@@ -1,12 +1,11 @@
 -- What an image has before the machine, read field by field.
 use Rattle.std.proofs.Common.{◌≡◌, ℕ, List, ◌++◌, Some, None, sym, ap, ◌∙◌}
 use Rattle.wasi_abi.specs.declared.version.Version.{Version}
-use Rattle.state_image.specs.declared.restoring.progress.Progress.{Progress}
+use Rattle.state_image.specs.declared.restoring.progress.ProcessProgress.{ProcessProgress}
 use Rattle.state_image.specs.declared.reading.progress.ReadCounts.{ReadCounts}
 use Rattle.state_image.specs.declared.reading.progress.ReadEnd.{ReadEnd}
 use Rattle.state_image.specs.rules.ProcessImage.{Saved, process_image_mark, counts_bytes}
-use Rattle.state_image.specs.rules.ProcessImage.{phase_bytes}
-use Rattle.state_image.specs.rules.ProcessImage.{streams_bytes}
+use Rattle.state_image.specs.rules.ProcessImage.{phase_bytes, streams_bytes}
 use Rattle.state_image.specs.rules.Parts.{counts_of, read_end_of, streams_of, StreamTexts, texts_of}
 use Rattle.state_image.specs.rules.Ranges.{FitsCounts, FitsCode, FitsStreams}
 use Rattle.state_image.specs.rules.Reading.{HasField, LacksField, ReadsPart}
@@ -85,7 +84,7 @@ some_end r s e = cc
 some_streams : (r : StreamTexts) (s : Saved) → Some r ≡ Some (streams_of s) → streams_of s ≡ r
 some_streams r s e = cc
 
-pub has_progress : (p : Progress) (old behind_mark behind_counts behind_end new : List ℕ)
+pub has_progress : (p : ProcessProgress) (old behind_mark behind_counts behind_end new : List ℕ)
     → HasMark p.version old behind_mark → HasCounts p.counts behind_mark behind_counts
     → HasEnd p.end behind_counts behind_end
     → HasStreams (texts_of p.streams) behind_end new → HasProgress p old new

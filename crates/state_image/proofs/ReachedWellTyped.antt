@@ -22,13 +22,11 @@ use Rattle.machine.proofs.InstanceLemmas.Offered.{no_entry}
 use Rattle.wasi_abi.specs.rules.Configs.{Settings}
 use Rattle.file_tree.specs.rules.Files.{Files}
 use Rattle.wasi_abi.specs.rules.Versions.{text_limit, widenings}
-use Rattle.process_rules.specs.Processes.{Ending, Exited, Trapped, ProcessState, Guest}
-use Rattle.process_rules.specs.Processes.{IsStart}
+use Rattle.process_rules.specs.Processes.{Ending, Exited, Trapped, ProcessState, Guest, IsStart}
 use Rattle.process_rules.specs.laws.Laws.{IsClosed, IsSmallEnding}
 use Rattle.process_rules.proofs.Counted.{reached_are_counted, reached_are_closed}
 use Rattle.process_rules.proofs.ReachedStates.{reached_are_configured, nodes_are_few}
-use Rattle.process_rules.proofs.ReachedStates.{reached_have_wasi_states}
-use Rattle.process_rules.proofs.ReachedStates.{reached_input_is_short}
+use Rattle.process_rules.proofs.ReachedStates.{reached_have_wasi_states, reached_input_is_short}
 use Rattle.process_rules.proofs.ReachedTyped.{reached_are_typed}
 use Rattle.process.proofs.Lines.{all_shown}
 use Rattle.process.proofs.Named.{offers_calls}

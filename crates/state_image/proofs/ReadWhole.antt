@@ -21,11 +21,10 @@ use Rattle.state_image.specs.declared.reading.progress.ReadCounts.{ReadCounts}
 use Rattle.state_image.specs.declared.reading.progress.ReadEnd.{ReadEnd}
 use Rattle.state_image.specs.declared.reading.progress.ReadPhase.{ReadPhase}
 use Rattle.state_image.specs.declared.reading.progress.ReadPhase.TheVariants as read
-use Rattle.state_image.specs.declared.restoring.progress.Progress.{Progress}
+use Rattle.state_image.specs.declared.restoring.progress.ProcessProgress.{ProcessProgress}
 use Rattle.state_image.specs.rules.ProcessImage.{Saved, items_bytes, descriptor_bytes, open_from}
 use Rattle.state_image.specs.rules.ProcessImage.{machine_bytes, files_bytes, process_image}
-use Rattle.state_image.specs.rules.Parts.{read_phase, StreamTexts}
-use Rattle.state_image.specs.rules.Parts.{texts_of}
+use Rattle.state_image.specs.rules.Parts.{read_phase, StreamTexts, texts_of}
 use Rattle.state_image.specs.rules.Saving.{saved_of}
 use Rattle.state_image.specs.rules.WellTyped.{IsWellTyped, slots_in}
 use Rattle.state_image.specs.restoring.Machines.{AreToCome, IsReadMachine}
@@ -101,7 +100,7 @@ no_progress m config old new lacks s w e =
 
 module _ (linked : MachineValue) (config : Settings)
     (begun : HasBegun config.pages linked.guest linked) (valid : IsValid linked.guest)
-    (p : Progress) (old mid : List ℕ) (has : HasProgress p old mid) where
+    (p : ProcessProgress) (old mid : List ℕ) (has : HasProgress p old mid) where
   abbrev with_machine : MachineState → MachineValue
   with_machine state = record linked { state = state }
 

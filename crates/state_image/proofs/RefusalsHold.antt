@@ -22,8 +22,7 @@ use Rattle.wasi_calls_rules.specs.laws.Scenes.{root_node}
 use Rattle.wasi_calls_rules.specs.declared.output_stream.OutputStream.TheVariants.{Stdout, Stderr}
 use Rattle.process_rules.specs.Processes.{Ending, Exited}
 use Rattle.state_image.specs.rules.ProcessImage.{Saved, ending_code}
-use Rattle.state_image.specs.rules.WellTyped.{EntryPoints, IsCalled, IsAlive, IsWellTyped}
-use Rattle.state_image.specs.rules.WellTyped.{slots_in}
+use Rattle.state_image.specs.rules.WellTyped.{EntryPoints, IsCalled, IsAlive, IsWellTyped, slots_in}
 use Rattle.state_image.specs.laws.Refusals.{HasNodes, under_name, below_a, RefusesMachines}
 use Rattle.state_image.specs.laws.Refusals.{IsOpenAt, RefusesCounts}
 use Rattle.state_image.specs.laws.Refusals.{RefusesStreams, RefusesFiles, RefusesDescriptors}

@@ -1,9 +1,7 @@
 -- A process that was read from an image, and which processes it shows.
-use Rattle.std.proofs.Common.{◌≡◌, ◌≢◌, ℕ, ◌+◌, Bool, true, false, List, [], ◌∷◌}
-use Rattle.std.proofs.Common.{◌++◌, length}
-use Rattle.std.proofs.Common.{length-append, append-nil, Option, Some, None, refl}
-use Rattle.std.proofs.Common.{sym}
-use Rattle.std.proofs.Common.{ap, ◌∙◌, subst, inl, inr, arith}
+use Rattle.std.proofs.Common.{◌≡◌, ◌≢◌, ℕ, ◌+◌, Bool, true, false, List, [], ◌∷◌, ◌++◌, length}
+use Rattle.std.proofs.Common.{length-append, append-nil, Option, Some, None, refl, sym, ap, ◌∙◌}
+use Rattle.std.proofs.Common.{subst, inl, inr, arith}
 use Rattle.std.specs.Prelude.{◌↔◌, IsTrue, codes, replicate}
 use Rattle.std.proofs.lemmas.Bool.{both_ways}
 use Rattle.std.proofs.lemmas.List.{length-replicate}
@@ -38,14 +36,12 @@ use Rattle.state_image.specs.rules.Saving.{saved_of}
 use Rattle.state_image.specs.rules.WellTyped.{EntryPoints, IsCalled, IsOutermost, IsAlive}
 use Rattle.state_image.specs.rules.WellTyped.{IsConfigured, IsWithinBounds, IsWellTyped}
 use Rattle.state_image.specs.restoring.Machines.{AreToCome}
-use Rattle.state_image.specs.restoring.Processes.{MayCome, IsReadProcess}
-use Rattle.state_image.specs.restoring.Processes.{MayBeAccepted}
+use Rattle.state_image.specs.restoring.Processes.{MayCome, IsReadProcess, MayBeAccepted}
 use Rattle.state_image.proofs.Accepted.{memory_within}
 use Rattle.state_image.proofs.Behind.{told_behind}
 use Rattle.state_image.proofs.WasiStateWithin.{places_within}
 use Rattle.state_image.proofs.ReachedWellTyped.{no_places}
-use Rattle.state_image.proofs.Whole.{IsWithin, is_within, called, whole_machine}
-use Rattle.state_image.proofs.Whole.{whole_process}
+use Rattle.state_image.proofs.Whole.{IsWithin, is_within, called, whole_machine, whole_process}
 use Rattle.state_image.proofs.RestoreLemmas.WasiStateAgain.{host_with}
 
 -- ---- hosts

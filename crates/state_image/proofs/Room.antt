@@ -1,13 +1,11 @@
 -- How long the image of a well-typed process is at most.
-use Rattle.std.proofs.Common.{◌≡◌, inl, inr, ℕ, ◌+◌, ◌*◌, ◌/◌, ◌≤◌, List, [], ◌∷◌, ◌++◌}
-use Rattle.std.proofs.Common.{length, length-append, reverse, Option, Some, None, refl, ap}
-use Rattle.std.proofs.Common.{arith}
-use Rattle.std.specs.Prelude.{sum_by}
+use Rattle.std.proofs.Common.{◌≡◌, inl, inr, ℕ, ◌+◌, ◌*◌, ◌/◌, ◌≤◌, List, [], ◌∷◌, ◌++◌, length}
+use Rattle.std.proofs.Common.{length-append, reverse, Option, Some, None, refl, ap, arith}
+use Rattle.std.specs.Prelude.{sum_by, min}
 use Rattle.std.specs.List.{AllByRecursion, flat_map}
 use Rattle.std.proofs.lemmas.Grind.{reverse_onto}
 use Rattle.std.proofs.lemmas.List.{length-reverse}
 use Rattle.std.proofs.lemmas.List.Sums.{sum_by-cons, sum_by-append}
-use Rattle.std.specs.Prelude.{min}
 use Rattle.std.specs.Option.{option_map_or}
 use Rattle.wasm_syntax.specs.declared.module.Module.{Module}
 use Rattle.wasm_syntax.specs.declared.types.MemoryType.{MemoryType}
@@ -26,11 +24,10 @@ use Rattle.wasi_calls_rules.specs.WasiStates.{Target, Stream, Node, Descriptor}
 use Rattle.machine_slots.specs.rules.Places.{ShownFrame, MachineState}
 use Rattle.state_image.specs.rules.ProcessImage.{Saved, text_bytes, items_bytes, place_bytes}
 use Rattle.state_image.specs.rules.ProcessImage.{memory_bytes, entry_bytes, content_bytes}
-use Rattle.state_image.specs.rules.ProcessImage.{node_bytes}
-use Rattle.state_image.specs.rules.ProcessImage.{files_bytes, target_bytes, Numbered, open_from}
-use Rattle.state_image.specs.rules.ProcessImage.{descriptor_bytes, process_image_mark, counts_bytes}
-use Rattle.state_image.specs.rules.ProcessImage.{phase_bytes}
-use Rattle.state_image.specs.rules.ProcessImage.{streams_bytes, machine_bytes, process_image}
+use Rattle.state_image.specs.rules.ProcessImage.{node_bytes, files_bytes, target_bytes, Numbered}
+use Rattle.state_image.specs.rules.ProcessImage.{open_from, descriptor_bytes, process_image_mark}
+use Rattle.state_image.specs.rules.ProcessImage.{counts_bytes, phase_bytes, streams_bytes}
+use Rattle.state_image.specs.rules.ProcessImage.{machine_bytes, process_image}
 use Rattle.state_image.specs.rules.WellTyped.{slots_in, IsWellTyped}
 use Rattle.state_image.proofs.Marks.{mark_length, short_texts}
 use Rattle.state_image.proofs.Among.{IsAmong, among_all}

@@ -22,13 +22,11 @@ use Rattle.wasm_syntax.specs.rules.Limits.{is_function, IsSmallFunction, IsWithi
 use Rattle.wasm_syntax.specs.rules.Modules.{function_type_of}
 use Rattle.wasm_syntax.specs.rules.Sequence.{Sequence, Stop, spelled}
 use Rattle.wasm_rules.specs.Types.{AreOf, gives_of, imported_functions, imported_globals}
-use Rattle.wasm_rules.specs.Types.{with_function_index, value_type_of, global_type_of}
-use Rattle.wasm_rules.specs.Types.{number_in}
+use Rattle.wasm_rules.specs.Types.{with_function_index, value_type_of, global_type_of, number_in}
 use Rattle.wasm_rules.specs.Typing.{Context, body_context}
 use Rattle.wasm_rules.specs.Validity.{AreFunctionTypes, module_context, globals_of}
 use Rattle.wasm_rules.specs.Validity.{IsFunctionTypeValid, IsValid}
-use Rattle.wasm_rules.specs.Configuration.{Main, Callee, Own, Program, Label, LabelOf}
-use Rattle.wasm_rules.specs.Configuration.{FrameOf}
+use Rattle.wasm_rules.specs.Configuration.{Main, Callee, Own, Program, Label, LabelOf, FrameOf}
 use Rattle.wasm_rules.specs.Configuration.{Thread}
 use Rattle.wasm_rules.specs.Instantiation.{IsProgram}
 use Rattle.wasm_rules.specs.Linking.{IsOffered}

@@ -1,7 +1,6 @@
 -- The image of a well-typed process is of bytes.
-use Rattle.std.proofs.Common.{if◌then◌else◌, ◌≡◌, ℕ, zero, suc, ◌/◌, ◌<◌, Bool, true}
-use Rattle.std.proofs.Common.{false, List, [], ◌∷◌, ◌++◌, length, reverse, Option, Some, None}
-use Rattle.std.proofs.Common.{sym, subst, arith}
+use Rattle.std.proofs.Common.{if◌then◌else◌, ◌≡◌, ℕ, zero, suc, ◌/◌, ◌<◌, Bool, true, false, List}
+use Rattle.std.proofs.Common.{[], ◌∷◌, ◌++◌, length, reverse, Option, Some, None, sym, subst, arith}
 use Rattle.std.specs.List.{AllByRecursion, flat_map}
 use Rattle.wasm_syntax.specs.declared.module.Module.{Module}
 use Rattle.guest_memory.specs.rules.Bytes.{IsByte, bytes_of, page_size}
@@ -20,11 +19,9 @@ use Rattle.machine_slots.specs.rules.Places.{ShownFrame, MachineState}
 use Rattle.state_image.specs.rules.ProcessImage.{Saved, ending_code, flag_of, text_bytes}
 use Rattle.state_image.specs.rules.ProcessImage.{items_bytes, place_bytes, entry_bytes}
 use Rattle.state_image.specs.rules.ProcessImage.{content_bytes, node_bytes, files_bytes}
-use Rattle.state_image.specs.rules.ProcessImage.{target_bytes}
-use Rattle.state_image.specs.rules.ProcessImage.{Numbered, open_from, descriptor_bytes}
-use Rattle.state_image.specs.rules.ProcessImage.{process_image_mark}
-use Rattle.state_image.specs.rules.ProcessImage.{counts_bytes, phase_bytes, streams_bytes}
-use Rattle.state_image.specs.rules.ProcessImage.{machine_bytes}
+use Rattle.state_image.specs.rules.ProcessImage.{target_bytes, Numbered, open_from}
+use Rattle.state_image.specs.rules.ProcessImage.{descriptor_bytes, process_image_mark, counts_bytes}
+use Rattle.state_image.specs.rules.ProcessImage.{phase_bytes, streams_bytes, machine_bytes}
 use Rattle.state_image.specs.rules.ProcessImage.{process_image}
 use Rattle.state_image.specs.rules.WellTyped.{IsWellTyped}
 use Rattle.state_image.specs.restoring.Descriptors.{IsTargetIn}

@@ -1,14 +1,12 @@
 -- A node is its front and the entries after it, and a descriptor what is read of it.
-use Rattle.std.proofs.Common.{◌≡◌, ℕ, List, ◌∷◌, ◌++◌, refl, sym, ap, ◌∙◌}
-use Rattle.std.proofs.Common.{append_assoc}
+use Rattle.std.proofs.Common.{◌≡◌, ℕ, List, ◌∷◌, ◌++◌, refl, sym, ap, ◌∙◌, append_assoc}
 use Rattle.std.proofs.lemmas.List.{append-nil}
 use Rattle.std.specs.List.{flat_map}
 use Rattle.wasi_abi.specs.rules.Layouts.{u16_bytes, u32_bytes, u64_bytes}
 use Rattle.file_tree.specs.rules.Files.{Files, FileNode, Content, Directory, File}
 use Rattle.wasi_calls_rules.specs.WasiStates.{Target, Stream, Node}
 use Rattle.state_image.specs.rules.ProcessImage.{entry_bytes, content_bytes, node_bytes}
-use Rattle.state_image.specs.rules.ProcessImage.{target_bytes}
-use Rattle.state_image.specs.rules.ProcessImage.{Numbered, descriptor_bytes}
+use Rattle.state_image.specs.rules.ProcessImage.{target_bytes, Numbered, descriptor_bytes}
 use Rattle.state_image.specs.rules.Fronts.{content_front, content_front_bytes, node_front_of}
 use Rattle.state_image.specs.rules.Fronts.{front_bytes, entries_after_front}
 use Rattle.state_image.specs.rules.RawDescriptors.{raw_target_type, raw_node, raw_of, raw_bytes}

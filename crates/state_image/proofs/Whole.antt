@@ -17,8 +17,7 @@ use Rattle.machine_slots.specs.rules.Places.{ShownFrame, MachineState}
 use Rattle.state_image.specs.rules.ProcessImage.{Saved, phase_of, ending_code, items_bytes}
 use Rattle.state_image.specs.rules.ProcessImage.{descriptor_bytes, open_from, counts_bytes}
 use Rattle.state_image.specs.rules.ProcessImage.{phase_bytes, streams_bytes, machine_bytes}
-use Rattle.state_image.specs.rules.ProcessImage.{files_bytes}
-use Rattle.state_image.specs.rules.ProcessImage.{process_image}
+use Rattle.state_image.specs.rules.ProcessImage.{files_bytes, process_image}
 use Rattle.state_image.specs.rules.WellTyped.{EntryPoints, IsCalled, IsOutermost, IsAlive}
 use Rattle.state_image.specs.rules.WellTyped.{IsWellTyped}
 use Rattle.state_image.specs.rules.Ranges.{IsIn, FitsCounts, FitsStreams, HasMachine}

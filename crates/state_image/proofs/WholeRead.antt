@@ -3,10 +3,9 @@ use Rattle.std.proofs.Common.{◌≡◌, List, ℕ, ◌++◌, reverse, refl, sym
 use Rattle.std.proofs.lemmas.List.{append-nil}
 use Rattle.wasi_abi.specs.rules.Layouts.{u64_bytes}
 use Rattle.state_image.specs.rules.ProcessImage.{Saved, process_image_mark, counts_bytes}
-use Rattle.state_image.specs.rules.ProcessImage.{phase_bytes}
-use Rattle.state_image.specs.rules.ProcessImage.{streams_bytes, items_bytes, place_bytes}
-use Rattle.state_image.specs.rules.ProcessImage.{memory_bytes}
-use Rattle.state_image.specs.rules.ProcessImage.{node_bytes, process_image}
+use Rattle.state_image.specs.rules.ProcessImage.{phase_bytes, streams_bytes, items_bytes}
+use Rattle.state_image.specs.rules.ProcessImage.{place_bytes, memory_bytes, node_bytes}
+use Rattle.state_image.specs.rules.ProcessImage.{process_image}
 use Rattle.state_image.specs.laws.ProcessImageOrder.{IsInOrder}
 use Rattle.state_image.proofs.Whole.{from_counts, from_phase, from_streams, from_machine}
 use Rattle.state_image.proofs.Whole.{from_files, from_descriptors}

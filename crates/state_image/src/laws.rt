@@ -13,17 +13,15 @@ ghost use Rattle.state_image.specs.laws.ProcessImageOrder.{ProcessImagesAreInOrd
 ghost use Rattle.state_image.specs.laws.ProcessImageOrder.{IsPartReadBack};
 ghost use Rattle.wasi_abi.specs.rules.Layouts.{u32_bytes, u64_bytes};
 ghost use Rattle.state_image.specs.rules.ProcessImage.{process_image_mark, counts_bytes};
-ghost use Rattle.state_image.specs.rules.ProcessImage.{phase_bytes};
-ghost use Rattle.state_image.specs.rules.ProcessImage.{streams_bytes, items_bytes, place_bytes};
-ghost use Rattle.state_image.specs.rules.ProcessImage.{memory_bytes, entry_bytes};
+ghost use Rattle.state_image.specs.rules.ProcessImage.{phase_bytes, streams_bytes, items_bytes};
+ghost use Rattle.state_image.specs.rules.ProcessImage.{place_bytes, memory_bytes, entry_bytes};
 ghost use Rattle.state_image.specs.rules.Ranges.{IsIn, AreWords, FitsCounts, FitsCode, FitsStreams};
 ghost use Rattle.state_image.specs.rules.Ranges.{IsPlaceIn, IsWhole, IsEntryIn};
 ghost use Rattle.state_image.specs.rules.Parts.{counts_of, read_end_of, streams_of};
 ghost use Rattle.state_image.specs.rules.Fronts.{front_bytes, IsFrontIn};
 ghost use Rattle.state_image.specs.rules.RawDescriptors.{raw_bytes, IsRawIn};
-ghost use Rattle.state_image.specs.laws.Laws.{ProcessImagesAreDistinct};
-ghost use Rattle.state_image.specs.laws.Laws.{ProcessImagesHaveRoom, ProcessImagesAreBytes};
-ghost use Rattle.state_image.specs.laws.Laws.{SavesWhatIsShown};
+ghost use Rattle.state_image.specs.laws.Laws.{ProcessImagesAreDistinct, ProcessImagesHaveRoom};
+ghost use Rattle.state_image.specs.laws.Laws.{ProcessImagesAreBytes, SavesWhatIsShown};
 ghost use Rattle.state_image.specs.laws.Laws.{ReachedIsWellTyped, SavedIsWellTyped};
 ghost use Rattle.state_image.specs.laws.Laws.{RestoredShowsReached};
 

@@ -1,7 +1,7 @@
 -- Slices, one after another.
 use Rattle.std.specs.Prelude.{◌≡◌, ℕ, ◌+◌, List}
 use Rattle.process_rules.specs.Processes.{ProcessState, Guest}
-use Rattle.record_replay.specs.rules.Calls.{Giving, Taking, Exchange, asks_of, releases_of}
+use Rattle.record_replay.specs.rules.Calls.{Giving, Taking, Ports, Exchange, asks_of, releases_of}
 use Rattle.record_replay.specs.declared.slices.now.Now.{Now}
 use Rattle.record_replay.specs.declared.slices.now.Now.TheVariants as now
 use Rattle.record_replay.specs.rules.Workers.{WorkerValue}
@@ -13,18 +13,17 @@ use Rattle.record_replay.specs.rules.Faults.{SlicesInVain}
 -- process, and the same calls of source and outlet.
 abbrev pub SlicesAdd : {S O : Type 0} → Giving S → Taking O → Type 0
 SlicesAdd {S} {O} gives takes =
-    (first second third : WorkerValue) (f g : ℕ) (why : Now) (s t u : S) (o p q : O)
-    → Slices gives takes first f now.Spent second s t o p
-    → Slices gives takes second g why third t u p q
-    → Slices gives takes first (f + g) why third s u o q
+    (first second third : WorkerValue) (f g : ℕ) (why : Now) (a b c : Ports S O)
+    → Slices gives takes first f now.Spent second a b
+    → Slices gives takes second g why third b c → Slices gives takes first (f + g) why third a c
 
 -- A slice that fails after one whose fuel is spent is one slice of the fuel of both that fails.
 abbrev pub SlicesAddInVain : {S O : Type 0} → Giving S → Taking O → Type 0
 SlicesAddInVain {S} {O} gives takes =
-    (first second third : WorkerValue) (f g : ℕ) (why : SliceFault) (s t u : S) (o p q : O)
-    → Slices gives takes first f now.Spent second s t o p
-    → SlicesInVain gives takes second g why third t u p q
-    → SlicesInVain gives takes first (f + g) why third s u o q
+    (first second third : WorkerValue) (f g : ℕ) (why : SliceFault) (a b c : Ports S O)
+    → Slices gives takes first f now.Spent second a b
+    → SlicesInVain gives takes second g why third b c
+    → SlicesInVain gives takes first (f + g) why third a c
 
 -- Take two slices of the same fuel from the same process, to which the same answers were handed
 -- over. They come to the same process, and are over for the same reason. They have released the

@@ -88,6 +88,15 @@ releases_of [] = []
 releases_of (Asks ask ∷ exchanges) = releases_of exchanges
 releases_of (Tells begun ∷ exchanges) = begun ∷ releases_of exchanges
 
+-- the ports of a worker: its source and its outlet
+pub record Ports (S O : Type 0) : Type 0 where
+  pub source : S
+  pub outlet : O
+
+-- of these
+abbrev pub ports : {S O : Type 0} → S → O → Ports S O
+ports source outlet = record { source = source; outlet = outlet }
+
 -- These calls lead from one source and one outlet to another. Neither knows of the other.
 pub record Exchanges {S O : Type 0} (gives : Giving S) (takes : Taking O) (source : S) (outlet : O)
     (exchanges : List Exchange) (source' : S) (outlet' : O) : Type 0 where

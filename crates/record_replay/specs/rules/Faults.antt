@@ -10,7 +10,7 @@ use Rattle.process_rules.specs.Processes.{ProcessState, Guest}
 use Rattle.process_rules.specs.Runs.{Moves}
 use Rattle.record_replay.specs.declared.fault.SourceFault.{SourceFault}
 use Rattle.record_replay.specs.rules.Calls.{Giving, Taking, Ask, Exchange, Asks, Tells, Exchanges}
-use Rattle.record_replay.specs.rules.Calls.{last_refused}
+use Rattle.record_replay.specs.rules.Calls.{last_refused, Ports}
 use Rattle.machine.specs.rules.Acceptance.{IsReported, HasNoAcceptedModule, is_want}
 use Rattle.process.specs.rules.Values.{ShowsProcess}
 use Rattle.process.specs.rules.Stops.{CallsHost, IsBeyond}
@@ -88,10 +88,11 @@ pub record StopsAtAnswer (guest : Guest) (p : ProcessState) (exchanges : List Ex
 
 module _ {S O : Type 0} (gives : Giving S) (takes : Taking O) where
   -- The process that the worker showed has gone on to one that it then shows, up to what failed.
-  pub record Fails (old new : WorkerValue) (guest : Guest) (p : ProcessState) (source source' : S)
-      (outlet outlet' : O) : Type 0 where
+  pub record Fails (old new : WorkerValue) (guest : Guest) (p : ProcessState)
+      (before after : Ports S O) : Type 0 where
     pub exchanges : List Exchange
-    pub exchanged : Exchanges gives takes source outlet exchanges source' outlet'
+    pub exchanged : Exchanges gives takes before.source before.outlet exchanges after.source
+        after.outlet
     pub wanted : AreWanted guest p exchanges
     pub steps : ℕ
     pub process : ProcessState
@@ -117,11 +118,11 @@ IsCause guest p fuel exchanges steps q fault.Failed = ⊥
 -- A worker that had failed does nothing. One that fails has failed from then on; whichever process
 -- it showed.
 abbrev pub SlicesInVain : {S O : Type 0} → Giving S → Taking O → WorkerValue → ℕ → SliceFault
-    → WorkerValue → S → S → O → O → Type 0
-SlicesInVain gives takes old fuel fault.Failed new source source' outlet outlet' =
-    (old.failed ≡ true) × (new ≡ old) × (source' ≡ source) × (outlet' ≡ outlet)
-SlicesInVain gives takes old fuel why new source source' outlet outlet' =
+    → WorkerValue → Ports S O → Ports S O → Type 0
+SlicesInVain gives takes old fuel fault.Failed new before after =
+    (old.failed ≡ true) × (new ≡ old) × (after ≡ before)
+SlicesInVain gives takes old fuel why new before after =
     (old.failed ≡ false) × (new.failed ≡ true)
     × ((guest : Guest) (p : ProcessState) → ShowsProcess old.process guest p
-    → (fails : Fails gives takes old new guest p source source' outlet outlet')
+    → (fails : Fails gives takes old new guest p before after)
     × IsCause guest p fuel fails.exchanges fails.steps fails.process why)

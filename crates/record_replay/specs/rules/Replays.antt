@@ -89,16 +89,18 @@ WantsMemory guest [] p = ⊥
 WantsMemory guest (next ∷ others) p =
     (p.ended ≡ None) × (p.steps < next.step) × CallsHost guest p
 
--- Why a replay stops that has come to p. All lines of p were released, up to the one that was
--- refused.
-abbrev pub StopsReplay : {O : Type 0} → Taking O → ℕ → Guest → ProcessState → List Record
-    → ProcessState → ReplayFault → O → O → Type 0
-StopsReplay takes released guest reached rest p fault.Diverged outlet outlet' =
-    TellsFrom takes released p outlet outlet' × Diverges guest reached rest p
-StopsReplay takes released guest reached rest p fault.Memory outlet outlet' =
-    TellsFrom takes released p outlet outlet' × WantsMemory guest rest p
-StopsReplay takes released guest reached rest p fault.Outlet outlet outlet' =
-    RefusesFrom takes released p outlet outlet'
+-- Why a replay stops that has come so far. All lines of the process were released, up to the one
+-- that was refused.
+abbrev pub StopsReplay : {O : Type 0} {guest : Guest} {p : ProcessState} {records : List Record}
+    → Taking O → ℕ → ReplaysUpTo guest p records → ReplayFault → O → O → Type 0
+StopsReplay {guest = guest} takes released come fault.Diverged outlet outlet' =
+    TellsFrom takes released come.process outlet outlet'
+    × Diverges guest come.reached come.rest come.process
+StopsReplay {guest = guest} takes released come fault.Memory outlet outlet' =
+    TellsFrom takes released come.process outlet outlet'
+    × WantsMemory guest come.rest come.process
+StopsReplay takes released come fault.Outlet outlet outlet' =
+    RefusesFrom takes released come.process outlet outlet'
 
 -- whichever process was shown
 abbrev pub ReplaysInVain : {O : Type 0} → Taking O → ProcessValue → List Record → ReplayFault
@@ -106,5 +108,4 @@ abbrev pub ReplaysInVain : {O : Type 0} → Taking O → ProcessValue → List R
 ReplaysInVain takes old records why outlet outlet' =
     (guest : Guest) (p : ProcessState) → ShowsProcess old guest p
     → (come : ReplaysUpTo guest p records)
-    × StopsReplay takes old.host.released guest come.reached come.rest come.process why outlet
-    outlet'
+    × StopsReplay takes old.host.released come why outlet outlet'

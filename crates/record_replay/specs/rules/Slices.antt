@@ -9,7 +9,7 @@ use Rattle.process_rules.specs.Processes.{ProcessState, Guest}
 use Rattle.process_rules.specs.Runs.{Wants, next_of, Kept, Given, Runs}
 use Rattle.record_replay.specs.declared.fault.SourceFault.{SourceFault}
 use Rattle.record_replay.specs.rules.Calls.{Giving, Taking, Ask, Exchange, Asks, Exchanges, asks_of}
-use Rattle.record_replay.specs.rules.Calls.{releases_of, all_taken}
+use Rattle.record_replay.specs.rules.Calls.{releases_of, all_taken, Ports}
 use Rattle.process.specs.rules.Values.{ShowsProcess, ending_of, waiting_in}
 use Rattle.record_replay.specs.declared.slices.now.Now.{Now}
 use Rattle.record_replay.specs.declared.slices.now.Now.TheVariants as now
@@ -67,10 +67,11 @@ AreWanted guest p exchanges =
 module _ {S O : Type 0} (gives : Giving S) (takes : Taking O) where
   -- The process that the worker showed has gone on to one that it then shows. All lines that it
   -- emitted on the way were released.
-  pub record Works (old new : WorkerValue) (guest : Guest) (p : ProcessState) (source source' : S)
-      (outlet outlet' : O) : Type 0 where
+  pub record Works (old new : WorkerValue) (guest : Guest) (p : ProcessState)
+      (before after : Ports S O) : Type 0 where
     pub exchanges : List Exchange
-    pub exchanged : Exchanges gives takes source outlet exchanges source' outlet'
+    pub exchanged : Exchanges gives takes before.source before.outlet exchanges after.source
+        after.outlet
     pub wanted : AreWanted guest p exchanges
     pub steps : ℕ
     pub process : ProcessState
@@ -96,11 +97,10 @@ IsNow guest q exchanges steps fuel (now.Ended how) =
 -- No call of the worker had failed, and none has; and no line waits. Whichever process it showed
 -- has gone on to one that it now shows.
 pub record Slices {S O : Type 0} (gives : Giving S) (takes : Taking O) (old : WorkerValue)
-    (fuel : ℕ) (why : Now) (new : WorkerValue) (source source' : S) (outlet outlet' : O) :
-    Type 0 where
+    (fuel : ℕ) (why : Now) (new : WorkerValue) (before after : Ports S O) : Type 0 where
   pub had_not_failed : old.failed ≡ false
   pub has_not_failed : new.failed ≡ false
   pub none_waits : waiting_in new.process ≡ []
   pub shown : (guest : Guest) (p : ProcessState) → ShowsProcess old.process guest p
-      → (works : Works gives takes old new guest p source source' outlet outlet')
+      → (works : Works gives takes old new guest p before after)
       × IsNow guest works.process works.exchanges works.steps fuel why

@@ -14,10 +14,9 @@ use Rattle.state_image.specs.restoring.Named.{Held, Entries, Bytes, NamedNode, h
 use Rattle.state_image.specs.restoring.Named.{AreNamedNodes}
 use Rattle.state_image.specs.declared.restoring.whole_node.WholeNode.{WholeNode}
 use Rattle.state_image.specs.restoring.SavedNodes.{lent_whole, saved_number, saved_content}
-use Rattle.state_image.specs.restoring.SavedNodes.{content_of_saved}
-use Rattle.state_image.specs.restoring.SavedNodes.{saved_entries, entries_in_found, AreAs}
-use Rattle.state_image.specs.restoring.SavedNodes.{IsSavedFiles}
-use Rattle.state_image.specs.restoring.SavedNodes.{MayStay, MayAllStay}
+use Rattle.state_image.specs.restoring.SavedNodes.{content_of_saved, saved_entries}
+use Rattle.state_image.specs.restoring.SavedNodes.{entries_in_found, AreAs, IsSavedFiles, MayStay}
+use Rattle.state_image.specs.restoring.SavedNodes.{MayAllStay}
 use Rattle.state_image.specs.restoring.Hanging.{IsHung}
 use Rattle.state_image.proofs.Among.{IsAmong, among_all, all_among, found_own}
 use Rattle.state_image.proofs.Named.{same_named}

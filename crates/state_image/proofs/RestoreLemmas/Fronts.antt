@@ -7,7 +7,7 @@ use Rattle.std.proofs.lemmas.Bool.{eqb-true}
 use Rattle.std.proofs.lemmas.List.{append-nil}
 use Rattle.guest_memory.specs.rules.Bytes.{number_of, bytes_of}
 use Rattle.guest_memory.proofs.ByteLemmas.{length-bytes_of, number_of-bytes_of, bytes_of-number_of}
-use Rattle.wasm_syntax.specs.laws.ReadingItems.{◌>>=◌, byte_at, part_at, items_at}
+use Rattle.wasm_syntax.specs.laws.ReadingItems.{◌>>=◌, part_at, items_at}
 use Rattle.wasm_syntax.proofs.Grammar.Exact.{found, bind_some, parts, carry}
 use Rattle.wasm_syntax.proofs.Grammar.Vectors.{Reads-part_at}
 use Rattle.wasi_abi.specs.rules.Layouts.{u16_bytes, u32_bytes, u64_bytes}
@@ -171,13 +171,6 @@ module _ (X : Type 0) (P : X → Type 0) (spell : X → List ℕ) (item_at : Lis
       })
 
 -- ---- fronts of nodes
-
-byte_is : (bytes : List ℕ) (b : ℕ) (rest : List ℕ) → byte_at bytes ≡ Some (b, rest)
-    → bytes ≡ b ∷ rest
-byte_is [] b rest e = absurd cc
-byte_is (c ∷ bytes) b rest e =
-    let both = parts c b bytes rest e in
-    ap (λ (x : ℕ). x ∷ bytes) both.0 ∙ ap (λ (r : List ℕ). b ∷ r) both.1
 
 abbrev pub counted : ℕ × List ℕ → Option (ContentFront × List ℕ)
 counted n = Some (EntryCount n.0, n.1)

@@ -23,16 +23,13 @@ use Rattle.file_tree.proofs.SameNames.{heads}
 use Rattle.file_tree.proofs.Rebuilt.{numbers_below, numbers_from}
 use Rattle.state_image.specs.restoring.Named.{NamedNode}
 use Rattle.state_image.specs.restoring.SavedNodes.{saved_number, saved_content, content_of_saved}
-use Rattle.state_image.specs.restoring.SavedNodes.{AreAs}
-use Rattle.state_image.specs.restoring.SavedNodes.{IsSavedFiles, CanCreate, BeginsWithRoot}
-use Rattle.state_image.specs.restoring.SavedNodes.{next_behind}
-use Rattle.state_image.specs.restoring.SavedNodes.{IsMadeOf}
+use Rattle.state_image.specs.restoring.SavedNodes.{AreAs, IsSavedFiles, CanCreate, BeginsWithRoot}
+use Rattle.state_image.specs.restoring.SavedNodes.{next_behind, IsMadeOf}
 use Rattle.state_image.specs.restoring.Hanging.{HangsUpTo}
 use Rattle.state_image.proofs.Among.{all_among, found_among}
 use Rattle.state_image.proofs.PushedItems.{front_more}
 use Rattle.state_image.proofs.RestoreLemmas.SavedNodes.{told_as}
 use Rattle.state_image.proofs.NodesAt.{directory_content}
-use Rattle.wasi_calls_rules.proofs.FirstWasiStates.{fresh_is_files}
 
 -- ---- a new node is found
 
@@ -179,19 +176,6 @@ node_made ns fs gs place n h at can is =
     (subst (IsMadeOf (take place ns ++ n ∷ [])) (sym is) (made_more (take place ns) fs n h can))
 
 -- ---- the first node
-
-pub root_made : (ns : List NamedNode) (fs : Files) → fs ≡ fresh → BeginsWithRoot ns
-    → IsMadeOf (take 1 ns) fs
-root_made [] fs is h = absurd h
-root_made (n ∷ ns) fs is h = subst (IsMadeOf (n ∷ [])) (sym is) (record {
-  are = fresh_is_files;
-  same = record {
-    numbers = ap (λ (k : ℕ). k ∷ []) (sym h.0);
-    contents = ap (λ (c : Content). c ∷ []) (sym h.1);
-  };
-  bare = record { are = fresh_is_files; entries = λ d. refl; paths = λ k. refl };
-  next = ap (λ (k : ℕ). k + 1) (sym h.0);
-})
 
 -- ---- what is told of files at the same place
 

@@ -1,6 +1,5 @@
 -- Descriptors that are opened again, one after the other.
-use Rattle.std.proofs.Common.{◌≡◌, ℕ, zero, suc, ◌+◌, ◌-◌, ◌^◌, ◌<◌, ◌≤◌}
-use Rattle.std.proofs.Common.{List, [], ◌∷◌, ◌++◌}
+use Rattle.std.proofs.Common.{◌≡◌, ℕ, zero, suc, ◌+◌, ◌-◌, ◌^◌, ◌<◌, ◌≤◌, List, [], ◌∷◌, ◌++◌}
 use Rattle.std.proofs.Common.{length, replicate, Option, Some, None, refl, sym, ap, subst, ◌∙◌}
 use Rattle.std.proofs.Common.{append_assoc, length-append, arith}
 use Rattle.std.specs.Prelude.{IfSome}
@@ -259,13 +258,6 @@ one_more_opened fs i ds es old now after opened read =
       last = long ∙ sym (ap (behind_last 0) put ∙ last_put 0 (open_from 0 ds) x);
     }
 
--- none was opened yet
-pub none_opened : (fs : Files) (ds : List (Option Descriptor)) (bytes : List ℕ) → ds ≡ []
-    → AreOpened fs 0 ds bytes bytes
-none_opened fs ds bytes is =
-    subst (λ (es : List (Option Descriptor)). AreOpened fs 0 es bytes bytes) (sym is)
-    (record { is = refl; many = refl; within = omega arith; each = tt; last = refl })
-
 -- ---- all of them
 
 -- all places, and what stood in the bytes
@@ -348,18 +340,6 @@ pub no_descriptor : (fs : Files) (old new : List ℕ) → LacksField raw_bytes I
     → old ≡ descriptor_bytes fs x ++ rest → ⊥
 no_descriptor fs old new lacks ds x rest can is =
     lacks.none (raw_of fs x) rest (raw_in fs ds x can) (in_raw fs x old rest is)
-
--- its number can't be the next one
-pub not_next : (fs : Files) (r : ReadDescriptor) (old new : List ℕ)
-    → HasField raw_bytes IsRawIn r old new → (ds : List (Option Descriptor))
-    → ((length ds ≤ r.number) × (r.number < 64) → ⊥)
-    → (x : Numbered) (rest : List ℕ) → CanComeBehind ds x
-    → old ≡ descriptor_bytes fs x ++ rest → ⊥
-not_next fs r old new has ds other x rest can is =
-    let same : r.number ≡ x.number =
-    ap (λ (d : ReadDescriptor). d.number) (raw_is fs r old new has ds x rest can is) in
-    let below : x.number < 64 = can.within in
-    other (omega (arith, same, can.behind), omega (arith, same, below))
 
 target_own : (fs : Files) (t : Target) → IsTargetIn t
     → IsTargetOf fs (raw_target_type fs t) (raw_node t) t

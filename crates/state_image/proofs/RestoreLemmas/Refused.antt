@@ -6,10 +6,9 @@ use Rattle.std.specs.Prelude.{find, is_some, option_map, slice_get}
 use Rattle.std.specs.Option.{option_and_then}
 use Rattle.std.proofs.lemmas.Bool.{cases_lt}
 use Rattle.std.proofs.lemmas.List.{take_all}
-use Rattle.std.proofs.lemmas.Option.{slice_get_within, same_Some}
+use Rattle.std.proofs.lemmas.Option.{same_Some}
 use Rattle.file_tree.specs.rules.Files.{Name, Path, FileNode, Files, Entry, is_before, inserted}
-use Rattle.file_tree.specs.rules.Files.{IsNodeName, node_of, path_of, child, is_directory}
-use Rattle.file_tree.specs.rules.Files.{entries_of}
+use Rattle.file_tree.specs.rules.Files.{IsNodeName, node_of, path_of, child, entries_of}
 use Rattle.file_tree.specs.rules.Listings.{number_after}
 use Rattle.file_tree.specs.laws.Rebuilding.{ListsNode, entry_under}
 use Rattle.file_tree.proofs.Order.{not_itself, behind_if}
@@ -18,7 +17,7 @@ use Rattle.file_tree.proofs.EntriesDiffer.{children_are_listed, entries_differ}
 use Rattle.file_tree.proofs.KeptEntries.{entries_come_in_order}
 use Rattle.state_image.specs.restoring.Named.{NamedNode}
 use Rattle.state_image.specs.restoring.SavedNodes.{listed_node, AreAs, IsSavedFiles, CanTake}
-use Rattle.state_image.specs.restoring.Hanging.{HangsUpTo, IsHung}
+use Rattle.state_image.specs.restoring.Hanging.{HangsUpTo}
 use Rattle.state_image.proofs.PushedItems.{front_more}
 use Rattle.state_image.proofs.RestoreLemmas.SavedNodes.{one_directory, one_there, told_as}
 use Rattle.state_image.proofs.RestoreLemmas.SavedNodes.{told_listed}
@@ -203,13 +202,3 @@ next_directory ns fs ws at n d h here whole = record {
     by : (j < at) ⊎ (at ≤ j) → entries_of fs x ≡ listed_node ns x
     by (inl less) = h.done j x is less
     by (inr le) = now j x is (omega (arith, le, lt))
-
-pub all_hung : (ns : List NamedNode) (fs : Files) (ws : List ℕ) (at : ℕ)
-    → HangsUpTo ns fs ws at 0 → length ws ≤ at → IsHung ns fs
-all_hung ns fs ws at h whole = record { are = h.are; same = h.same; entries = entries } where
-  entries : (d : ℕ) → is_directory fs d ≡ true → is_some (path_of fs d) ≡ true
-      → entries_of fs d ≡ listed_node ns d
-  entries d directory path =
-      let waits = h.all d directory path in
-      let inside : waits.0 < length ws = slice_get_within ws waits.0 d waits.1 in
-      h.done waits.0 d waits.1 (omega (arith, inside, whole))

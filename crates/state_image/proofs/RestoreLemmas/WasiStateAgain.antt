@@ -13,14 +13,13 @@ use Rattle.wasi_calls.specs.declared.host.restoring.WasiStateParts.{WasiStatePar
 use Rattle.wasi_calls.specs.declared.host.restoring.PartsFault.{PartsFault}
 use Rattle.wasi_calls.specs.declared.host.restoring.PartsFault.TheVariants as parts
 use Rattle.wasi_calls.specs.rules.Restored.{held_host_from}
-use Rattle.state_image.specs.declared.restoring.progress.Progress.{Progress}
+use Rattle.state_image.specs.declared.restoring.progress.ProcessProgress.{ProcessProgress}
 use Rattle.state_image.specs.declared.restoring.fault.RestoreFault.{RestoreFault}
 use Rattle.state_image.specs.declared.restoring.fault.RestoreFault.TheVariants as fault
 use Rattle.state_image.specs.rules.ProcessImage.{files_bytes, items_bytes, descriptor_bytes}
 use Rattle.state_image.specs.rules.ProcessImage.{open_from}
 use Rattle.state_image.specs.rules.Ranges.{IsIn}
-use Rattle.state_image.specs.restoring.Descriptors.{AreAllRestorable}
-use Rattle.state_image.specs.restoring.Descriptors.{AreRestorable}
+use Rattle.state_image.specs.restoring.Descriptors.{AreAllRestorable, AreRestorable}
 use Rattle.state_image.specs.restoring.SavedHosts.{host_bytes, IsSavedHost}
 use Rattle.state_image.specs.restoring.SavedHosts.{AreReadParts, fault_of_parts}
 use Rattle.state_image.proofs.Named.{same_files_named}
@@ -148,9 +147,9 @@ without_lines h is = record {
 }
 
 -- a host of these bytes, of which this was told, is that of the parts
-pub host_of_parts : (config : Settings) (before : Progress) (p : WasiStateParts) (old new : List ℕ)
-    → AreReadParts before p old new → (h : WasiState) (rest : List ℕ) → IsWasiState h
-    → h.files.next < 2 ^ 64 → IsSavedHost config before h
+pub host_of_parts : (config : Settings) (before : ProcessProgress) (p : WasiStateParts)
+    (old new : List ℕ) → AreReadParts before p old new → (h : WasiState) (rest : List ℕ)
+    → IsWasiState h → h.files.next < 2 ^ 64 → IsSavedHost config before h
     → old ≡ host_bytes h ++ rest → IsWasiState (held_host_from config before.version p).host
 unfolding host_with
 host_of_parts config before p old new read h rest is next told stands =

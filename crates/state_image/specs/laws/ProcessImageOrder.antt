@@ -2,11 +2,9 @@
 use Rattle.std.specs.Prelude.{◌≡◌, ◌↔◌, ℕ, List, [], ◌++◌, reverse, Option, Some}
 use Rattle.wasi_abi.specs.rules.Layouts.{u64_bytes}
 use Rattle.state_image.specs.rules.ProcessImage.{Saved, process_image_mark, counts_bytes}
-use Rattle.state_image.specs.rules.ProcessImage.{phase_bytes}
-use Rattle.state_image.specs.rules.ProcessImage.{streams_bytes, items_bytes, place_bytes}
-use Rattle.state_image.specs.rules.ProcessImage.{memory_bytes}
-use Rattle.state_image.specs.rules.ProcessImage.{node_bytes, descriptor_bytes, open_from}
-use Rattle.state_image.specs.rules.ProcessImage.{process_image}
+use Rattle.state_image.specs.rules.ProcessImage.{phase_bytes, streams_bytes, items_bytes}
+use Rattle.state_image.specs.rules.ProcessImage.{place_bytes, memory_bytes, node_bytes}
+use Rattle.state_image.specs.rules.ProcessImage.{descriptor_bytes, open_from, process_image}
 use Rattle.state_image.specs.rules.Reading.{ReadsField, ReadsPart}
 
 -- each field of this process is in front of what is left after it

@@ -20,12 +20,11 @@ use Rattle.process.specs.declared.stop.ProcessEnd.TheVariants as end
 use Rattle.process.specs.rules.Values.{ProcessValue, process_of, waiting_in}
 use Rattle.state_image.specs.declared.reading.progress.ReadPhase.{ReadPhase}
 use Rattle.state_image.specs.declared.reading.progress.ReadPhase.TheVariants as read
-use Rattle.state_image.specs.declared.restoring.progress.Progress.{Progress}
+use Rattle.state_image.specs.declared.restoring.progress.ProcessProgress.{ProcessProgress}
 use Rattle.state_image.specs.declared.restoring.fault.RestoreFault.{RestoreFault}
 use Rattle.state_image.specs.declared.restoring.fault.RestoreFault.TheVariants as fault
 use Rattle.state_image.specs.rules.ProcessImage.{Saved, process_image_mark, counts_bytes}
-use Rattle.state_image.specs.rules.ProcessImage.{phase_bytes}
-use Rattle.state_image.specs.rules.ProcessImage.{streams_bytes, process_image}
+use Rattle.state_image.specs.rules.ProcessImage.{phase_bytes, streams_bytes, process_image}
 use Rattle.state_image.specs.rules.Parts.{counts_of, read_phase, read_end_of, streams_of, texts_of}
 use Rattle.state_image.specs.rules.Ranges.{FitsCounts, FitsCode, FitsStreams, HasMachine}
 use Rattle.state_image.specs.rules.Saving.{saved_of}
@@ -36,7 +35,7 @@ use Rattle.state_image.specs.restoring.Machines.{AreToCome}
 -- ---- what is before the machine
 
 -- the version, the counts, the end and the streams are those of this process
-pub record IsProgressOf (p : Progress) (s : Saved) : Type 0 where
+pub record IsProgressOf (p : ProcessProgress) (s : Saved) : Type 0 where
   pub version : s.version ≡ p.version
   pub counts : counts_of s ≡ p.counts
   pub end : read_end_of s ≡ p.end
@@ -54,14 +53,14 @@ progress_before s rest =
     process_image_mark s.version ++ (counts_bytes s ++ (phase_bytes s ++ (streams_bytes s ++ rest)))
 
 -- Each process with these has them in front, and no process that has other ones.
-pub record HasProgress (p : Progress) (old new : List ℕ) : Type 0 where
+pub record HasProgress (p : ProcessProgress) (old new : List ℕ) : Type 0 where
   pub fits : (s : Saved) → IsProgressOf p s → FitsProgress s
   pub is : (s : Saved) → IsProgressOf p s → old ≡ progress_before s new
   pub only : (s : Saved) (rest : List ℕ) → FitsProgress s → old ≡ progress_before s rest
       → IsProgressOf p s × (new ≡ rest)
 
 -- these were read, or no process has its own in front
-abbrev pub ReadsProgress : Option Progress → List ℕ → List ℕ → Type 0
+abbrev pub ReadsProgress : Option ProcessProgress → List ℕ → List ℕ → Type 0
 ReadsProgress (Some p) old new = HasProgress p old new
 ReadsProgress None old new =
     (s : Saved) (rest : List ℕ) → FitsProgress s → old ≢ progress_before s rest
@@ -76,7 +75,7 @@ end_in (read.Exited code) = Some (end.Exited code)
 end_in (read.Trapped why) = Some (end.Trapped why)
 
 -- the process with this machine, this host and these counts
-abbrev pub process_behind : Progress → MachineValue → HeldWasiState → ProcessValue
+abbrev pub process_behind : ProcessProgress → MachineValue → HeldWasiState → ProcessValue
 process_behind p machine host =
     process_of machine host p.counts.steps p.counts.answers p.counts.requests (end_in p.end.phase)
 

@@ -9,7 +9,7 @@ use Rattle.wasi_calls.specs.declared.host.restoring.PartsFault.{PartsFault}
 use Rattle.wasi_calls.specs.declared.host.restoring.PartsFault.TheVariants as parts
 use Rattle.state_image.specs.declared.reading.progress.ReadStreams.{ReadStreams}
 use Rattle.state_image.specs.declared.restoring.host.HostTexts.{HostTexts}
-use Rattle.state_image.specs.declared.restoring.progress.Progress.{Progress}
+use Rattle.state_image.specs.declared.restoring.progress.ProcessProgress.{ProcessProgress}
 use Rattle.state_image.specs.declared.restoring.fault.RestoreFault.{RestoreFault}
 use Rattle.state_image.specs.declared.restoring.fault.RestoreFault.TheVariants as fault
 use Rattle.state_image.specs.rules.ProcessImage.{files_bytes, items_bytes, descriptor_bytes}
@@ -23,7 +23,7 @@ host_bytes h =
     files_bytes h.files ++ items_bytes (descriptor_bytes h.files) (open_from 0 h.descriptors)
 
 -- what an image tells of this host before these bytes, under this configuration
-pub record IsSavedHost (config : Settings) (told : Progress) (h : WasiState) : Type 0 where
+pub record IsSavedHost (config : Settings) (told : ProcessProgress) (h : WasiState) : Type 0 where
   pub version : h.version ≡ told.version
   pub configured : IsConfigured config h
   pub unread : h.unread ≡ told.streams.unread.now
@@ -33,7 +33,7 @@ pub record IsSavedHost (config : Settings) (told : Progress) (h : WasiState) : T
   pub second : h.second ≡ told.streams.second.now
 
 -- This host is held, and its bytes were read. No line waits, and all of them were released.
-pub record IsRestoredWasiState (config : Settings) (before : Progress) (held : HeldWasiState)
+pub record IsRestoredWasiState (config : Settings) (before : ProcessProgress) (held : HeldWasiState)
     (old new : List ℕ) : Type 0 where
   pub host : IsWasiState held.host
   pub told : IsSavedHost config before held.host
@@ -43,7 +43,8 @@ pub record IsRestoredWasiState (config : Settings) (before : Progress) (held : H
   pub is : old ≡ host_bytes held.host ++ new
 
 -- What was read of the parts of a host: its files and its descriptors stood in these bytes.
-pub record AreReadParts (before : Progress) (p : WasiStateParts) (old new : List ℕ) : Type 0 where
+pub record AreReadParts (before : ProcessProgress) (p : WasiStateParts) (old new : List ℕ)
+    : Type 0 where
   pub files : IsFiles p.tree
   pub next : p.tree.next < 2 ^ 64
   pub descriptors : AreRestorable p.descriptors.items

@@ -3,10 +3,8 @@ use Rattle.std.specs.Prelude.{◌≡◌, ℕ, ◌+◌, ◌<◌, ◌≤◌, ◌^�
 use Rattle.std.specs.Prelude.{Option, Some, None, true, false, is_some, Result, Err}
 use Rattle.std.specs.List.{AllByRecursion}
 use Rattle.file_tree.specs.declared.limits.TheConstants.{NODES}
-use Rattle.file_tree.specs.rules.Files.{Files, Content, Directory, File, Entry}
-use Rattle.file_tree.specs.rules.Files.{IsNodeName, IsFiles, IsSmallContent, node_of, path_of}
-use Rattle.file_tree.specs.rules.Files.{child}
-use Rattle.file_tree.specs.rules.Files.{fresh}
+use Rattle.file_tree.specs.rules.Files.{Files, Content, Directory, File, Entry, IsNodeName, IsFiles}
+use Rattle.file_tree.specs.rules.Files.{IsSmallContent, node_of, path_of, child, fresh}
 use Rattle.file_tree.specs.rules.Listings.{number_after}
 use Rattle.file_tree.specs.laws.Laws.{node_number, content_of}
 use Rattle.file_tree.specs.laws.Rebuilding.{HaveSameEntries}

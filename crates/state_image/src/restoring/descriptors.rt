@@ -7,9 +7,8 @@ ghost use Rattle.wasi_calls_rules.specs.WasiStates.{Descriptor as Opened};
 ghost use Rattle.state_image.specs.declared.restoring.fault.RestoreFault.TheVariants as fault;
 ghost use Rattle.state_image.specs.rules.ProcessImage.{Numbered, items_bytes, open_from};
 ghost use Rattle.state_image.specs.rules.ProcessImage.{descriptor_bytes};
-ghost use Rattle.state_image.specs.restoring.Descriptors.{AreRestorable, AreOpened};
-ghost use Rattle.state_image.specs.restoring.Descriptors.{CanComeBehind, IsReadBehind};
-ghost use Rattle.state_image.specs.restoring.Descriptors.{closed_up_to};
+ghost use Rattle.state_image.specs.restoring.Descriptors.{AreRestorable, AreOpened, CanComeBehind};
+ghost use Rattle.state_image.specs.restoring.Descriptors.{IsReadBehind, closed_up_to};
 
 use crate::reading::{ProcessImageReader, read_descriptor};
 use crate::restoring::fault::RestoreFault;

@@ -1,16 +1,14 @@
 //! Nodes that get their paths.
 
-ghost use Rattle.std.specs.Prelude.{◌≡◌, ◌↔◌, ◌<◌, ◌+◌, ◌++◌, ◌∷◌, [], IsTrue, IfOk};
-ghost use Rattle.std.specs.Prelude.{OnOk, map, vec_len};
-ghost use Rattle.std.specs.Prelude.{true, false, is_some, None, Err, ℕ};
+ghost use Rattle.std.specs.Prelude.{◌≡◌, ◌↔◌, ◌<◌, ◌+◌, ◌++◌, ◌∷◌, [], IsTrue, IfOk, OnOk, map};
+ghost use Rattle.std.specs.Prelude.{vec_len, true, false, is_some, None, Err, ℕ};
 ghost use Rattle.file_tree.specs.rules.Files.{is_directory, path_of, node_of, child, hung};
 ghost use Rattle.file_tree.specs.rules.Changes.{path_at};
 ghost use Rattle.file_tree.specs.rules.Listings.{number_after};
 ghost use Rattle.state_image.specs.rules.Fronts.{lent_entry};
 ghost use Rattle.state_image.specs.declared.restoring.fault.RestoreFault.TheVariants as fault;
 ghost use Rattle.state_image.specs.restoring.SavedNodes.{lent_held, lent_whole, saved_entries};
-ghost use Rattle.state_image.specs.restoring.SavedNodes.{listed_node};
-ghost use Rattle.state_image.specs.restoring.SavedNodes.{CanTake, RefusesSaved};
+ghost use Rattle.state_image.specs.restoring.SavedNodes.{listed_node, CanTake, RefusesSaved};
 ghost use Rattle.state_image.specs.restoring.Hanging.{directory_alone, HangsUpTo, IsHung};
 
 use crate::reading::ReadEntry;

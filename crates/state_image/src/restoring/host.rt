@@ -4,15 +4,14 @@ ghost use Rattle.std.specs.Prelude.{◌≡◌, ◌≢◌, ◌<◌, ◌^◌, ◌+
 ghost use Rattle.wasi_calls_rules.specs.WasiStates.{WasiState as TheWasiState, IsWasiState};
 ghost use Rattle.state_image.specs.declared.restoring.fault.RestoreFault.TheVariants as fault;
 ghost use Rattle.state_image.specs.restoring.SavedHosts.{IsRestoredWasiState, IsSavedHost};
-ghost use Rattle.state_image.specs.restoring.SavedHosts.{host_bytes};
-ghost use Rattle.state_image.specs.restoring.SavedHosts.{AreReadParts, AreTexts};
+ghost use Rattle.state_image.specs.restoring.SavedHosts.{host_bytes, AreReadParts, AreTexts};
 ghost use Rattle.state_image.specs.restoring.SavedHosts.{fault_of_parts};
 
 use crate::reading::{ProcessImageReader, ReadStreams};
 use crate::restoring::descriptors::restore_descriptors;
 use crate::restoring::fault::RestoreFault;
 use crate::restoring::files::restore_files;
-use crate::restoring::progress::Progress;
+use crate::restoring::progress::ProcessProgress;
 use std::alloc::{AllocError, Global};
 use wasi_abi::Config;
 use wasi_calls::{PartsFault, WasiState, WasiStateParts};
@@ -22,7 +21,7 @@ use wasi_calls::{PartsFault, WasiState, WasiStateParts};
 pub fn restore_host(
     alloc: Global,
     config: Config,
-    progress: Progress,
+    progress: ProcessProgress,
     reader: &mut ProcessImageReader,
 ) -> Result<WasiState, RestoreFault>
     ensures made { IfOk result (λ held. IsRestoredWasiState config progress.entry held reader.old
@@ -39,7 +38,7 @@ pub fn restore_host(
 /// image.
 fn read_parts(
     alloc: Global,
-    progress: Progress,
+    progress: ProcessProgress,
     reader: &mut ProcessImageReader,
 ) -> Result<WasiStateParts, RestoreFault>
     ensures made { IfOk result (λ p. AreReadParts progress.entry p reader.old reader.new) }

@@ -21,7 +21,7 @@ pub use files::restore_files;
 pub use host::restore_host;
 pub use machine_state::restore_machine;
 pub use opened::descriptor_of;
-pub use progress::Progress;
+pub use progress::ProcessProgress;
 pub use tree::tree_of;
 pub use whole::{restore, restore_into};
 pub use whole_node::{WholeContent, WholeNode};

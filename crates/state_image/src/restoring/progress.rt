@@ -10,7 +10,7 @@ use wasi_abi::Version;
 
 /// The version of a process, how far it has come, how it ended, and its streams.
 #[derive(Clone, Copy, Debug)]
-pub struct Progress<'a> {
+pub struct ProcessProgress<'a> {
     pub version: Version,
     pub counts: ReadCounts,
     pub end: ReadEnd,
@@ -18,14 +18,14 @@ pub struct Progress<'a> {
 }
 
 /// The mark with which an image begins, and what is after it.
-pub fn read_progress<'a>(reader: &mut ProcessImageReader<'a>) -> Option<Progress<'a>>
+pub fn read_progress<'a>(reader: &mut ProcessImageReader<'a>) -> Option<ProcessProgress<'a>>
     ensures { ReadsProgress result reader.old reader.new }
 {
     let version = read_mark(reader)?;
     let counts = read_counts(reader)?;
     let end = read_end(reader)?;
     let streams = read_streams(reader)?;
-    Some(Progress {
+    Some(ProcessProgress {
         version,
         counts,
         end,

@@ -26,7 +26,7 @@ use crate::restoring::accepting::may_be_accepted;
 use crate::restoring::fault::RestoreFault;
 use crate::restoring::host::restore_host;
 use crate::restoring::machine_state::restore_machine;
-use crate::restoring::progress::{Progress, read_progress};
+use crate::restoring::progress::{ProcessProgress, read_progress};
 use machine::{LinkFault, Machine, link};
 use process::{Process, ProcessEnd, ProcessParts};
 use std::alloc::Global;
@@ -120,7 +120,7 @@ fn put_together(
     alloc: Global,
     machine: Machine,
     host: WasiState,
-    progress: &Progress,
+    progress: &ProcessProgress,
 ) -> Result<Process, RestoreFault>
     requires shows { ShowsSome machine }
     requires linked { HasLinkableGuest machine }

@@ -1,7 +1,6 @@
 //! The files of a process.
 
-ghost use Rattle.std.specs.Prelude.{◌≡◌, ◌<◌, ◌∷◌, ◌++◌, Some, length, slice_get};
-ghost use Rattle.std.specs.Prelude.{if◌then◌else◌};
+ghost use Rattle.std.specs.Prelude.{◌≡◌, ◌<◌, ◌∷◌, ◌++◌, Some, length, slice_get, if◌then◌else◌};
 ghost use Rattle.wasi_abi.specs.rules.Layouts.{u64_bytes};
 ghost use Rattle.wasi_abi.specs.rules.Numbers.{directory_type, regular_file};
 ghost use Rattle.file_tree.specs.rules.Files.{FileNode, Entry, node_of, is_directory};

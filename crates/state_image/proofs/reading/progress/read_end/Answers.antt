@@ -1,5 +1,4 @@
-use Rattle.state_image.proofs.PartReads.{no_code, no_input_flag, no_phase}
-use Rattle.state_image.proofs.PartReads.{after_number, after_code}
+use Rattle.state_image.proofs.PartReads.{no_code, no_input_flag, no_phase, after_number, after_code}
 use Rattle.state_image.proofs.reading.progress.read_end.Goals as goal
 
 pub returns-in_err-code : goal.returns-in_err-code

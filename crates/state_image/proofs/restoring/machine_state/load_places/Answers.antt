@@ -1,6 +1,5 @@
 use Rattle.state_image.proofs.RestoreLemmas.Lent.{fault_of}
-use Rattle.state_image.proofs.RestoreLemmas.Loaded.{no_place_yet, place_more}
-use Rattle.state_image.proofs.RestoreLemmas.Loaded.{places_refused}
+use Rattle.state_image.proofs.RestoreLemmas.Loaded.{no_place_yet, place_more, places_refused}
 use Rattle.state_image.proofs.restoring.machine_state.load_places.Goals as goal
 
 pub loop-init : goal.loop-init
