@@ -1,7 +1,6 @@
 -- The first snapshot of a new worker's disk, and its super.
-use Rattle.std.proofs.Common.{◌≡◌, ◌≤◌, ◌⊎◌, ℕ, List, [], ◌∷◌, ◌++◌, length, sym}
-use Rattle.std.proofs.Common.{ap, ◌∙◌}
-use Rattle.std.proofs.Common.{subst, inl, arith, append_assoc, false}
+use Rattle.std.proofs.Common.{◌≡◌, ◌≤◌, ◌⊎◌, ℕ, List, [], ◌∷◌, ◌++◌, length, sym, ap, ◌∙◌, subst}
+use Rattle.std.proofs.Common.{inl, arith, append_assoc, false}
 use Rattle.std.specs.Prelude.{Result, Ok}
 use Rattle.sha2.specs.Sha256.{sha256}
 use Rattle.wasm_syntax.specs.declared.module.Module.{Module}
@@ -13,7 +12,7 @@ use Rattle.sector_disk.specs.rules.Medium.{Medium, After, Follows, IsAllSynced, 
 use Rattle.sector_disk.specs.rules.Medium.{BeginsCalls}
 use Rattle.sector_disk.specs.rules.Run.{IsTornRun, IsWrittenRun}
 use Rattle.sector_disk.proofs.CallLemmas.{begun_first, begun_then}
-use Rattle.sector_disk.proofs.Moments.{leaves_only, leaves_weaker, started}
+use Rattle.sector_disk.proofs.Moments.{leaves_weaker}
 use Rattle.disk_layout.specs.declared.geometry.Geometry.{Geometry}
 use Rattle.wasi_abi.specs.rules.Versions.{version_number}
 use Rattle.disk_layout.specs.rules.Places.{area_place, config_bytes, geometry_of, rounded_up}
@@ -35,8 +34,7 @@ use Rattle.worker_store.proofs.LawLemmas.Passing.{step_at_any_moment, step_in_th
 use Rattle.worker_store.proofs.LawLemmas.Passing.{shown_in_the_end}
 use Rattle.worker_store.specs.declared.store.WorkerStore.{WorkerStore}
 use Rattle.worker_store.specs.rules.Creations.{IsFirstPoint, LeavesBlankOrFirst, contents_calls}
-use Rattle.worker_store.specs.rules.Creations.{creation_calls}
-use Rattle.worker_store.specs.rules.Creations.{StoresFirst}
+use Rattle.worker_store.specs.rules.Creations.{creation_calls, StoresFirst}
 use Rattle.worker_store.proofs.StoreLemmas.{begun_stored}
 use Rattle.worker_store.proofs.CreationLemmas.{leaves_on}
 
@@ -202,11 +200,3 @@ first_stored medium settings wasm process store new placed fresh sectors all_syn
     (placed ∙ ap (λ w. geometry_of settings (length w)) (sym first.wasm))
     (fresh ∙ ap (λ (s : Saved). state s.version 1 0 [] false) (sym first.saved)) sectors all_synced
     (begins m point first) first.numbers
-
--- where no call was made
-pub none_first : (settings : Settings) (wasm : List ℕ) (process : ProcessValue) (a : Medium)
-    → LeavesBlankOrFirst settings wasm process a a
-none_first settings wasm process a m point first all =
-    leaves_only a a (λ disk. IsBlank disk ⊎ BeginsAtPoint point disk)
-    (started a (λ disk. IsBlank disk ⊎ BeginsAtPoint point disk))
-    (λ disk crashed. inl (all disk crashed))

@@ -12,8 +12,8 @@ use Rattle.disk_layout.specs.declared.reading.contents.Contents.{Contents}
 use Rattle.disk_layout.specs.rules.Held.{GivesContents}
 use Rattle.disk_layout.specs.rules.Journal.{Record}
 use Rattle.disk_layout.specs.rules.Places.{total_sectors}
-use Rattle.snapshot.specs.declared.snapshots.State.{State}
-use Rattle.snapshot.specs.declared.snapshots.State.TheVariants as state
+use Rattle.snapshot.specs.declared.snapshots.SaveState.{SaveState}
+use Rattle.snapshot.specs.declared.snapshots.SaveState.TheVariants as state
 use Rattle.snapshot.specs.declared.snapshots.Snapshots.{Snapshots}
 use Rattle.snapshot.specs.rules.Snapshots.{has_failed, is_failed, is_idle, is_idle_state}
 use Rattle.worker_store.specs.rules.Savepoints.{Savepoint, places, IsAtSavepoint}
@@ -70,7 +70,7 @@ contents_failed sectors disk (layout.Disk fault) e same gives =
 
 -- ---- the snapshot
 
-idle_works_in : (t : State) → IsTrue (is_idle_state t) → IsTrue (has_failed t) → ⊥
+idle_works_in : (t : SaveState) → IsTrue (is_idle_state t) → IsTrue (has_failed t) → ⊥
 idle_works_in state.Idle idle failed = false≢true failed
 idle_works_in (state.Begun w) idle failed = false≢true failed
 idle_works_in state.Failed idle failed = false≢true idle

@@ -1,6 +1,5 @@
 -- What is read of a journal, by what a scan of it has found.
-use Rattle.std.proofs.Common.{◌≡◌, ◌⊎◌, inl, inr, ℕ, ◌+◌, ◌<◌, refl, sym, subst, arith}
-use Rattle.std.proofs.Common.{add-zero}
+use Rattle.std.proofs.Common.{◌≡◌, ◌⊎◌, inl, inr, ℕ, ◌+◌, ◌<◌, refl, sym, subst, arith, add-zero}
 use Rattle.std.specs.Prelude.{Result, Ok, Err, Vec, IsTrue, ◌↔◌}
 use Rattle.std.specs.declared.alloc.Global.{Global}
 use Rattle.wasi_abi.specs.declared.version.Version.{Version}

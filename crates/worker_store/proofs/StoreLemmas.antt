@@ -1,6 +1,5 @@
 -- The calls of a store, by the laws of the worker on its disk.
-use Rattle.std.proofs.Common.{◌≡◌, ◌<◌, ◌≤◌, ◌⊎◌, ◌^◌, ℕ, ◌+◌, List, [], ◌++◌}
-use Rattle.std.proofs.Common.{length, inl, inr}
+use Rattle.std.proofs.Common.{◌≡◌, ◌<◌, ◌≤◌, ◌⊎◌, ◌^◌, ℕ, ◌+◌, List, [], ◌++◌, length, inl, inr}
 use Rattle.std.proofs.Common.{refl, sym, ap, ◌∙◌, subst, ⊎_elim, arith, Bool, true, false, Err}
 use Rattle.std.proofs.lemmas.Bool.{cases_lt}
 use Rattle.std.proofs.lemmas.List.{length-append}
@@ -10,7 +9,7 @@ use Rattle.sector_disk.specs.rules.Medium.{Medium, After, Follows, IsAllSynced, 
 use Rattle.sector_disk.specs.rules.Medium.{CallsUpTo}
 use Rattle.disk_layout.specs.declared.geometry.Geometry.{Geometry}
 use Rattle.wasi_abi.specs.rules.Versions.{version_number}
-use Rattle.disk_layout.specs.rules.Places.{total_sectors}
+use Rattle.disk_layout.specs.rules.Places.{total_sectors, geometry_of}
 use Rattle.disk_layout.specs.rules.Journal.{Record, record_bytes}
 use Rattle.journal.specs.declared.fault.JournalFault.{JournalFault}
 use Rattle.journal.specs.declared.fault.JournalFault.TheVariants as of_journal
@@ -21,7 +20,6 @@ use Rattle.snapshot.specs.rules.Steps.{Commits, Replaces}
 use Rattle.process.specs.rules.Values.{ProcessValue}
 use Rattle.state_image.specs.rules.ProcessImage.{Saved, process_image}
 use Rattle.state_image.specs.rules.Saving.{saved_of}
-use Rattle.disk_layout.specs.rules.Places.{geometry_of}
 use Rattle.wasm_syntax.specs.declared.module.Module.{Module}
 use Rattle.wasi_abi.specs.rules.Configs.{Settings}
 use Rattle.worker_store.specs.restart_theorem.Stands.{IsNumbered}

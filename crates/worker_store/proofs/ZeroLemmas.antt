@@ -7,8 +7,7 @@ use Rattle.std.proofs.lemmas.List.{get_or-replicate, length-replicate}
 use Rattle.wasi_abi.specs.rules.Layouts.{padding}
 use Rattle.sector_disk.specs.rules.DiskImage.{sector_at}
 use Rattle.sector_disk.specs.rules.Medium.{Medium, After, BothFollow, BeginsCalls, CountsUpTo}
-use Rattle.sector_disk.specs.rules.Medium.{CallsUpTo, FailsInside, PerformsCalls, Passes}
-use Rattle.sector_disk.specs.rules.Medium.{spare}
+use Rattle.sector_disk.specs.rules.Medium.{CallsUpTo, FailsInside, PerformsCalls, Passes, spare}
 use Rattle.sector_disk.specs.rules.Calls.{rising_writes}
 use Rattle.sector_disk.specs.rules.Run.{IsTornRun, IsWrittenRun, WritesRun}
 use Rattle.sector_disk.specs.declared.fault.DiskFault.{DiskFault}

@@ -12,8 +12,7 @@ ghost use Rattle.worker_store.specs.laws.Telling.{AllLinesAreTold, LinesAreToldI
 ghost use Rattle.worker_store.specs.laws.Telling.{LeftLinesAreTold, LeftLinesAreToldInVain};
 ghost use Rattle.worker_store.specs.laws.CallEnds.{SpentSlicesEnd, EndedSlicesEnd};
 ghost use Rattle.worker_store.specs.laws.CallEnds.{WaitingSlicesEnd, FailedSlicesEnd};
-ghost use Rattle.worker_store.specs.laws.CallEnds.{LateFaultsEnd};
-ghost use Rattle.worker_store.specs.laws.CallEnds.{DoneSavesEnd, FailedSavesEnd};
+ghost use Rattle.worker_store.specs.laws.CallEnds.{LateFaultsEnd, DoneSavesEnd, FailedSavesEnd};
 ghost use Rattle.worker_store.specs.laws.CallEnds.{SlicesBegin, CallsLeaveBetween};
 ghost use Rattle.worker_store.specs.laws.Pieces.{PartsJoin, PartsAreForetold, EndsJoin};
 ghost use Rattle.worker_store.specs.laws.Reopening.{LinesAreRetold, LinesAreRetoldInVain};

@@ -10,9 +10,10 @@ ghost use Rattle.worker_store.specs.laws.Savepoints.{IsAtItsSavepoint, PointStan
 ghost use Rattle.worker_store.specs.laws.Savepoints.{PointStandsAlone, ReadAlikeIsAtSavepoint};
 ghost use Rattle.worker_store.specs.laws.Barriers.{RecordedOnce, BarrierLeavesFront};
 ghost use Rattle.worker_store.specs.laws.Barriers.{BarrierLeavesAll, FrontStands, BarrierStands};
-ghost use Rattle.worker_store.specs.laws.Commits.{NewPointBegins, PointIsReady};
-ghost use Rattle.worker_store.specs.laws.Commits.{FillingKeepsPoint, CommitLeavesOneOfTwo};
-ghost use Rattle.worker_store.specs.laws.Commits.{CommitBeginsNext};
+ghost use Rattle.worker_store.specs.laws.Commits.{NewPointBegins, PointIsReady, FillingKeepsPoint};
+ghost use Rattle.worker_store.specs.laws.Commits.{CommitLeavesOneOfTwo, CommitBeginsNext};
+ghost use Rattle.worker_store.specs.laws.Commits.{FillingKeepsWorker, CommitKeepsWorker};
+ghost use Rattle.worker_store.specs.laws.Commits.{ReplacingBegins};
 ghost use Rattle.worker_store.specs.laws.Creations.{NoSuperIsBlank, ZerosKeepBlank};
 ghost use Rattle.worker_store.specs.laws.Creations.{ZerosTakeSuper, RunsKeepNoSuper};
 ghost use Rattle.worker_store.specs.laws.Creations.{ZerosAwaitHead, ZeroRunsAwaitHead};
@@ -26,11 +27,8 @@ ghost use Rattle.worker_store.specs.laws.Moments.{CommitInTheEnd, ZerosAtAnyMome
 ghost use Rattle.worker_store.specs.laws.Moments.{RunAtAnyMoment, FirstFillAtAnyMoment};
 ghost use Rattle.worker_store.specs.laws.Moments.{FirstCommitAtAnyMoment, FirstCommitInTheEnd};
 ghost use Rattle.worker_store.specs.laws.Moments.{ZeroRunsInTheEnd, SuperAtAnyMoment};
-ghost use Rattle.worker_store.specs.laws.Moments.{SuperInTheEnd};
-ghost use Rattle.worker_store.specs.laws.Moments.{FillKeepsAtAnyMoment, CommitKeepsAtAnyMoment};
-ghost use Rattle.worker_store.specs.laws.Moments.{CommitKeepsInTheEnd};
-ghost use Rattle.worker_store.specs.laws.Commits.{FillingKeepsWorker, CommitKeepsWorker};
-ghost use Rattle.worker_store.specs.laws.Commits.{ReplacingBegins};
+ghost use Rattle.worker_store.specs.laws.Moments.{SuperInTheEnd, FillKeepsAtAnyMoment};
+ghost use Rattle.worker_store.specs.laws.Moments.{CommitKeepsAtAnyMoment, CommitKeepsInTheEnd};
 ghost use Rattle.worker_store.specs.laws.Readings.{ReadsTheModule, FindsThePoint, ReadsThePoint};
 ghost use Rattle.worker_store.specs.laws.Readings.{ReadsUndamaged, FindsNewestPoint};
 ghost use Rattle.worker_store.specs.laws.Readings.{HoldsTheRecords};

@@ -9,22 +9,18 @@ use Rattle.process_rules.specs.Runs.{Kept, Wider, version_after}
 use Rattle.process_rules.specs.Behind.{IsNarrowTo}
 use Rattle.state_image.specs.rules.ProcessImage.{Saved}
 use Rattle.worker_store.specs.restart_theorem.Lives.{Act, Slice, Batch, Checkpoint, Upgrade, Reply}
-use Rattle.worker_store.specs.restart_theorem.Lives.{Spent}
-use Rattle.worker_store.specs.restart_theorem.Lives.{Waits, Over}
-use Rattle.worker_store.specs.restart_theorem.Lives.{Done, Fails, Cause, OfDisk, OfSource, OfAnswer}
-use Rattle.worker_store.specs.restart_theorem.Lives.{OfOutlet}
-use Rattle.worker_store.specs.restart_theorem.Lives.{OfMemory, OfBounds, OfJournal, OfLines, Ended}
+use Rattle.worker_store.specs.restart_theorem.Lives.{Spent, Waits, Over, Done, Fails, Cause, OfDisk}
+use Rattle.worker_store.specs.restart_theorem.Lives.{OfSource, OfAnswer, OfOutlet, OfMemory}
+use Rattle.worker_store.specs.restart_theorem.Lives.{OfBounds, OfJournal, OfLines, Ended}
 use Rattle.worker_store.specs.restart_theorem.Lives.{kept_by_widening, kept_by_end}
 use Rattle.worker_store.specs.restart_theorem.Courses.{Phase, Stage, Open, MayFail}
 use Rattle.worker_store.specs.restart_theorem.Promises.{Promise, after, MayPlead, IsReply}
 use Rattle.worker_store.specs.restart_theorem.Promises.{IsCaughtUp, IsOneOf}
 use Rattle.worker_store.proofs.RestartLemmas.Pleas.{batch_fails}
 use Rattle.worker_store.proofs.RestartLemmas.Widenings.{AddsWidening, end_keeps, wider_by}
-use Rattle.worker_store.specs.laws.Acts.{TakesSteps}
-use Rattle.worker_store.specs.laws.Acts.{IsSaving, ShowsItsVersion, SavesWith, keeping_more}
-use Rattle.worker_store.specs.laws.Acts.{CheckpointsSave, SavingEndsAlike, UpgradesWiden}
-use Rattle.worker_store.specs.laws.Acts.{UpgradesSave}
-use Rattle.worker_store.specs.laws.Acts.{ActsMayFail}
+use Rattle.worker_store.specs.laws.Acts.{TakesSteps, IsSaving, ShowsItsVersion, SavesWith}
+use Rattle.worker_store.specs.laws.Acts.{keeping_more, CheckpointsSave, SavingEndsAlike}
+use Rattle.worker_store.specs.laws.Acts.{UpgradesWiden, UpgradesSave, ActsMayFail}
 
 -- ---- what is promised in its end
 

@@ -1,6 +1,5 @@
 -- A worker that is created, and opens.
-use Rattle.std.proofs.Common.{◌≡◌, ◌⊎◌, List, [], length, ap, subst, inl, inr, ⊎_elim}
-use Rattle.std.proofs.Common.{arith}
+use Rattle.std.proofs.Common.{◌≡◌, ◌⊎◌, List, [], length, ap, subst, inl, inr, ⊎_elim, arith}
 use Rattle.std.proofs.Math.Nat.{le-max_right}
 use Rattle.process_rules.specs.Runs.{Kept}
 use Rattle.state_image.specs.rules.ProcessImage.{Saved}
@@ -16,8 +15,7 @@ use Rattle.worker_store.specs.rules.Carried.{IsHeldAt}
 use Rattle.worker_store.specs.laws.Carried.{PromisesNoMore}
 use Rattle.worker_store.specs.laws.Anew.{CreationOpens}
 use Rattle.worker_store.proofs.LawLemmas.Carrying.{held_at_holds_promise, fresh_is_held}
-use Rattle.worker_store.proofs.LawLemmas.Carrying.{opening_is_held}
-use Rattle.worker_store.proofs.LawLemmas.Carrying.{less_is_held}
+use Rattle.worker_store.proofs.LawLemmas.Carrying.{opening_is_held, less_is_held}
 
 -- where nothing was promised, an opening takes nothing back
 pub opening_promises_no_less : (promise : Promise) (shown : Saved) → IsNothingYet promise

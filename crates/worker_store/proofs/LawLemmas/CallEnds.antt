@@ -1,42 +1,35 @@
 -- How a worker's call ends.
-use Rattle.std.proofs.Common.{◌≡◌, ◌≢◌, ℕ, suc, ◌+◌, ◌≤◌, ◌^◌, List, ◌∷◌, ◌++◌, length}
-use Rattle.std.proofs.Common.{take, refl, sym, ap, ◌∙◌, subst, arith, inl, inr, Option}
-use Rattle.std.proofs.Common.{◌<◌, Some, None}
+use Rattle.std.proofs.Common.{◌≡◌, ◌≢◌, ℕ, suc, ◌+◌, ◌≤◌, ◌^◌, List, ◌∷◌, ◌++◌, length, take, refl}
+use Rattle.std.proofs.Common.{sym, ap, ◌∙◌, subst, arith, inl, inr, Option, ◌<◌, Some, None}
 use Rattle.std.proofs.Math.Seq.{take-length}
 use Rattle.wasm_syntax.specs.declared.module.Module.{Module}
 use Rattle.wasi_abi.specs.declared.numbers.TheConstants.{NUMBERS_END}
 use Rattle.wasi_abi.specs.declared.answer.Answer.{Answer}
 use Rattle.wasi_abi.specs.rules.Configs.{Settings}
 use Rattle.process_rules.specs.Processes.{Ending, ProcessState, Guest, IsStart}
-use Rattle.process_rules.specs.Runs.{Kept, Runs, Next, On, Wants, Nowhere, next_of}
-use Rattle.process_rules.specs.Runs.{Over as Ends}
+use Rattle.process_rules.specs.Runs.{Kept, Runs, Next, On, Wants, Nowhere, next_of, Over as Ends}
 use Rattle.process_rules.proofs.Growing.{runs_count}
 use Rattle.process_rules.proofs.Quiet.{runs_join}
 use Rattle.process.specs.rules.Stops.{LacksNumbers}
 use Rattle.state_image.specs.rules.ProcessImage.{Saved}
 use Rattle.worker_store.specs.restart_theorem.Lives.{Act, Slice, Batch, Checkpoint, Upgrade, Spent}
-use Rattle.worker_store.specs.restart_theorem.Lives.{Waits, Over}
-use Rattle.worker_store.specs.restart_theorem.Lives.{Done, Ended, Reply}
-use Rattle.worker_store.specs.restart_theorem.Lives.{Fails, Cause, OfDisk, OfSource, OfAnswer}
-use Rattle.worker_store.specs.restart_theorem.Lives.{OfOutlet}
-use Rattle.worker_store.specs.restart_theorem.Lives.{OfMemory, OfBounds, OfJournal, OfLines}
-use Rattle.worker_store.specs.restart_theorem.Lives.{kept_by_end}
+use Rattle.worker_store.specs.restart_theorem.Lives.{Waits, Over, Done, Ended, Reply, Fails, Cause}
+use Rattle.worker_store.specs.restart_theorem.Lives.{OfDisk, OfSource, OfAnswer, OfOutlet, OfMemory}
+use Rattle.worker_store.specs.restart_theorem.Lives.{OfBounds, OfJournal, OfLines, kept_by_end}
 use Rattle.worker_store.specs.restart_theorem.Courses.{Stage, Open, NoneThere, MayFail}
 use Rattle.worker_store.specs.restart_theorem.Courses.{IsNextAct, IsInBatch, HasLastAsked}
 use Rattle.worker_store.specs.restart_theorem.Promises.{Promise, after, IsAt, IsAtBound}
-use Rattle.worker_store.specs.restart_theorem.Promises.{HasLastLines}
-use Rattle.worker_store.specs.restart_theorem.Promises.{IsCaughtUp, IsOneOf, IsReply, MayPlead}
-use Rattle.worker_store.specs.restart_theorem.Promises.{MayWiden}
-use Rattle.worker_store.specs.restart_theorem.Promises.{fuel_of, IsEnding}
+use Rattle.worker_store.specs.restart_theorem.Promises.{HasLastLines, IsCaughtUp, IsOneOf, IsReply}
+use Rattle.worker_store.specs.restart_theorem.Promises.{MayPlead, MayWiden, fuel_of, IsEnding}
 use Rattle.worker_store.specs.laws.Acts.{TakesSteps}
 use Rattle.worker_store.proofs.RestartLemmas.Pleas.{batch_fails}
 use Rattle.worker_store.proofs.LawLemmas.Underway.{among_first}
 use Rattle.worker_store.specs.laws.Underway.{IsInItsSlice}
 use Rattle.worker_store.specs.laws.CallEnds.{IsSavedAs, SpentSlicesEnd, EndedSlicesEnd}
 use Rattle.worker_store.specs.laws.CallEnds.{WaitingSlicesEnd, HasBound, FailedSlicesEnd}
-use Rattle.worker_store.specs.laws.CallEnds.{IsSavingNext, DoneSavesEnd, FailedSavesEnd}
-use Rattle.worker_store.proofs.LawLemmas.Acts.{done_reply, failed_reply, lines_emitted}
+use Rattle.worker_store.specs.laws.CallEnds.{IsSavingNext, DoneSavesEnd, FailedSavesEnd, saving}
 use Rattle.worker_store.specs.laws.CallEnds.{LateFaultsEnd, SlicesBegin, CallsLeaveBetween}
+use Rattle.worker_store.proofs.LawLemmas.Acts.{done_reply, failed_reply, lines_emitted}
 
 next_act : (act : Act) (acts rest : List Act) → acts ≡ act ∷ rest → IsNextAct act acts
 next_act act acts rest is = subst (λ z. IsNextAct act z) (sym is) refl
@@ -270,7 +263,7 @@ module _ (m : Module) (config : Settings) (guest : Guest) where
   -- What is kept in the end leads to the process that is saved.
   module _ (promise : Promise) (stage : Stage) (act : Act) (more : List Kept)
       (p q : ProcessState) (shown : Saved)
-      (is : IsSavingNext m config guest promise stage act more p q shown) where
+      (is : IsSavingNext m config guest promise stage act p (saving more q shown)) where
     same_steps : q.steps ≡ p.steps
     same_steps =
         let counted : q.steps ≡ p.steps + 0 =

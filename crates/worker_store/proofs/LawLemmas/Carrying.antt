@@ -11,7 +11,7 @@ use Rattle.wasi_calls_rules.specs.WasiStates.{WasiState}
 use Rattle.wasi_calls_rules.specs.laws.Laws.{Emits}
 use Rattle.process_rules.specs.Processes.{ProcessState}
 use Rattle.process_rules.specs.Runs.{Kept, Given, Runs, Reaches}
-use Rattle.process_rules.specs.Behind.{AnswersBehindLine}
+use Rattle.process_rules.specs.Behind.{AnswersBehindLine, IsNarrowTo}
 use Rattle.process_rules.proofs.Growing.{runs_count, runs_emit}
 use Rattle.sector_disk.specs.rules.DiskImage.{DiskImage}
 use Rattle.sector_disk.specs.rules.Medium.{Medium, LeavesOnly}
@@ -21,7 +21,6 @@ use Rattle.journal.specs.rules.State.{JournalState}
 use Rattle.record_replay.specs.rules.Records.{Recorded, none, given_in}
 use Rattle.record_replay.proofs.Recordings.{recorded_count, recorded_emit, recorded_join}
 use Rattle.worker_store.specs.restart_theorem.Stands.{IsBlank}
-use Rattle.process_rules.specs.Behind.{IsNarrowTo}
 use Rattle.record_replay.proofs.OneRecording.{one_recorded}
 use Rattle.worker_store.proofs.RestartLemmas.Fronts.{none_widens, up_to_front}
 use Rattle.worker_store.specs.restart_theorem.Lives.{Checkpoint, Done, Ended}
@@ -195,9 +194,6 @@ module _ (m : Module) (config : Settings) (promise : Promise) (point : Savepoint
     ≡ answers_at point (records ++ pending)) (now : ProcessState)
     (recorded : Recorded point.reached.guest last pending now)
     (up : IsNarrowTo (drop (count_at point (records ++ pending)) promise.kept) now.steps) where
-  all_count : ℕ
-  all_count = count_at point (records ++ pending)
-
   all_within : count_at point (records ++ pending) ≤ length promise.kept
   all_within = within_of (count_at point (records ++ pending)) promise.kept
       (answers_at point (records ++ pending)) answers (answers_count point (records ++ pending))

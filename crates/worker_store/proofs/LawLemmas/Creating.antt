@@ -4,8 +4,7 @@ use Rattle.std.proofs.Common.{take, drop, replicate, get_or, refl, sym, ap, ◌�
 use Rattle.std.proofs.Common.{⊎_elim, arith}
 use Rattle.std.proofs.lemmas.Bool.{cases_lt}
 use Rattle.std.proofs.lemmas.List.{get_or-take, get_or-drop, get_or-replicate, drop-replicate}
-use Rattle.std.proofs.lemmas.List.{length-take}
-use Rattle.std.proofs.lemmas.List.{take_all, append-nil, length-append}
+use Rattle.std.proofs.lemmas.List.{length-take, take_all, append-nil, length-append}
 use Rattle.std.proofs.Math.Seq.{get_or-append_right}
 use Rattle.sha2.specs.Sha256.{sha256}
 use Rattle.sha2.proofs.Facts256.{length-sha256}
@@ -26,21 +25,18 @@ use Rattle.snapshot.specs.rules.Heads.{heads_to, IsReadyForHead}
 use Rattle.snapshot.proofs.AreaLemmas.{bytes_same, heads_move}
 use Rattle.worker_store.specs.rules.Savepoints.{Savepoint, places, BeginsAtPoint}
 use Rattle.worker_store.specs.laws.Savepoints.{StandsBySaved}
-use Rattle.worker_store.specs.laws.Creations.{zero_sector, NoSuperIsBlank}
-use Rattle.worker_store.specs.laws.Creations.{ZerosKeepBlank, ZerosTakeSuper, RunsKeepNoSuper}
-use Rattle.worker_store.specs.laws.Creations.{ZeroRunsAwaitHead}
+use Rattle.worker_store.specs.laws.Creations.{zero_sector, NoSuperIsBlank, ZerosKeepBlank}
+use Rattle.worker_store.specs.laws.Creations.{ZerosTakeSuper, RunsKeepNoSuper, ZeroRunsAwaitHead}
 use Rattle.worker_store.specs.laws.Creations.{AwaitsHead, ZerosAwaitHead, FillingAwaitsHead}
 use Rattle.worker_store.specs.laws.Creations.{FirstCommitKeepsNoSuper, AwaitsSuper}
-use Rattle.worker_store.specs.laws.Creations.{FirstCommitAwaitsSuper}
-use Rattle.worker_store.specs.laws.Creations.{super_of_point, SuperBegins, WholeSuperBegins}
-use Rattle.worker_store.specs.laws.Creations.{FreshStandsForNone}
+use Rattle.worker_store.specs.laws.Creations.{FirstCommitAwaitsSuper, super_of_point, SuperBegins}
+use Rattle.worker_store.specs.laws.Creations.{WholeSuperBegins, FreshStandsForNone}
 use Rattle.worker_store.proofs.LawLemmas.Sectors.{SameSector, contents_stay, process_image_stays}
 use Rattle.worker_store.proofs.LawLemmas.Sectors.{contents_below, some_below}
 use Rattle.worker_store.proofs.LawLemmas.Points.{point_stands_alone}
 use Rattle.worker_store.proofs.LawLemmas.Replacing.{super_outside, contents_outside}
-use Rattle.worker_store.proofs.LawLemmas.Replacing.{journal_outside}
-use Rattle.worker_store.proofs.LawLemmas.Replacing.{super_no_head, later_no_head, journal_from}
-use Rattle.worker_store.proofs.LawLemmas.Replacing.{new_point_begins}
+use Rattle.worker_store.proofs.LawLemmas.Replacing.{journal_outside, super_no_head, later_no_head}
+use Rattle.worker_store.proofs.LawLemmas.Replacing.{journal_from, new_point_begins}
 
 -- ---- without a super
 

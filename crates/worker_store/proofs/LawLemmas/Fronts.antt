@@ -1,8 +1,7 @@
 -- What a barrier leaves.
-use Rattle.std.proofs.Common.{◌≡◌, ℕ, zero, suc, ◌+◌, ◌<◌, List, [], ◌∷◌, ◌++◌, refl, sym, ap}
-use Rattle.std.proofs.Common.{◌∙◌, arith}
+use Rattle.std.proofs.Common.{◌≡◌, ℕ, zero, suc, ◌+◌, ◌<◌, List, [], ◌∷◌, ◌++◌, refl, sym, ap, ◌∙◌}
+use Rattle.std.proofs.Common.{arith, append_assoc}
 use Rattle.std.specs.Prelude.{map, length, take}
-use Rattle.std.proofs.Common.{append_assoc}
 use Rattle.std.proofs.lemmas.List.{map-append}
 use Rattle.std.proofs.Math.Seq.{take-append-add}
 use Rattle.wasm_syntax.specs.declared.module.Module.{Module}
@@ -24,10 +23,8 @@ use Rattle.worker_store.specs.laws.Savepoints.{point_of}
 use Rattle.worker_store.specs.laws.Barriers.{RecordedOnce, BarrierLeavesFront, BarrierLeavesAll}
 use Rattle.worker_store.specs.laws.Barriers.{FrontStands, BarrierStands}
 use Rattle.worker_store.proofs.LawLemmas.Sectors.{worker_stays, process_image_below, contents_below}
-use Rattle.worker_store.proofs.LawLemmas.Sectors.{some_below}
-use Rattle.worker_store.proofs.LawLemmas.Sectors.{SameSector, none_later_of, head_stays}
-use Rattle.worker_store.proofs.LawLemmas.Points.{recorded_front, point_stands}
-use Rattle.worker_store.proofs.LawLemmas.Points.{is_at_its_savepoint}
+use Rattle.worker_store.proofs.LawLemmas.Sectors.{some_below, SameSector, none_later_of, head_stays}
+use Rattle.worker_store.proofs.LawLemmas.Points.{recorded_front, point_stands, is_at_its_savepoint}
 
 -- ---- records
 

@@ -14,8 +14,7 @@ use Rattle.worker_store.proofs.LawLemmas.Replacing.{commit_begins_next}
 use Rattle.worker_store.proofs.LawLemmas.Before.{filling_keeps_worker, commit_keeps_worker}
 use Rattle.worker_store.proofs.LawLemmas.Before.{replacing_begins}
 use Rattle.worker_store.proofs.LawLemmas.Creating.{zeros_keep_blank, zeros_take_super}
-use Rattle.worker_store.proofs.LawLemmas.Creating.{runs_keep_no_super}
-use Rattle.worker_store.proofs.LawLemmas.Creating.{zero_runs_await_head}
+use Rattle.worker_store.proofs.LawLemmas.Creating.{runs_keep_no_super, zero_runs_await_head}
 use Rattle.worker_store.proofs.LawLemmas.Creating.{filling_awaits_head, first_commit_keeps_no_super}
 use Rattle.worker_store.proofs.LawLemmas.Creating.{first_commit_awaits_super, super_begins}
 use Rattle.worker_store.proofs.LawLemmas.Creating.{whole_super_begins}

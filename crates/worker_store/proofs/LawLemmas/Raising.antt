@@ -15,10 +15,8 @@ use Rattle.wasi_abi.specs.declared.call.Call.{Call}
 use Rattle.wasi_abi.specs.rules.Configs.{Settings}
 use Rattle.wasi_calls_rules.specs.Checks.{Ruling}
 use Rattle.process_rules.specs.Processes.{ProcessState, Guest}
-use Rattle.process_rules.specs.Runs.{Kept, Given, Wider, Succeeds, Next, Wants, On}
-use Rattle.process_rules.specs.Runs.{after_call_rule}
-use Rattle.process_rules.specs.Runs.{after_call}
-use Rattle.process_rules.specs.Runs.{after_counted_step, next_of, Runs, Reaches}
+use Rattle.process_rules.specs.Runs.{Kept, Given, Wider, Succeeds, Next, Wants, On, after_call_rule}
+use Rattle.process_rules.specs.Runs.{after_call, after_counted_step, next_of, Runs, Reaches}
 use Rattle.process_rules.specs.Runs.{none as no_step, step, take as takes, widen, succeed}
 use Rattle.process_rules.specs.Behind.{IsNarrowTo, AnswersBehindLine, AnswersBehindSync, Syncs}
 use Rattle.process_rules.specs.Owing.{RunsQuietly, none, more}
@@ -34,8 +32,7 @@ use Rattle.record_replay.proofs.Recordings.{recorded_runs, recorded_join}
 use Rattle.worker_store.specs.restart_theorem.Lives.{Act, Reply, Ended, kept_of_said}
 use Rattle.worker_store.specs.restart_theorem.Promises.{Promise, after, saved_by, synced_by}
 use Rattle.worker_store.proofs.RestartLemmas.Fronts.{LeadsOn, fronts_lead_on, reached_counts}
-use Rattle.worker_store.proofs.RestartLemmas.Fronts.{none_widens}
-use Rattle.worker_store.proofs.RestartLemmas.Fronts.{up_to_behind, said_widens_none}
+use Rattle.worker_store.proofs.RestartLemmas.Fronts.{none_widens, up_to_behind, said_widens_none}
 use Rattle.worker_store.specs.rules.Carried.{answers_at, count_at, IsCarried, SyncsAreHeld}
 use Rattle.worker_store.specs.rules.Savepoints.{Savepoint}
 use Rattle.worker_store.specs.laws.Raised.{AllSyncsAreHeld, QuietSyncsAreHeld, AnsweredSyncsAreHeld}

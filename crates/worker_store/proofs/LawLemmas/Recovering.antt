@@ -1,7 +1,6 @@
 -- A worker that is recovered, and opens.
 use Rattle.std.proofs.Common.{◌≡◌, ◌⊎◌, ℕ, ◌+◌, ◌<◌, ◌≤◌, max, List, [], length, take, drop, refl}
-use Rattle.std.proofs.Common.{sym}
-use Rattle.std.proofs.Common.{ap, ◌∙◌, subst, inr, ⊎_elim, arith}
+use Rattle.std.proofs.Common.{sym, ap, ◌∙◌, subst, inr, ⊎_elim, arith}
 use Rattle.std.specs.Prelude.{map}
 use Rattle.std.proofs.lemmas.Bool.{cases_lt}
 use Rattle.std.proofs.lemmas.List.{append-nil, length-take-le, take-take}
@@ -9,7 +8,7 @@ use Rattle.wasm_syntax.specs.declared.module.Module.{Module}
 use Rattle.wasi_abi.specs.rules.Configs.{Settings}
 use Rattle.process_rules.specs.Processes.{ProcessState, Guest}
 use Rattle.process_rules.specs.Runs.{Kept, Runs, Reaches}
-use Rattle.process_rules.specs.Behind.{AnswersBehindLine}
+use Rattle.process_rules.specs.Behind.{AnswersBehindLine, IsNarrowTo}
 use Rattle.process_rules.proofs.Quiet.{runs_join}
 use Rattle.state_image.specs.rules.ProcessImage.{Saved}
 use Rattle.sector_disk.specs.rules.DiskImage.{DiskImage}
@@ -18,7 +17,6 @@ use Rattle.sector_disk.proofs.Moments.{leaves_weaker}
 use Rattle.disk_layout.specs.rules.Journal.{Record}
 use Rattle.record_replay.specs.rules.Records.{Recorded, given_in}
 use Rattle.record_replay.proofs.Recordings.{recorded_runs}
-use Rattle.process_rules.specs.Behind.{IsNarrowTo}
 use Rattle.worker_store.proofs.RestartLemmas.Fronts.{reached_counts, up_to_front}
 use Rattle.worker_store.specs.restart_theorem.Lives.{Opened}
 use Rattle.worker_store.specs.restart_theorem.Promises.{Promise, after, HoldsAll}
@@ -29,8 +27,7 @@ use Rattle.worker_store.specs.rules.Carried.{answers_at, count_at, IsHeldAt}
 use Rattle.worker_store.specs.laws.Recovered.{RetoldIsHeld, RecoveryOpens}
 use Rattle.worker_store.proofs.LawLemmas.Points.{by_point}
 use Rattle.worker_store.proofs.LawLemmas.Carrying.{held_at_holds_promise, less_is_held}
-use Rattle.worker_store.proofs.LawLemmas.Carrying.{next_is_held}
-use Rattle.worker_store.proofs.LawLemmas.Carrying.{opening_is_held, answers_count}
+use Rattle.worker_store.proofs.LawLemmas.Carrying.{next_is_held, opening_is_held, answers_count}
 
 -- ---- lines
 

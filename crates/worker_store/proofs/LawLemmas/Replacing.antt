@@ -7,8 +7,7 @@ use Rattle.wasi_abi.specs.rules.Configs.{Settings}
 use Rattle.process_rules.specs.Processes.{ProcessState}
 use Rattle.state_image.specs.rules.ProcessImage.{process_image}
 use Rattle.sector_disk.specs.rules.DiskImage.{DiskImage, sector_at}
-use Rattle.disk_layout.specs.rules.Places.{Geometry, geometry_of, head_place}
-use Rattle.disk_layout.specs.rules.Places.{journal_place}
+use Rattle.disk_layout.specs.rules.Places.{Geometry, geometry_of, head_place, journal_place}
 use Rattle.disk_layout.specs.rules.Sectors.{Head, HasWorker, IsNewest, shown_generation}
 use Rattle.disk_layout.specs.rules.Journal.{Record}
 use Rattle.wasi_abi.specs.rules.Versions.{version_number}
@@ -22,8 +21,7 @@ use Rattle.worker_store.specs.rules.Savepoints.{Savepoint, places, IsAtSavepoint
 use Rattle.worker_store.specs.rules.Savepoints.{IsNextPoint}
 use Rattle.worker_store.specs.laws.Commits.{NewPointBegins, PointIsReady, FillingKeepsPoint}
 use Rattle.worker_store.specs.laws.Commits.{CommitLeavesOneOfTwo, CommitBeginsNext}
-use Rattle.worker_store.proofs.LawLemmas.Sectors.{SameSector, worker_stays}
-use Rattle.worker_store.proofs.LawLemmas.Sectors.{none_later_of}
+use Rattle.worker_store.proofs.LawLemmas.Sectors.{SameSector, worker_stays, none_later_of}
 use Rattle.worker_store.proofs.LawLemmas.Sectors.{none_after_of}
 use Rattle.journal.proofs.HeldLemmas.{holds_still, holds_none_of_later}
 

@@ -152,7 +152,8 @@ module _ {D : Type 0} (medium : D → Medium) where
   module _ (m : Module) (config : Settings) (promise : Promise) (act : Act) (more : List Kept)
       (shown : Saved) (point next : Savepoint m config) (journal : JournalState)
       (records pending : List Record) (last now : ProcessState) (old new : D)
-      (is : IsSavingAt promise act more shown point next journal records pending last now
+      (is : IsSavingAt promise act more shown point next (records ++ pending) now)
+      (carried : IsCarried (keeping_more promise more) point journal records pending last now
       (medium old))
       (leaves : LeavesOnly (medium old) (medium new)
       (IsAtFrontOrNext point next records last pending)) where
@@ -168,7 +169,7 @@ module _ {D : Type 0} (medium : D → Medium) where
         long
         (saved_is_held m config promise act more next saves
         (next_held m config (keeping_more promise more) point next journal records pending more last
-        now old is.carried is.front) is.all))
+        now old carried is.front) is.all))
 
     done_moments : LeavesOnly (medium old) (medium new)
         (DiskImageHolds m config promise (promise_saved promise act more shown))
@@ -183,7 +184,7 @@ module _ {D : Type 0} (medium : D → Medium) where
         (after (keeping_more promise more) (Ended Checkpoint Done n shown))) leaves
         (λ disk at. inr (held_on m config promise more n shown disk
         (saved_holds m config (keeping_more promise more) point next journal records pending more
-        last now old is.carried is.front disk at))))
+        last now old carried is.front disk at))))
 
     failed_carries : (cause : Cause) (held : ℕ)
         → SyncsAreHeld m config (promise.kept ++ more) (count_at point records)
@@ -205,7 +206,7 @@ module _ {D : Type 0} (medium : D → Medium) where
           synced = le-max_right _ promise.synced;
         })
         (ended_carries medium m config (keeping_more promise more) point journal records pending
-        last now Checkpoint (Fails cause) held shown old is.carried refl (λ count. refl) syncs)
+        last now Checkpoint (Fails cause) held shown old carried refl (λ count. refl) syncs)
         (record {
           front = front.front;
           kept = front.kept;
@@ -217,14 +218,14 @@ module _ {D : Type 0} (medium : D → Medium) where
 
   pub done_saves_carry : DoneSavesCarry medium
   done_saves_carry m config promise act more shown point next journal records pending last now old
-      new is leaves stands =
+      new is carried leaves stands =
       let held : IsHeldAt (promise_saved promise act more shown) next [] next.process =
       done_held m config promise act more shown point next journal records pending last now old new
-      is leaves in
+      is carried leaves in
       record {
         carries = record {
           at_any_moment = done_moments m config promise act more shown point next journal records
-              pending last now old new is leaves;
+              pending last now old new is carried leaves;
           in_the_end = λ disk crashed. inr (held_at_holds_promise m config
               (promise_saved promise act more shown) next [] next.process disk held
               (stands disk crashed));
@@ -234,6 +235,6 @@ module _ {D : Type 0} (medium : D → Medium) where
 
   pub failed_saves_carry : FailedSavesCarry medium
   failed_saves_carry m config promise act more shown cause held point next journal records pending
-      last now old new is syncs leaves =
+      last now old new is carried syncs leaves =
       failed_carries m config promise act more shown point next journal records pending last now old
-      new is leaves cause held syncs
+      new is carried leaves cause held syncs

@@ -16,7 +16,7 @@ use Rattle.worker_store.specs.restart_theorem.Courses.{Stage, Phase, Broken, fir
 use Rattle.worker_store.specs.restart_theorem.Courses.{next_stage}
 use Rattle.worker_store.specs.restart_theorem.Promises.{Promise, heard_by, after, IsTelling}
 use Rattle.worker_store.specs.restart_theorem.Exchanges.{was_taken, release_of, none, told}
-use Rattle.worker_store.specs.laws.Underway.{IsUnderWay, IsBroken, HasLinesLeft}
+use Rattle.worker_store.specs.laws.Underway.{IsUnderWay, IsBroken, HasLinesLeft, standstill}
 use Rattle.worker_store.specs.rules.BetweenCalls.{IsForetold}
 use Rattle.worker_store.specs.laws.Telling.{AddsLines, ArePerformed, AllLinesAreTold}
 use Rattle.worker_store.specs.laws.Telling.{LinesAreToldInVain, LeftLinesAreTold}
@@ -147,7 +147,7 @@ record CanTell (m : Module) (config : Settings) (guest : Guest) (act : Act) (p :
   breaks : (promise : Promise) (stage : Stage) (told : ℕ) (r : Release)
       → HasTold promise stage told → r.number ≤ length p.host.lines
       → IsBroken m config guest (after promise (Told r false)) (next_stage stage (Told r false)) act
-      (length promise.kept) p (Broken OfOutlet)
+      (standstill (length promise.kept) p (Broken OfOutlet))
 
 module _ (m : Module) (config : Settings) (guest : Guest) (act : Act) (p : ProcessState)
     (HasTold : Promise → Stage → ℕ → Type 0) (can : CanTell m config guest act p HasTold) where
@@ -211,8 +211,8 @@ module _ (m : Module) (config : Settings) (guest : Guest) (act : Act) (p : Proce
       → IsForetold stage (map Tells (until number last first line))
       → (made : ArePerformed m config promise stage (length p.host.lines)
       (map Tells (until number last first line)))
-      × IsBroken m config guest made.promise' made.stage' act (length promise.kept) p
-      (Broken OfOutlet)
+      × IsBroken m config guest made.promise' made.stage' act
+      (standstill (length promise.kept) p (Broken OfOutlet))
   told_until promise stage place [] others line number last same at way is foretold =
       let next = is_next p.host.lines others line place is in
       let inside : place < length p.host.lines =

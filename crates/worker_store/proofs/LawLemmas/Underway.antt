@@ -1,7 +1,6 @@
 -- A worker in the middle of an act that takes steps: its steps, its lines and its questions.
-use Rattle.std.proofs.Common.{◌≡◌, ℕ, ◌+◌, ◌≤◌, ◌<◌, Bool, true, false, List, [], ◌∷◌}
-use Rattle.std.proofs.Common.{◌++◌, length, take, refl, sym, ap, ◌∙◌, subst, arith}
-use Rattle.std.proofs.Common.{Option, Some, None, Ok, Err}
+use Rattle.std.proofs.Common.{◌≡◌, ℕ, ◌+◌, ◌≤◌, ◌<◌, Bool, true, false, List, [], ◌∷◌, ◌++◌, length}
+use Rattle.std.proofs.Common.{take, refl, sym, ap, ◌∙◌, subst, arith, Option, Some, None, Ok, Err}
 use Rattle.std.specs.Prelude.{slice_get}
 use Rattle.std.proofs.Math.Nat.{le-max_left}
 use Rattle.std.proofs.Math.Seq.{take-length, take-append_seam}
@@ -17,25 +16,21 @@ use Rattle.process_rules.specs.Runs.{Kept, Given, Runs, none, take as takes, Rea
 use Rattle.process_rules.proofs.Quiet.{runs_join}
 use Rattle.process_rules.proofs.Growing.{runs_count, runs_emit, move_counts, move_emits}
 use Rattle.worker_store.specs.restart_theorem.Lives.{Act, Slice, Batch, Checkpoint, Upgrade}
-use Rattle.worker_store.specs.restart_theorem.Lives.{SourceSaid}
-use Rattle.worker_store.specs.restart_theorem.Lives.{Release, Told, Asked}
-use Rattle.worker_store.specs.restart_theorem.Lives.{OfOutlet, kept_of_said}
+use Rattle.worker_store.specs.restart_theorem.Lives.{SourceSaid, Release, Told, Asked, OfOutlet}
+use Rattle.worker_store.specs.restart_theorem.Lives.{kept_of_said}
 use Rattle.worker_store.specs.restart_theorem.Courses.{Phase, Shut, Unheard, Open, NoneThere}
-use Rattle.worker_store.specs.restart_theorem.Courses.{Broken, Closed}
-use Rattle.worker_store.specs.restart_theorem.Courses.{Stage, next_stage, first_taken, phase_asked}
-use Rattle.worker_store.specs.restart_theorem.Courses.{HasLastAsked}
+use Rattle.worker_store.specs.restart_theorem.Courses.{Broken, Closed, Stage, next_stage}
+use Rattle.worker_store.specs.restart_theorem.Courses.{first_taken, phase_asked, HasLastAsked}
 use Rattle.worker_store.specs.restart_theorem.Courses.{phase_refused, IsToldIn, IsAskedIn}
-use Rattle.worker_store.specs.restart_theorem.Courses.{ComesAfter, AreToldBy}
-use Rattle.worker_store.specs.restart_theorem.Courses.{IsWithinSlice}
+use Rattle.worker_store.specs.restart_theorem.Courses.{ComesAfter, AreToldBy, IsWithinSlice}
 use Rattle.worker_store.specs.restart_theorem.Promises.{Promise, after, fuel_of, IsOneOf, IsTelling}
 use Rattle.worker_store.proofs.RestartLemmas.LastQuestions.{told_late}
 use Rattle.worker_store.specs.laws.Acts.{TakesSteps, most_held}
-use Rattle.worker_store.specs.laws.Underway.{IsInItsSlice, IsAtQuestion, HasLinesLeft}
-use Rattle.worker_store.specs.laws.Underway.{IsBroken, LinesAreLeft, LeftIsBroken}
-use Rattle.worker_store.specs.laws.Underway.{StepsGoOn, LinesAreTold, TakenLinesGoOn}
-use Rattle.worker_store.specs.laws.Underway.{RefusedLinesBreak, QuestionsAreAsked, AnswersGoOn}
-use Rattle.worker_store.specs.laws.Underway.{AnswersAreKept, OtherAnswersBreak}
-use Rattle.worker_store.specs.laws.Underway.{promise_asked, stage_asked}
+use Rattle.worker_store.specs.laws.Underway.{IsInItsSlice, IsAtQuestion, HasLinesLeft, IsBroken}
+use Rattle.worker_store.specs.laws.Underway.{standstill, LinesAreLeft, LeftIsBroken, StepsGoOn}
+use Rattle.worker_store.specs.laws.Underway.{LinesAreTold, TakenLinesGoOn, RefusedLinesBreak}
+use Rattle.worker_store.specs.laws.Underway.{QuestionsAreAsked, AnswersGoOn, AnswersAreKept}
+use Rattle.worker_store.specs.laws.Underway.{OtherAnswersBreak, promise_asked, stage_asked}
 use Rattle.worker_store.proofs.LawLemmas.Raising.{up_to_end}
 
 -- a last line of this number is among as many lines
@@ -423,7 +418,7 @@ module _ (m : Module) (config : Settings) (guest : Guest) where
       (p : ProcessState) (r : Release) → HasLinesLeft m config guest promise stage act told p
       → r.number ≤ length p.host.lines
       → IsBroken m config guest (after promise (Told r false)) (next_stage stage (Told r false)) act
-      (length promise.kept) p (Broken OfOutlet)
+      (standstill (length promise.kept) p (Broken OfOutlet))
   refused_lines_break_off promise stage act told p r left among = record {
     in_slice = still_in promise (after promise (Told r false)) stage
         (next_stage stage (Told r false)) act (length promise.kept) p refl

@@ -11,8 +11,7 @@ use Rattle.process_rules.specs.Runs.{Kept, Given, Next, Wants, next_of, LeadsTo,
 use Rattle.process_rules.specs.Runs.{Reaches, none, step, take as takes, widen, succeed}
 use Rattle.process_rules.proofs.Growing.{runs_count}
 use Rattle.worker_store.specs.restart_theorem.Lives.{Reply, Over, Spent, Waits, Done, Fails, Event}
-use Rattle.worker_store.specs.restart_theorem.Lives.{Told, Asked}
-use Rattle.worker_store.specs.restart_theorem.Lives.{Opened, Ended}
+use Rattle.worker_store.specs.restart_theorem.Lives.{Told, Asked, Opened, Ended}
 use Rattle.worker_store.specs.restart_theorem.Courses.{Stage, abreast_by, next_stage, stage_after}
 use Rattle.worker_store.specs.restart_theorem.Promises.{Promise, promised, after, AreKept}
 use Rattle.worker_store.specs.restart_theorem.Promises.{TakesLast}

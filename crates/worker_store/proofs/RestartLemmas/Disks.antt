@@ -36,13 +36,11 @@ use Rattle.record_replay.specs.rules.Records.{none as no_record, more, given_in}
 use Rattle.record_replay.proofs.Recordings.{recorded_runs}
 use Rattle.worker_store.specs.restart_theorem.Stands.{ShowsNoneLater, StandsFor}
 use Rattle.worker_store.specs.restart_theorem.laws.Disks.{StandsForWhatIsReached, RecordsAscend}
-use Rattle.worker_store.specs.restart_theorem.laws.Disks.{StandsByItsParts}
-use Rattle.worker_store.specs.restart_theorem.laws.Disks.{BlankStandsForNone, NoLaterProcessImage}
-use Rattle.worker_store.specs.restart_theorem.laws.Disks.{NoLaterSector, NoLaterRecord}
-use Rattle.worker_store.specs.restart_theorem.laws.Disks.{OneGeneration, tiny, tiny_disk}
-use Rattle.worker_store.specs.restart_theorem.laws.Disks.{DiskExamples}
-use Rattle.worker_store.specs.restart_theorem.laws.Disks.{OneSpelledWorker, StandsWithin}
-use Rattle.worker_store.specs.restart_theorem.laws.Disks.{BlankIsWithin}
+use Rattle.worker_store.specs.restart_theorem.laws.Disks.{StandsByItsParts, BlankStandsForNone}
+use Rattle.worker_store.specs.restart_theorem.laws.Disks.{NoLaterProcessImage, NoLaterSector}
+use Rattle.worker_store.specs.restart_theorem.laws.Disks.{NoLaterRecord, OneGeneration, tiny}
+use Rattle.worker_store.specs.restart_theorem.laws.Disks.{tiny_disk, DiskExamples, OneSpelledWorker}
+use Rattle.worker_store.specs.restart_theorem.laws.Disks.{StandsWithin, BlankIsWithin}
 use Rattle.worker_store.specs.restart_theorem.laws.Disks.{HeadsTellWidenings}
 use Rattle.worker_store.specs.restart_theorem.laws.Copies.{StandsByItsContents}
 

@@ -5,8 +5,7 @@ use Rattle.wasi_abi.specs.rules.Configs.{Settings}
 use Rattle.worker_store.specs.restart_theorem.Lives.{Cause, OfDisk, OfOutlet}
 use Rattle.worker_store.specs.restart_theorem.Courses.{Phase, Shut, Open}
 use Rattle.worker_store.specs.restart_theorem.laws.Examples.{LivesExamples, PromiseExamples}
-use Rattle.worker_store.specs.restart_theorem.laws.Examples.{CourseExamples}
-use Rattle.worker_store.specs.restart_theorem.laws.Examples.{ReplyExamples}
+use Rattle.worker_store.specs.restart_theorem.laws.Examples.{CourseExamples, ReplyExamples}
 
 pub lives_examples : LivesExamples
 lives_examples = record {

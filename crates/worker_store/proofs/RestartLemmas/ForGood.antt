@@ -4,12 +4,9 @@ use Rattle.std.specs.Prelude.{max}
 use Rattle.wasm_syntax.specs.declared.module.Module.{Module}
 use Rattle.wasi_abi.specs.rules.Configs.{Settings}
 use Rattle.process_rules.specs.Behind.{AnswersBehindSync}
-use Rattle.worker_store.specs.restart_theorem.Lives.{Reply, Spent, Waits, Over, Done}
-use Rattle.worker_store.specs.restart_theorem.Lives.{Fails}
-use Rattle.worker_store.specs.restart_theorem.Lives.{Event, Told, Asked, Opened, Ended}
-use Rattle.worker_store.specs.restart_theorem.Lives.{kept_of_said}
-use Rattle.worker_store.specs.restart_theorem.Promises.{Promise, after, promised}
-use Rattle.worker_store.specs.restart_theorem.Promises.{synced_by}
+use Rattle.worker_store.specs.restart_theorem.Lives.{Reply, Spent, Waits, Over, Done, Fails, Event}
+use Rattle.worker_store.specs.restart_theorem.Lives.{Told, Asked, Opened, Ended, kept_of_said}
+use Rattle.worker_store.specs.restart_theorem.Promises.{Promise, after, promised, synced_by}
 use Rattle.worker_store.specs.restart_theorem.laws.Laws.{OpenWith, HasReturned, TellBeyond}
 use Rattle.worker_store.proofs.RestartLemmas.Fronts.{said_widens_none}
 use Rattle.worker_store.proofs.RestartLemmas.Widenings.{behind_more, sync_at_end}

@@ -61,9 +61,6 @@ others (x ∷ kept) = kept
 same_answer : (a b : Answer) → Given a ≡ Given b → a ≡ b
 same_answer a b e = cc
 
-same_widening : (x y : ℕ) → Wider x ≡ Wider y → x ≡ y
-same_widening x y e = cc
-
 same_origin : (x y : Origin) → Succeeds x ≡ Succeeds y → x ≡ y
 same_origin x y e = cc
 

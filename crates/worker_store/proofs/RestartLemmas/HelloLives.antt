@@ -22,20 +22,16 @@ use Rattle.worker_store.specs.restart_theorem.Lives.{Act, Slice, Checkpoint, Inp
 use Rattle.worker_store.specs.restart_theorem.Lives.{Told, Opened}
 use Rattle.worker_store.specs.restart_theorem.Lives.{Ended, Beginning, Recovers, Creates}
 use Rattle.worker_store.specs.restart_theorem.Courses.{Stage, Open, at_first, at_beginning}
-use Rattle.worker_store.specs.restart_theorem.Courses.{next_stage}
-use Rattle.worker_store.specs.restart_theorem.Courses.{IsNextAct}
+use Rattle.worker_store.specs.restart_theorem.Courses.{next_stage, IsNextAct}
 use Rattle.worker_store.specs.restart_theorem.Promises.{Promise, nothing_yet, after, promised_by}
-use Rattle.worker_store.specs.restart_theorem.Promises.{HoldsAll}
-use Rattle.worker_store.specs.restart_theorem.Promises.{IsKept, IsLived}
+use Rattle.worker_store.specs.restart_theorem.Promises.{HoldsAll, IsKept, IsLived}
 use Rattle.worker_store.specs.restart_theorem.laws.Refused.{in_peace, creation_begun}
 use Rattle.worker_store.specs.restart_theorem.laws.WholeLives.{hi_told, hello_first, hello_last}
-use Rattle.worker_store.specs.restart_theorem.laws.WholeLives.{cut_inputs}
-use Rattle.worker_store.specs.restart_theorem.laws.WholeLives.{cut_life, last_inputs, last_life}
-use Rattle.worker_store.specs.restart_theorem.laws.WholeLives.{ended_inputs}
-use Rattle.worker_store.specs.restart_theorem.laws.WholeLives.{ended_life, HelloLives}
+use Rattle.worker_store.specs.restart_theorem.laws.WholeLives.{cut_inputs, cut_life, last_inputs}
+use Rattle.worker_store.specs.restart_theorem.laws.WholeLives.{last_life, ended_inputs, ended_life}
+use Rattle.worker_store.specs.restart_theorem.laws.WholeLives.{HelloLives}
 use Rattle.worker_store.proofs.RestartLemmas.Fronts.{OneLeadsOn, fronts_lead_on, one_line}
-use Rattle.worker_store.proofs.RestartLemmas.Fronts.{front_of_none}
-use Rattle.worker_store.proofs.RestartLemmas.Fronts.{none_widens}
+use Rattle.worker_store.proofs.RestartLemmas.Fronts.{front_of_none, none_widens}
 use Rattle.worker_store.proofs.RestartLemmas.Honesty.{never}
 use Rattle.worker_store.proofs.RestartLemmas.HelloShown.{at_first_step, at_last_step}
 

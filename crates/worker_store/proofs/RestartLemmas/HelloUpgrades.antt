@@ -8,27 +8,21 @@ use Rattle.process_rules.specs.Runs.{Wider}
 use Rattle.process_rules.specs.Behind.{AnswersBehindLine}
 use Rattle.disk_layout.specs.rules.Journal.{TakesRecords}
 use Rattle.worker_store.specs.restart_theorem.Lives.{Slice, Upgrade, Inputs, Over, Done, Event}
-use Rattle.worker_store.specs.restart_theorem.Lives.{Told, Opened}
-use Rattle.worker_store.specs.restart_theorem.Lives.{Checkpoint, Ended, Creates}
+use Rattle.worker_store.specs.restart_theorem.Lives.{Told, Opened, Checkpoint, Ended, Creates}
 use Rattle.worker_store.specs.restart_theorem.Courses.{Stage, at_first, at_beginning, next_stage}
 use Rattle.worker_store.specs.restart_theorem.Promises.{Promise, nothing_yet, after, promised_by}
-use Rattle.worker_store.specs.restart_theorem.Promises.{IsAt, IsKept}
-use Rattle.worker_store.specs.restart_theorem.Promises.{IsLived}
+use Rattle.worker_store.specs.restart_theorem.Promises.{IsAt, IsKept, IsLived}
 use Rattle.worker_store.specs.restart_theorem.laws.Refused.{in_peace, creation_begun}
 use Rattle.worker_store.specs.restart_theorem.laws.WholeLives.{hi_told, hello_first, hello_last}
-use Rattle.worker_store.specs.restart_theorem.laws.WholeLives.{wide_first}
-use Rattle.worker_store.specs.restart_theorem.laws.WholeLives.{wide_last, early_upgrade}
-use Rattle.worker_store.specs.restart_theorem.laws.WholeLives.{opened_wide}
-use Rattle.worker_store.specs.restart_theorem.laws.WholeLives.{late_upgrade, ended_wide}
-use Rattle.worker_store.specs.restart_theorem.laws.WholeLives.{saved_inputs}
-use Rattle.worker_store.specs.restart_theorem.laws.WholeLives.{saved_life, found_ended}
-use Rattle.worker_store.specs.restart_theorem.laws.WholeLives.{HelloUpgrades}
+use Rattle.worker_store.specs.restart_theorem.laws.WholeLives.{wide_first, wide_last, early_upgrade}
+use Rattle.worker_store.specs.restart_theorem.laws.WholeLives.{opened_wide, late_upgrade}
+use Rattle.worker_store.specs.restart_theorem.laws.WholeLives.{ended_wide, saved_inputs, saved_life}
+use Rattle.worker_store.specs.restart_theorem.laws.WholeLives.{found_ended, HelloUpgrades}
 use Rattle.worker_store.proofs.RestartLemmas.Widenings.{widened_at}
 use Rattle.worker_store.proofs.RestartLemmas.Honesty.{never}
 use Rattle.worker_store.proofs.RestartLemmas.HelloShown.{at_first_step, at_last_step}
 use Rattle.worker_store.proofs.RestartLemmas.HelloLives.{hello_at_end, begins, given, tells}
-use Rattle.worker_store.proofs.RestartLemmas.HelloLives.{ended_event}
-use Rattle.worker_store.proofs.RestartLemmas.HelloLives.{ends_slice, holds}
+use Rattle.worker_store.proofs.RestartLemmas.HelloLives.{ended_event, ends_slice, holds}
 
 module _ (config : Settings) (pages : 1 ≤ config.pages) (few : config.pages ≤ 2 ^ 16)
     (room : TakesRecords Two config.journal) where

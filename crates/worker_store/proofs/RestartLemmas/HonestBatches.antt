@@ -10,22 +10,18 @@ use Rattle.record_replay.specs.declared.fault.SourceFault.{SourceFault}
 use Rattle.worker_store.specs.restart_theorem.Lives.{Batch, SourceSaid, Inputs, Spent, Creates}
 use Rattle.worker_store.specs.restart_theorem.Lives.{Event, Told, Asked, Ended, kept_of_said}
 use Rattle.worker_store.specs.restart_theorem.Courses.{Stage, NoneThere, at_beginning, next_stage}
-use Rattle.worker_store.specs.restart_theorem.Courses.{first_said}
-use Rattle.worker_store.specs.restart_theorem.Courses.{phase_asked, HasLastAsked}
+use Rattle.worker_store.specs.restart_theorem.Courses.{first_said, phase_asked, HasLastAsked}
 use Rattle.worker_store.specs.restart_theorem.Promises.{Promise, nothing_yet, after, promised_by}
 use Rattle.worker_store.specs.restart_theorem.Promises.{IsAt, HoldsAll}
 use Rattle.worker_store.specs.restart_theorem.Promises.{IsFitting, IsKept, IsLived, GoesOn}
 use Rattle.worker_store.specs.restart_theorem.laws.Refused.{creation_begun}
 use Rattle.worker_store.specs.restart_theorem.laws.Honest.{Teller, line_one, line_two}
-use Rattle.worker_store.specs.restart_theorem.laws.Honest.{both_requests}
-use Rattle.worker_store.specs.restart_theorem.laws.Honest.{asked_first, asked_second}
-use Rattle.worker_store.specs.restart_theorem.laws.Honest.{replaying_life}
-use Rattle.worker_store.specs.restart_theorem.laws.Honest.{nothing_to_do}
+use Rattle.worker_store.specs.restart_theorem.laws.Honest.{both_requests, asked_first, asked_second}
+use Rattle.worker_store.specs.restart_theorem.laws.Honest.{replaying_life, nothing_to_do}
 use Rattle.worker_store.specs.restart_theorem.laws.Batches.{SyncsNothing, batch_life, cut_batch}
 use Rattle.worker_store.specs.restart_theorem.laws.Batches.{fresh_life, answered_life}
-use Rattle.worker_store.specs.restart_theorem.laws.Batches.{waiting_batch}
-use Rattle.worker_store.specs.restart_theorem.laws.Batches.{failing_batch, cut_behind, batch_42}
-use Rattle.worker_store.specs.restart_theorem.laws.Batches.{first_request}
+use Rattle.worker_store.specs.restart_theorem.laws.Batches.{waiting_batch, failing_batch}
+use Rattle.worker_store.specs.restart_theorem.laws.Batches.{cut_behind, batch_42, first_request}
 use Rattle.worker_store.specs.restart_theorem.laws.Batches.{HonestBatches}
 use Rattle.worker_store.proofs.RestartLemmas.LastQuestions.{told_late}
 use Rattle.worker_store.proofs.RestartLemmas.Honesty.{never, behind, some, opened_first, opens}
@@ -391,12 +387,6 @@ module _ {m : Module} {config : Settings} (t : Teller m config) where
           not_passed = omega (arith, l);
           heard = refl;
         }
-
-    abbrev told_late_one : Promise
-    told_late_one = after late (Told (line_one t) true)
-
-    abbrev told_late_stage : Stage
-    told_late_stage = next_stage late_stage (Told (line_one t) true)
 
   -- and the source had none,
   waits : IsLived m config nothing_yet (batch_42 t (first_request t)) (waiting_batch t)

@@ -6,18 +6,15 @@ use Rattle.wasi_abi.specs.rules.Configs.{Settings}
 use Rattle.process_rules.specs.Runs.{Kept, Given, Wider}
 use Rattle.process_rules.specs.Behind.{AnswersBehindLine, AnswersBehindSync}
 use Rattle.worker_store.specs.restart_theorem.Lives.{Slice, Upgrade, Inputs, OfDisk, Spent, Done}
-use Rattle.worker_store.specs.restart_theorem.Lives.{Fails, Event}
-use Rattle.worker_store.specs.restart_theorem.Lives.{Told, Ended, Creates}
+use Rattle.worker_store.specs.restart_theorem.Lives.{Fails, Event, Told, Ended, Creates}
 use Rattle.worker_store.specs.restart_theorem.Courses.{Stage, at_beginning, next_stage}
 use Rattle.worker_store.specs.restart_theorem.Promises.{Promise, nothing_yet, after, promised_by}
 use Rattle.worker_store.specs.restart_theorem.Promises.{IsAt, HoldsAll}
 use Rattle.worker_store.specs.restart_theorem.Promises.{MayWiden, IsKept, IsLived, GoesOn}
 use Rattle.worker_store.specs.restart_theorem.laws.Refused.{creation_begun}
 use Rattle.worker_store.specs.restart_theorem.laws.Honest.{Teller, line_one, asked_first}
-use Rattle.worker_store.specs.restart_theorem.laws.Honest.{nothing_to_do}
-use Rattle.worker_store.specs.restart_theorem.laws.Honest.{as_upgraded}
-use Rattle.worker_store.specs.restart_theorem.laws.Honest.{Upgraded, upgraded_life, cut_upgrade}
-use Rattle.worker_store.specs.restart_theorem.laws.Honest.{wide_life}
+use Rattle.worker_store.specs.restart_theorem.laws.Honest.{nothing_to_do, as_upgraded, Upgraded}
+use Rattle.worker_store.specs.restart_theorem.laws.Honest.{upgraded_life, cut_upgrade, wide_life}
 use Rattle.worker_store.specs.restart_theorem.laws.Honest.{narrow_life, upgrade_at_20}
 use Rattle.worker_store.specs.restart_theorem.laws.Honest.{HonestUpgrades}
 use Rattle.worker_store.proofs.RestartLemmas.Fronts.{reached_counts}

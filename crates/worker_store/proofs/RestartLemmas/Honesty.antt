@@ -1,34 +1,24 @@
 -- Honest stories keep all promises.
 use Rattle.std.proofs.Common.{◌≡◌, ◌≤◌, ℕ, Bool, true, false, List, [], ◌∷◌, length, take, drop}
-use Rattle.std.proofs.Common.{max, inl, inr}
-use Rattle.std.proofs.Common.{Some, None, Ok, refl, sym, ap, ◌∙◌, subst, arith}
+use Rattle.std.proofs.Common.{max, inl, inr, Some, None, Ok, refl, sym, ap, ◌∙◌, subst, arith}
 use Rattle.wasm_syntax.specs.declared.module.Module.{Module}
 use Rattle.wasi_abi.specs.rules.Configs.{Settings}
 use Rattle.process_rules.specs.Runs.{Kept, Given, Reaches}
 use Rattle.process_rules.specs.Behind.{IsNarrowTo, AnswersBehindLine}
 use Rattle.worker_store.specs.restart_theorem.Lives.{Act, Slice, Checkpoint, Inputs, OfOutlet}
-use Rattle.worker_store.specs.restart_theorem.Lives.{Spent, Waits}
-use Rattle.worker_store.specs.restart_theorem.Lives.{Done}
-use Rattle.worker_store.specs.restart_theorem.Lives.{Fails, Event, Told, Asked, Opened, Ended}
-use Rattle.worker_store.specs.restart_theorem.Lives.{Beginning}
-use Rattle.worker_store.specs.restart_theorem.Lives.{Recovers}
-use Rattle.worker_store.specs.restart_theorem.Lives.{Creates}
+use Rattle.worker_store.specs.restart_theorem.Lives.{Spent, Waits, Done, Fails, Event, Told, Asked}
+use Rattle.worker_store.specs.restart_theorem.Lives.{Opened, Ended, Beginning, Recovers, Creates}
 use Rattle.worker_store.specs.restart_theorem.Courses.{Stage, NoneThere, at_first, at_beginning}
-use Rattle.worker_store.specs.restart_theorem.Courses.{next_stage}
-use Rattle.worker_store.specs.restart_theorem.Courses.{first_taken}
+use Rattle.worker_store.specs.restart_theorem.Courses.{next_stage, first_taken}
 use Rattle.worker_store.specs.restart_theorem.Promises.{Promise, nothing_yet, after, promised_by}
-use Rattle.worker_store.specs.restart_theorem.Promises.{IsAt, HoldsAll}
-use Rattle.worker_store.specs.restart_theorem.Promises.{IsKept, IsLived, GoesOn}
+use Rattle.worker_store.specs.restart_theorem.Promises.{IsAt, HoldsAll, IsKept, IsLived, GoesOn}
 use Rattle.worker_store.specs.restart_theorem.laws.Refused.{in_peace, creation_begun}
 use Rattle.worker_store.specs.restart_theorem.laws.Honest.{ShowsAt, Teller, line_one, line_two}
-use Rattle.worker_store.specs.restart_theorem.laws.Honest.{both_requests}
-use Rattle.worker_store.specs.restart_theorem.laws.Honest.{asked_first, asked_second, begin_life}
-use Rattle.worker_store.specs.restart_theorem.laws.Honest.{replaying_life}
-use Rattle.worker_store.specs.restart_theorem.laws.Honest.{quiet_life, cut_recovery, poor_recovery}
-use Rattle.worker_store.specs.restart_theorem.laws.Honest.{saving_life}
+use Rattle.worker_store.specs.restart_theorem.laws.Honest.{both_requests, asked_first, asked_second}
+use Rattle.worker_store.specs.restart_theorem.laws.Honest.{begin_life, replaying_life, quiet_life}
+use Rattle.worker_store.specs.restart_theorem.laws.Honest.{cut_recovery, poor_recovery, saving_life}
 use Rattle.worker_store.specs.restart_theorem.laws.Honest.{later_life, refused_life, telling_life}
-use Rattle.worker_store.specs.restart_theorem.laws.Honest.{slice_42}
-use Rattle.worker_store.specs.restart_theorem.laws.Honest.{nothing_to_do, HonestStories}
+use Rattle.worker_store.specs.restart_theorem.laws.Honest.{slice_42, nothing_to_do, HonestStories}
 
 abbrev IsRecovery : Beginning → Type 0
 IsRecovery Recovers = Unit {0}

@@ -2,10 +2,8 @@
 use Rattle.std.proofs.Common.{ℕ, List}
 use Rattle.worker_store.specs.restart_theorem.Lives.{Act}
 use Rattle.worker_store.specs.restart_theorem.Courses.{Phase, Shut, Unheard, Open, NoneThere}
-use Rattle.worker_store.specs.restart_theorem.Courses.{Broken, Closed}
-use Rattle.worker_store.specs.restart_theorem.Courses.{HasLastAsked, IsInBatch, IsWithinSlice}
-use Rattle.worker_store.specs.restart_theorem.Courses.{IsToldIn}
-use Rattle.worker_store.specs.restart_theorem.Courses.{IsAskedIn}
+use Rattle.worker_store.specs.restart_theorem.Courses.{Broken, Closed, HasLastAsked, IsInBatch}
+use Rattle.worker_store.specs.restart_theorem.Courses.{IsWithinSlice, IsToldIn, IsAskedIn}
 
 -- no question,
 pub none_asked : (phase : Phase) (acts : List Act) (step steps : ℕ) → HasLastAsked phase

@@ -7,11 +7,9 @@ use Rattle.worker_store.specs.restart_theorem.Promises.{nothing_yet, promised_by
 use Rattle.worker_store.specs.restart_theorem.Holds.{IsBounded}
 use Rattle.worker_store.specs.restart_theorem.Between.{IsFoundAfterCut, IsCutOrKilled, more}
 use Rattle.worker_store.specs.restart_theorem.laws.Found.{FoundWasCrashImage, FoundIsAsLong}
-use Rattle.worker_store.specs.restart_theorem.laws.Found.{IsSyncedAfterCut}
-use Rattle.worker_store.specs.restart_theorem.laws.Found.{IsAsItWas}
+use Rattle.worker_store.specs.restart_theorem.laws.Found.{IsSyncedAfterCut, IsAsItWas}
 use Rattle.worker_store.specs.restart_theorem.laws.Found.{FoundSyncedOrSame, NoWorkerComes}
-use Rattle.worker_store.specs.restart_theorem.laws.Found.{NextLifeFindsIt}
-use Rattle.worker_store.specs.restart_theorem.laws.Found.{NextLifeIsWithin}
+use Rattle.worker_store.specs.restart_theorem.laws.Found.{NextLifeFindsIt, NextLifeIsWithin}
 use Rattle.worker_store.specs.restart_theorem.laws.Found.{LivesGoOn, PromisedLivesGoOn}
 use Rattle.worker_store.proofs.RestartLemmas.Disks.{blank_is_within}
 

@@ -4,8 +4,7 @@ use Rattle.std.proofs.Common.{◌++◌, refl, ap, arith, length-append}
 use Rattle.std.specs.Prelude.{Ok, Err, reverse, map, slice_get}
 use Rattle.wasm_syntax.specs.declared.value.Value.{Value}
 use Rattle.wasm_rules.specs.Types.{number_in}
-use Rattle.wasm_rules.specs.Configuration.{Configuration, Thread, Outcome, Goes, Traps, Asks}
-use Rattle.wasm_rules.specs.Configuration.{Stuck}
+use Rattle.wasm_rules.specs.Configuration.{Configuration, Thread, Outcome, Goes, Traps, Asks, Stuck}
 use Rattle.wasm_rules.specs.Steps.{counted_step}
 use Rattle.wasi_abi.specs.declared.answer.Answer.{Answer}
 use Rattle.wasi_abi.specs.declared.call.Call.{Call}
@@ -21,8 +20,7 @@ use Rattle.process_rules.specs.Processes.{ProcessState, Guest, HasLineNumbers, c
 use Rattle.process_rules.specs.Origins.{Origin, succeeding}
 use Rattle.process_rules.specs.Runs.{Next, On, Over, Wants, Nowhere, after_call_rule, after_call}
 use Rattle.process_rules.specs.Runs.{after_counted_step, next_of, stepped, LeadsTo, Moves, none}
-use Rattle.process_rules.specs.Runs.{step, take}
-use Rattle.process_rules.specs.Runs.{widened, widen, succeed}
+use Rattle.process_rules.specs.Runs.{step, take, widened, widen, succeed}
 use Rattle.process_rules.proofs.Growing.{move_counts}
 use Rattle.record_replay.specs.rules.Records.{none as no_record, more as more_records}
 use Rattle.worker_store.specs.restart_theorem.Stands.{IsNumbered}

@@ -1,7 +1,6 @@
 -- Why the restart theorem refuses workers that nobody wants.
 use Rattle.std.proofs.Common.{◌≡◌, ◌≤◌, ℕ, ◌+◌, ◌^◌, Bool, true, false, List, [], ◌∷◌, length}
-use Rattle.std.proofs.Common.{⊎_elim, Option}
-use Rattle.std.proofs.Common.{Some, None, Ok, Err, refl, sym, ap, ◌∙◌, subst, arith}
+use Rattle.std.proofs.Common.{⊎_elim, Option, Some, None, Ok, Err, refl, sym, ap, ◌∙◌, subst, arith}
 use Rattle.std.proofs.lemmas.Option.{same_Some}
 use Rattle.wasm_syntax.specs.declared.module.Module.{Module}
 use Rattle.wasm_rules.specs.Validity.{IsValid}
@@ -11,30 +10,23 @@ use Rattle.process_rules.specs.Runs.{Kept, Reaches}
 use Rattle.process_rules.proofs.OneProcess.{one_process}
 use Rattle.state_image.specs.rules.ProcessImage.{Saved}
 use Rattle.worker_store.specs.restart_theorem.Lives.{Act, Slice, Batch, Checkpoint, Upgrade}
-use Rattle.worker_store.specs.restart_theorem.Lives.{SourceSaid, Cause}
-use Rattle.worker_store.specs.restart_theorem.Lives.{OfDisk, OfSource, OfAnswer, OfOutlet, OfMemory}
-use Rattle.worker_store.specs.restart_theorem.Lives.{OfBounds}
-use Rattle.worker_store.specs.restart_theorem.Lives.{OfJournal, OfLines, Reply, Spent, kept_by_end}
-use Rattle.worker_store.specs.restart_theorem.Lives.{Waits, Over, Done, Fails, Event, Told, Asked}
-use Rattle.worker_store.specs.restart_theorem.Lives.{Opened, Ended}
-use Rattle.worker_store.specs.restart_theorem.Lives.{Beginning, Creates, End, Finished, Stopped}
-use Rattle.worker_store.specs.restart_theorem.Lives.{Failed, Life}
-use Rattle.worker_store.specs.restart_theorem.Lives.{told_lines}
+use Rattle.worker_store.specs.restart_theorem.Lives.{SourceSaid, Cause, OfDisk, OfSource, OfAnswer}
+use Rattle.worker_store.specs.restart_theorem.Lives.{OfOutlet, OfMemory, OfBounds, OfJournal}
+use Rattle.worker_store.specs.restart_theorem.Lives.{OfLines, Reply, Spent, kept_by_end, Waits}
+use Rattle.worker_store.specs.restart_theorem.Lives.{Over, Done, Fails, Event, Told, Asked, Opened}
+use Rattle.worker_store.specs.restart_theorem.Lives.{Ended, Beginning, Creates, End, Finished}
+use Rattle.worker_store.specs.restart_theorem.Lives.{Stopped, Failed, Life, told_lines}
 use Rattle.worker_store.specs.restart_theorem.Courses.{Phase, Shut, Open, NoneThere, Closed, Stage}
-use Rattle.worker_store.specs.restart_theorem.Courses.{at_beginning}
-use Rattle.worker_store.specs.restart_theorem.Courses.{next_stage, stage_after, ComesAfter, IsLast}
-use Rattle.worker_store.specs.restart_theorem.Courses.{IsToldIn}
-use Rattle.worker_store.specs.restart_theorem.Courses.{IsAskedIn, AreToldBy, HasLastAsked}
-use Rattle.worker_store.specs.restart_theorem.Courses.{MayFail, MayEnd}
+use Rattle.worker_store.specs.restart_theorem.Courses.{at_beginning, next_stage, stage_after}
+use Rattle.worker_store.specs.restart_theorem.Courses.{ComesAfter, IsLast, IsToldIn, IsAskedIn}
+use Rattle.worker_store.specs.restart_theorem.Courses.{AreToldBy, HasLastAsked, MayFail, MayEnd}
 use Rattle.worker_store.specs.restart_theorem.Promises.{Promise, after, nothing_yet, fuel_of}
-use Rattle.worker_store.specs.restart_theorem.Promises.{IsKept, IsAt}
-use Rattle.worker_store.specs.restart_theorem.Promises.{promised, as_begun, MayPlead, IsReply}
-use Rattle.worker_store.specs.restart_theorem.Promises.{IsOneOf}
+use Rattle.worker_store.specs.restart_theorem.Promises.{IsKept, IsAt, promised, as_begun, MayPlead}
+use Rattle.worker_store.specs.restart_theorem.Promises.{IsReply, IsOneOf}
 use Rattle.worker_store.specs.restart_theorem.laws.Laws.{HaveOneText}
 use Rattle.worker_store.specs.restart_theorem.laws.Refused.{in_peace, created_life, recovered_life}
-use Rattle.worker_store.specs.restart_theorem.laws.Refused.{first_line}
-use Rattle.worker_store.specs.restart_theorem.laws.Refused.{IsFromOutside, source, misfit, outlet}
-use Rattle.worker_store.specs.restart_theorem.laws.Refused.{RefusedEvents}
+use Rattle.worker_store.specs.restart_theorem.laws.Refused.{first_line, IsFromOutside, source}
+use Rattle.worker_store.specs.restart_theorem.laws.Refused.{misfit, outlet, RefusedEvents}
 use Rattle.worker_store.specs.restart_theorem.laws.Refused.{RefusedWorkers, creation_begun}
 use Rattle.worker_store.proofs.RestartLemmas.Promised.{no_two_texts}
 use Rattle.worker_store.proofs.RestartLemmas.Pleas.{fails_or_open, fails_or_last}

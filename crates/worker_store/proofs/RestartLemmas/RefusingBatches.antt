@@ -1,7 +1,6 @@
 -- Why the restart theorem refuses batches that nobody wants.
-use Rattle.std.proofs.Common.{◌≡◌, ◌≢◌, ◌≤◌, ℕ, ◌+◌, ◌-◌, Bool, List}
-use Rattle.std.proofs.Common.{◌∷◌, length, Option, Some, refl, sym, ◌∙◌, subst}
-use Rattle.std.proofs.Common.{arith}
+use Rattle.std.proofs.Common.{◌≡◌, ◌≢◌, ◌≤◌, ℕ, ◌+◌, ◌-◌, Bool, List, ◌∷◌, length, Option, Some}
+use Rattle.std.proofs.Common.{refl, sym, ◌∙◌, subst, arith}
 use Rattle.std.proofs.lemmas.Option.{same_Some}
 use Rattle.wasm_syntax.specs.declared.module.Module.{Module}
 use Rattle.wasm_rules.specs.Validity.{IsValid}
@@ -12,13 +11,11 @@ use Rattle.process_rules.specs.Runs.{Reaches}
 use Rattle.process_rules.proofs.OneProcess.{one_process}
 use Rattle.state_image.specs.rules.ProcessImage.{Saved}
 use Rattle.worker_store.specs.restart_theorem.Lives.{Act, Batch, SourceSaid, Cause, OfDisk}
-use Rattle.worker_store.specs.restart_theorem.Lives.{OfSource}
-use Rattle.worker_store.specs.restart_theorem.Lives.{OfAnswer, OfOutlet, OfMemory, OfBounds}
-use Rattle.worker_store.specs.restart_theorem.Lives.{OfJournal, OfLines}
-use Rattle.worker_store.specs.restart_theorem.Lives.{Reply, Asked, Ended}
-use Rattle.worker_store.specs.restart_theorem.Courses.{Phase, Open, NoneThere, Broken}
-use Rattle.worker_store.specs.restart_theorem.Courses.{Stage, IsInBatch, IsToldIn, AreToldBy}
-use Rattle.worker_store.specs.restart_theorem.Courses.{MayFailBatch}
+use Rattle.worker_store.specs.restart_theorem.Lives.{OfSource, OfAnswer, OfOutlet, OfMemory}
+use Rattle.worker_store.specs.restart_theorem.Lives.{OfBounds, OfJournal, OfLines, Reply, Asked}
+use Rattle.worker_store.specs.restart_theorem.Lives.{Ended}
+use Rattle.worker_store.specs.restart_theorem.Courses.{Phase, Open, NoneThere, Broken, Stage}
+use Rattle.worker_store.specs.restart_theorem.Courses.{IsInBatch, IsToldIn, AreToldBy, MayFailBatch}
 use Rattle.worker_store.specs.restart_theorem.Courses.{phase_ended}
 use Rattle.worker_store.specs.restart_theorem.Promises.{Promise, IsKept, IsCaughtUp}
 use Rattle.worker_store.specs.restart_theorem.laws.Refused.{IsOfUpgrades, journal, lines}

@@ -13,21 +13,18 @@ use Rattle.process_rules.proofs.ReachedStates.{reached_versions}
 use Rattle.disk_layout.specs.rules.Journal.{TakesRecords}
 use Rattle.state_image.specs.rules.ProcessImage.{Saved}
 use Rattle.worker_store.specs.restart_theorem.Lives.{Act, Upgrade, Cause, OfDisk, OfSource}
-use Rattle.worker_store.specs.restart_theorem.Lives.{OfAnswer, OfOutlet}
-use Rattle.worker_store.specs.restart_theorem.Lives.{OfMemory, OfBounds, OfJournal, OfLines, Reply}
-use Rattle.worker_store.specs.restart_theorem.Lives.{Done, Fails}
+use Rattle.worker_store.specs.restart_theorem.Lives.{OfAnswer, OfOutlet, OfMemory, OfBounds}
+use Rattle.worker_store.specs.restart_theorem.Lives.{OfJournal, OfLines, Reply, Done, Fails}
 use Rattle.worker_store.specs.restart_theorem.Lives.{Creates, Event, Asked, Opened, Ended}
 use Rattle.worker_store.specs.restart_theorem.Lives.{kept_by_end}
 use Rattle.worker_store.specs.restart_theorem.Courses.{Phase, Open, Stage, IsToldIn, IsAskedIn}
 use Rattle.worker_store.specs.restart_theorem.Courses.{MayFail}
 use Rattle.worker_store.specs.restart_theorem.Courses.{at_beginning, next_stage, stage_after}
 use Rattle.worker_store.specs.restart_theorem.Promises.{Promise, promised, as_begun, after, IsAt}
-use Rattle.worker_store.specs.restart_theorem.Promises.{MayWiden}
-use Rattle.worker_store.specs.restart_theorem.Promises.{IsKept, AreKept}
+use Rattle.worker_store.specs.restart_theorem.Promises.{MayWiden, IsKept, AreKept}
 use Rattle.worker_store.specs.restart_theorem.laws.Refused.{IsOfUpgrades, journal, lines}
-use Rattle.worker_store.specs.restart_theorem.laws.Refused.{created_life}
-use Rattle.worker_store.specs.restart_theorem.laws.Refused.{recovered_life, RefusedUpgrades}
-use Rattle.worker_store.specs.restart_theorem.laws.Refused.{RefusedUpgraders}
+use Rattle.worker_store.specs.restart_theorem.laws.Refused.{created_life, recovered_life}
+use Rattle.worker_store.specs.restart_theorem.laws.Refused.{RefusedUpgrades, RefusedUpgraders}
 use Rattle.worker_store.proofs.RestartLemmas.Abreast.{at_its_end, stays_abreast, kept_behind}
 use Rattle.worker_store.proofs.RestartLemmas.Refusing.{within_fuel}
 use Rattle.worker_store.proofs.RestartLemmas.StaysForGood.{upgrades_for_good}

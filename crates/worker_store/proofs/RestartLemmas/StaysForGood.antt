@@ -5,9 +5,8 @@ use Rattle.wasi_abi.specs.declared.version.Version.TheVariants.{Two}
 use Rattle.wasi_abi.specs.rules.Configs.{Settings}
 use Rattle.process_rules.specs.Behind.{AnswersBehindSync}
 use Rattle.state_image.specs.rules.ProcessImage.{Saved}
-use Rattle.worker_store.specs.restart_theorem.Lives.{Act, Checkpoint, Upgrade, Reply, Done}
-use Rattle.worker_store.specs.restart_theorem.Lives.{Event, Opened, Ended, Life, events_of}
-use Rattle.worker_store.specs.restart_theorem.Lives.{kept_after}
+use Rattle.worker_store.specs.restart_theorem.Lives.{Act, Checkpoint, Upgrade, Reply, Done, Event}
+use Rattle.worker_store.specs.restart_theorem.Lives.{Opened, Ended, Life, events_of, kept_after}
 use Rattle.worker_store.specs.restart_theorem.Promises.{Promise, nothing_yet, after, promised}
 use Rattle.worker_store.specs.restart_theorem.laws.ForGood.{StaysForGood, WhatIsForGood}
 use Rattle.worker_store.specs.restart_theorem.laws.Laws.{HasReturned, OpenWith, OpeningsAreForGood}

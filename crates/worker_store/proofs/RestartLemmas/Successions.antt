@@ -27,19 +27,16 @@ use Rattle.worker_store.specs.restart_theorem.Promises.{Promise, after, promised
 use Rattle.worker_store.specs.restart_theorem.Promises.{promised_by, heard_by, GoOn}
 use Rattle.worker_store.specs.restart_theorem.Successions.{promised_by_all, IsAtRest, IsLeft}
 use Rattle.worker_store.specs.restart_theorem.Successions.{promised_from, HasNumber, IsFirstNumber}
-use Rattle.worker_store.specs.restart_theorem.Successions.{LeaveNoneOut}
-use Rattle.worker_store.specs.restart_theorem.Successions.{alone, followed}
+use Rattle.worker_store.specs.restart_theorem.Successions.{LeaveNoneOut, alone, followed}
 use Rattle.worker_store.specs.restart_theorem.laws.Laws.{HasOneText, HaveOneText, TellBeyond}
 use Rattle.worker_store.specs.restart_theorem.laws.Successions.{SuccessorsGoOn, Succession}
 use Rattle.worker_store.specs.restart_theorem.laws.Successions.{IsWholeHistory, SuccessiveTellAll}
 use Rattle.worker_store.proofs.RestartLemmas.Abreast.{wants_no_step}
 use Rattle.worker_store.proofs.RestartLemmas.ForGood.{tells_beyond}
-use Rattle.worker_store.proofs.RestartLemmas.Fronts.{LeadsOn, fronts_lead_on}
-use Rattle.worker_store.proofs.RestartLemmas.Fronts.{reached_counts}
+use Rattle.worker_store.proofs.RestartLemmas.Fronts.{LeadsOn, fronts_lead_on, reached_counts}
 use Rattle.worker_store.proofs.RestartLemmas.NextLives.{lives_on}
 use Rattle.worker_store.proofs.RestartLemmas.Promised.{AreKeptSomewhere, but_for_count}
-use Rattle.worker_store.proofs.RestartLemmas.Promised.{lives_kept_from}
-use Rattle.worker_store.proofs.RestartLemmas.Promised.{one_text}
+use Rattle.worker_store.proofs.RestartLemmas.Promised.{lives_kept_from, one_text}
 
 -- ---- promises after lives, read off their events
 

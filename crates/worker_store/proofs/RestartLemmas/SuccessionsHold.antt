@@ -7,8 +7,7 @@ use Rattle.wasi_calls_rules.specs.WasiStates.{Line}
 use Rattle.process_rules.specs.Processes.{ProcessState, Guest, Ending, Exited}
 use Rattle.process_rules.specs.Runs.{Next, Wants, Nowhere, next_of}
 use Rattle.worker_store.specs.restart_theorem.Successions.{IsAtRest, HasNumber, LeaveNoneOut}
-use Rattle.worker_store.specs.restart_theorem.laws.SuccessionExamples.{letter_line}
-use Rattle.worker_store.specs.restart_theorem.laws.SuccessionExamples.{two_lines}
+use Rattle.worker_store.specs.restart_theorem.laws.SuccessionExamples.{letter_line, two_lines}
 use Rattle.worker_store.specs.restart_theorem.laws.SuccessionExamples.{SuccessionExamples}
 use Rattle.worker_store.specs.restart_theorem.laws.SuccessionExamples.{RestExamples}
 use Rattle.worker_store.specs.restart_theorem.laws.SuccessionExamples.{HistoryExamples}

@@ -20,8 +20,7 @@ use Rattle.process_rules.proofs.SucceedingHolds.{hello_goes_on}
 use Rattle.state_image.specs.rules.ProcessImage.{SavedShowsProcess}
 use Rattle.worker_store.specs.restart_theorem.Lives.{Act, Slice, Checkpoint, Inputs, Over}
 use Rattle.worker_store.specs.restart_theorem.Lives.{Told, Opened, Ended}
-use Rattle.worker_store.specs.restart_theorem.Courses.{Stage, Open, at_first, next_stage}
-use Rattle.worker_store.specs.restart_theorem.Courses.{IsNextAct}
+use Rattle.worker_store.specs.restart_theorem.Courses.{Stage, Open, at_first, next_stage, IsNextAct}
 use Rattle.worker_store.specs.restart_theorem.Promises.{Promise, after, promised_by, HoldsAll, IsAt}
 use Rattle.worker_store.specs.restart_theorem.Promises.{IsKept, IsLived}
 use Rattle.worker_store.specs.restart_theorem.Successions.{promised_from}

@@ -9,22 +9,19 @@ use Rattle.wasi_abi.specs.rules.Configs.{Settings}
 use Rattle.process_rules.specs.Runs.{Kept, version_after}
 use Rattle.state_image.specs.rules.ProcessImage.{Saved}
 use Rattle.worker_store.specs.restart_theorem.Lives.{Act, Slice, Batch, Checkpoint, Upgrade}
-use Rattle.worker_store.specs.restart_theorem.Lives.{SourceSaid, Reply}
-use Rattle.worker_store.specs.restart_theorem.Lives.{Spent, Waits, Over, Done, Fails, Cause, Event}
-use Rattle.worker_store.specs.restart_theorem.Lives.{Told, Asked}
-use Rattle.worker_store.specs.restart_theorem.Lives.{Opened, Ended, kept_of_said, kept_by_end}
+use Rattle.worker_store.specs.restart_theorem.Lives.{SourceSaid, Reply, Spent, Waits, Over, Done}
+use Rattle.worker_store.specs.restart_theorem.Lives.{Fails, Cause, Event, Told, Asked, Opened}
+use Rattle.worker_store.specs.restart_theorem.Lives.{Ended, kept_of_said, kept_by_end}
 use Rattle.worker_store.specs.restart_theorem.Courses.{Stage, Open, Closed, phase_ended}
-use Rattle.worker_store.specs.restart_theorem.Promises.{Promise, after, promised}
-use Rattle.worker_store.specs.restart_theorem.Promises.{saved_by, IsAt}
+use Rattle.worker_store.specs.restart_theorem.Promises.{Promise, after, promised, saved_by, IsAt}
 use Rattle.worker_store.specs.restart_theorem.Promises.{IsReply, IsCaughtUp}
 use Rattle.worker_store.specs.restart_theorem.laws.Upgrades.{UpgradeNone, ShowOne}
 use Rattle.worker_store.specs.restart_theorem.laws.Upgrades.{OpenInTwo, EndInTwo}
 use Rattle.worker_store.proofs.RestartLemmas.Promised.{IsKeptSomewhere, AreKeptSomewhere}
 use Rattle.worker_store.proofs.RestartLemmas.Widenings.{wide_cut, wide_longer, wide_whole}
-use Rattle.worker_store.proofs.RestartLemmas.Widenings.{wide_more}
-use Rattle.worker_store.proofs.RestartLemmas.Widenings.{narrow_front, narrow_more, at_version}
-use Rattle.worker_store.proofs.RestartLemmas.Widenings.{AddsWidening}
-use Rattle.worker_store.proofs.RestartLemmas.Widenings.{end_keeps, one_is_not_two}
+use Rattle.worker_store.proofs.RestartLemmas.Widenings.{wide_more, narrow_front, narrow_more}
+use Rattle.worker_store.proofs.RestartLemmas.Widenings.{at_version, AddsWidening, end_keeps}
+use Rattle.worker_store.proofs.RestartLemmas.Widenings.{one_is_not_two}
 
 -- ---- until an upgrade ends
 

@@ -1,7 +1,6 @@
 -- What an upgrade adds to what is kept.
 use Rattle.std.proofs.Common.{◌≡◌, ◌≢◌, ◌⊎◌, inl, inr, ⊎_elim, ℕ, zero, suc, ◌+◌, ◌<◌, ◌≤◌, List}
-use Rattle.std.proofs.Common.{[]}
-use Rattle.std.proofs.Common.{◌∷◌, ◌++◌, length, take, drop, Some, refl, sym, ap, ◌∙◌, subst}
+use Rattle.std.proofs.Common.{[], ◌∷◌, ◌++◌, length, take, drop, Some, refl, sym, ap, ◌∙◌, subst}
 use Rattle.std.proofs.Common.{arith, length-append, take_all}
 use Rattle.std.proofs.lemmas.List.{take-append-le}
 use Rattle.std.proofs.Math.Seq.{take-length}
@@ -22,14 +21,12 @@ use Rattle.process_rules.proofs.ReachedStates.{reached_versions}
 use Rattle.process_rules.proofs.Quiet.{runs_join}
 use Rattle.state_image.specs.rules.ProcessImage.{Saved}
 use Rattle.worker_store.specs.restart_theorem.Lives.{Act, Slice, Batch, Checkpoint, Upgrade, Reply}
-use Rattle.worker_store.specs.restart_theorem.Lives.{kept_by_widening}
-use Rattle.worker_store.specs.restart_theorem.Lives.{kept_by_end}
+use Rattle.worker_store.specs.restart_theorem.Lives.{kept_by_widening, kept_by_end}
 use Rattle.worker_store.specs.restart_theorem.Courses.{Stage}
 use Rattle.worker_store.specs.restart_theorem.Promises.{Promise, IsAt, MayWiden, IsEnding}
 use Rattle.worker_store.specs.restart_theorem.laws.Upgrades.{IsWidened, EndsWidenOnce}
 use Rattle.worker_store.proofs.RestartLemmas.Fronts.{fronts_lead_on, reached_counts, line_stays}
-use Rattle.worker_store.proofs.RestartLemmas.Fronts.{line_of_more}
-use Rattle.worker_store.proofs.RestartLemmas.Fronts.{up_to_behind}
+use Rattle.worker_store.proofs.RestartLemmas.Fronts.{line_of_more, up_to_behind}
 
 -- ---- versions of what is kept
 

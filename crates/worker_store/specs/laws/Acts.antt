@@ -6,8 +6,7 @@ use Rattle.process_rules.specs.Runs.{Kept, Wider, version_after}
 use Rattle.process_rules.specs.Behind.{IsNarrowTo}
 use Rattle.state_image.specs.rules.ProcessImage.{Saved}
 use Rattle.worker_store.specs.restart_theorem.Lives.{Act, Slice, Batch, Checkpoint, Upgrade, Reply}
-use Rattle.worker_store.specs.restart_theorem.Lives.{Cause}
-use Rattle.worker_store.specs.restart_theorem.Lives.{Ended}
+use Rattle.worker_store.specs.restart_theorem.Lives.{Cause, Ended}
 use Rattle.worker_store.specs.restart_theorem.Courses.{Stage, Open, MayFail}
 use Rattle.worker_store.specs.restart_theorem.Promises.{Promise, after, MayPlead}
 

@@ -13,15 +13,14 @@ use Rattle.process_rules.specs.Runs.{Kept, Runs}
 use Rattle.process.specs.rules.Stops.{IsBeyond}
 use Rattle.disk_layout.specs.rules.Journal.{TakesRecords}
 use Rattle.state_image.specs.rules.ProcessImage.{Saved, SavedShowsProcess}
-use Rattle.worker_store.specs.restart_theorem.Lives.{Act, Reply, Spent, Waits, Over, Done}
-use Rattle.worker_store.specs.restart_theorem.Lives.{Fails, Cause, OfDisk, OfBounds, Ended}
-use Rattle.worker_store.specs.restart_theorem.Lives.{kept_by_end}
+use Rattle.worker_store.specs.restart_theorem.Lives.{Act, Reply, Spent, Waits, Over, Done, Fails}
+use Rattle.worker_store.specs.restart_theorem.Lives.{Cause, OfDisk, OfBounds, Ended, kept_by_end}
 use Rattle.worker_store.specs.restart_theorem.Courses.{Stage, Phase, Open, NoneThere, MayFail}
 use Rattle.worker_store.specs.restart_theorem.Courses.{next_stage}
 use Rattle.worker_store.specs.restart_theorem.Courses.{IsInBatch, HasLastAsked, phase_ended}
 use Rattle.worker_store.specs.restart_theorem.Promises.{Promise, after, fuel_of, MayPlead, IsEnding}
 use Rattle.worker_store.specs.laws.Acts.{TakesSteps, SavesWith, ShowsItsVersion}
-use Rattle.worker_store.specs.laws.Underway.{IsUnderWay, IsBroken}
+use Rattle.worker_store.specs.laws.Underway.{IsUnderWay, IsBroken, standstill}
 use Rattle.worker_store.specs.rules.BetweenCalls.{IsBetween}
 
 -- A process comes to another one by these, without a step and without a line.
@@ -29,6 +28,16 @@ pub record ComesAtOnce (guest : Guest) (p : ProcessState) (more : List Kept) (q 
     : Type 0 where
   pub runs : Runs guest p more 0 q
   pub lines : length q.host.lines ≡ length p.host.lines
+
+-- what an act saves: the answers that it keeps besides, the process, and how that is shown
+pub record Saving : Type 0 where
+  pub more : List Kept
+  pub process : ProcessState
+  pub shown : Saved
+
+-- of these
+abbrev pub saving : List Kept → ProcessState → Saved → Saving
+saving more process shown = record { more = more; process = process; shown = shown }
 
 module _ (m : Module) (config : Settings) (guest : Guest) where
   -- this is the process as it is saved
@@ -72,7 +81,8 @@ module _ (m : Module) (config : Settings) (guest : Guest) where
   abbrev pub WaitingSlicesEnd : Type 0
   WaitingSlicesEnd =
       (promise : Promise) (stage : Stage) (act : Act) (p : ProcessState) (shown : Saved)
-      → IsBroken m config guest promise stage act (length promise.kept) p (NoneThere p.steps)
+      → IsBroken m config guest promise stage act
+      (standstill (length promise.kept) p (NoneThere p.steps))
       → IsSavedAs p shown → stage.line ≡ Some (length p.host.lines) → p.ended ≡ None
       → p.steps < stage.step + fuel_of act
       → IsEnding m config promise stage (record {
@@ -94,7 +104,7 @@ module _ (m : Module) (config : Settings) (guest : Guest) where
   FailedSlicesEnd =
       (promise : Promise) (stage : Stage) (act : Act) (held : ℕ) (p : ProcessState) (shown : Saved)
       (phase : Phase) (cause : Cause)
-      → IsBroken m config guest promise stage act held p phase → IsSavedAs p shown
+      → IsBroken m config guest promise stage act (standstill held p phase) → IsSavedAs p shown
       → MayFail phase cause → HasBound promise p cause
       → IsEnding m config promise stage (record {
         act = act;
@@ -107,8 +117,8 @@ module _ (m : Module) (config : Settings) (guest : Guest) where
   abbrev pub LateFaultsEnd : Type 0
   LateFaultsEnd =
       (promise : Promise) (stage : Stage) (act : Act) (held : ℕ) (p : ProcessState) (shown : Saved)
-      → IsBroken m config guest promise stage act held p stage.phase → IsSavedAs p shown
-      → IsInBatch stage.acts → HasLastAsked stage.phase
+      → IsBroken m config guest promise stage act (standstill held p stage.phase)
+      → IsSavedAs p shown → IsInBatch stage.acts → HasLastAsked stage.phase
       → IsEnding m config promise stage (record {
         act = act;
         reply = Fails OfDisk;
@@ -121,21 +131,22 @@ module _ (m : Module) (config : Settings) (guest : Guest) where
   -- An act that saves is next, and this is the process that it saves. No sync of the guest has
   -- returned beyond it. If what is kept besides widens it, the journal takes each record of version
   -- 2.
-  pub record IsSavingNext (promise : Promise) (stage : Stage) (act : Act) (more : List Kept)
-      (p q : ProcessState) (shown : Saved) : Type 0 where
+  pub record IsSavingNext (promise : Promise) (stage : Stage) (act : Act) (p : ProcessState)
+      (next : Saving) : Type 0 where
     pub between : IsBetween m config guest promise stage p
-    pub comes : ComesAtOnce guest p more q
-    pub saved : IsSavedAs q shown
-    pub saves : SavesWith promise act more shown
+    pub comes : ComesAtOnce guest p next.more next.process
+    pub saved : IsSavedAs next.process next.shown
+    pub saves : SavesWith promise act next.more next.shown
     pub acts : List Act
     pub is_next : stage.acts ≡ act ∷ acts
     pub synced : promise.synced ≤ p.steps
-    pub room : kept_by_end act shown promise.kept ≢ promise.kept → TakesRecords Two config.journal
+    pub room : kept_by_end act next.shown promise.kept ≢ promise.kept
+        → TakesRecords Two config.journal
 
   abbrev pub DoneSavesEnd : Type 0
   DoneSavesEnd =
       (promise : Promise) (stage : Stage) (act : Act) (more : List Kept) (p q : ProcessState)
-      (shown : Saved) → IsSavingNext promise stage act more p q shown
+      (shown : Saved) → IsSavingNext promise stage act p (saving more q shown)
       → ShowsItsVersion act shown
       → IsEnding m config promise stage (record {
         act = act;
@@ -147,7 +158,7 @@ module _ (m : Module) (config : Settings) (guest : Guest) where
   abbrev pub FailedSavesEnd : Type 0
   FailedSavesEnd =
       (promise : Promise) (stage : Stage) (act : Act) (more : List Kept) (p q : ProcessState)
-      (shown : Saved) (cause : Cause) → IsSavingNext promise stage act more p q shown
+      (shown : Saved) (cause : Cause) → IsSavingNext promise stage act p (saving more q shown)
       → MayPlead config (promise.kept ++ more) stage act cause → HasBound promise q cause
       → IsEnding m config promise stage (record {
         act = act;

@@ -15,8 +15,7 @@ use Rattle.worker_store.specs.restart_theorem.Lives.{Act, Done, Opened, Ended}
 use Rattle.worker_store.specs.restart_theorem.Courses.{Stage, Shut, IsLast}
 use Rattle.worker_store.specs.restart_theorem.Promises.{Promise, after, IsAt, TakesLast, IsOpening}
 use Rattle.worker_store.specs.restart_theorem.Holds.{HoldsPromise, IsNothingYet, DiskImageHolds}
-use Rattle.worker_store.specs.restart_theorem.Holds.{KeepsPromise}
-use Rattle.worker_store.specs.restart_theorem.Holds.{CarriesPromise}
+use Rattle.worker_store.specs.restart_theorem.Holds.{KeepsPromise, CarriesPromise}
 use Rattle.worker_store.specs.rules.Savepoints.{Savepoint, IsAtSavepoint, IsAtFront, BeginsAtPoint}
 use Rattle.worker_store.specs.rules.Savepoints.{IsJournaled}
 use Rattle.worker_store.specs.laws.Savepoints.{point_of}

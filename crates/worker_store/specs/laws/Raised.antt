@@ -1,7 +1,6 @@
 -- What events make of a promise that a worker's disk holds.
 use Rattle.std.specs.Prelude.{◌≡◌, ℕ, ◌+◌, ◌-◌, ◌≤◌, Bool, true, List, [], ◌∷◌, ◌++◌, length, None}
-use Rattle.std.specs.Prelude.{Some, Ok}
-use Rattle.std.specs.Prelude.{Option}
+use Rattle.std.specs.Prelude.{Some, Ok, Option}
 use Rattle.wasm_syntax.specs.declared.module.Module.{Module}
 use Rattle.wasm_rules.specs.Validity.{IsValid}
 use Rattle.wasi_abi.specs.declared.answer.Question.{Question}
@@ -15,8 +14,7 @@ use Rattle.sector_disk.specs.rules.Medium.{Medium}
 use Rattle.disk_layout.specs.rules.Journal.{Record}
 use Rattle.journal.specs.rules.State.{JournalState}
 use Rattle.worker_store.specs.restart_theorem.Lives.{Act, Reply, Release, SourceSaid, Told, Asked}
-use Rattle.worker_store.specs.restart_theorem.Lives.{Ended}
-use Rattle.worker_store.specs.restart_theorem.Lives.{kept_of_said, kept_by_end}
+use Rattle.worker_store.specs.restart_theorem.Lives.{Ended, kept_of_said, kept_by_end}
 use Rattle.worker_store.specs.restart_theorem.Promises.{Promise, after, saved_by, synced_by}
 use Rattle.worker_store.specs.rules.Savepoints.{Savepoint, IsJournaled}
 use Rattle.worker_store.specs.rules.Carried.{count_at, IsCarried, AreOnRecord, SyncsAreHeld}

@@ -12,8 +12,7 @@ use Rattle.record_replay.specs.rules.Calls.{Tells, all_taken, last_refused}
 use Rattle.state_image.specs.rules.ProcessImage.{Saved}
 use Rattle.worker_store.specs.restart_theorem.Lives.{Inputs, Opened, Creates}
 use Rattle.worker_store.specs.restart_theorem.Courses.{Stage, Shut, Unheard, at_beginning}
-use Rattle.worker_store.specs.restart_theorem.Courses.{next_stage}
-use Rattle.worker_store.specs.restart_theorem.Courses.{IsLast}
+use Rattle.worker_store.specs.restart_theorem.Courses.{next_stage, IsLast}
 use Rattle.worker_store.specs.restart_theorem.Promises.{Promise, after, HoldsAll, TakesLast}
 use Rattle.worker_store.specs.restart_theorem.Promises.{IsOpening}
 use Rattle.worker_store.specs.restart_theorem.Holds.{IsNothingYet}

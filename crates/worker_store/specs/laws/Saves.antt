@@ -43,15 +43,14 @@ SaveCarries {D} medium =
 -- ---- by an act
 
 -- An act saves the process shown, which is that of the next savepoint. That has all that is kept
--- then. What was promised is held on the disk, these being kept besides.
+-- then: these besides what was promised. The records of the last savepoint lead to the process now.
 pub record IsSavingAt {m : Module} {config : Settings} (promise : Promise) (act : Act)
-    (more : List Kept) (shown : Saved) (point next : Savepoint m config) (journal : JournalState)
-    (records pending : List Record) (last now : ProcessState) (disk : Medium) : Type 0 where
+    (more : List Kept) (shown : Saved) (point next : Savepoint m config) (records : List Record)
+    (now : ProcessState) : Type 0 where
   pub saves : SavesWith promise act more shown
   pub saved : next.saved ≡ shown
   pub all : next.front ≡ promise.kept ++ more
-  pub front : SavesFront (keeping_more promise more) point next (records ++ pending) more now
-  pub carried : IsCarried (keeping_more promise more) point journal records pending last now disk
+  pub front : SavesFront (keeping_more promise more) point next records more now
 
 -- what an act that is done promises of a worker whose process is shown
 abbrev pub promise_saved : Promise → Act → List Kept → Saved → Promise
@@ -65,12 +64,14 @@ pub record IsSavedBy {m : Module} {config : Settings} (promise : Promise) (act :
   pub carries : CarriesPromise m config promise (promise_saved promise act more shown) old new
   pub held : IsHeldAt (promise_saved promise act more shown) next [] next.process
 
+-- So it is after an act whose worker was carried, with what is kept besides.
 abbrev pub DoneSavesCarry : {D : Type 0} → (D → Medium) → Type 0
 DoneSavesCarry {D} medium =
     (m : Module) (config : Settings) (promise : Promise) (act : Act) (more : List Kept)
     (shown : Saved) (point next : Savepoint m config) (journal : JournalState)
     (records pending : List Record) (last now : ProcessState) (old new : D)
-    → IsSavingAt promise act more shown point next journal records pending last now (medium old)
+    → IsSavingAt promise act more shown point next (records ++ pending) now
+    → IsCarried (keeping_more promise more) point journal records pending last now (medium old)
     → LeavesOnly (medium old) (medium new) (IsAtFrontOrNext point next records last pending)
     → LeavesAll (medium new) (IsAtSavepoint next [] next.process)
     → IsSavedBy promise act more shown next (medium old) (medium new)
@@ -82,8 +83,8 @@ FailedSavesCarry {D} medium =
     (m : Module) (config : Settings) (promise : Promise) (act : Act) (more : List Kept)
     (shown : Saved) (cause : Cause) (held : ℕ) (point next : Savepoint m config)
     (journal : JournalState) (records pending : List Record) (last now : ProcessState)
-    (old new : D)
-    → IsSavingAt promise act more shown point next journal records pending last now (medium old)
+    (old new : D) → IsSavingAt promise act more shown point next (records ++ pending) now
+    → IsCarried (keeping_more promise more) point journal records pending last now (medium old)
     → SyncsAreHeld m config (promise.kept ++ more) (count_at point records)
     (synced_by (Fails cause) shown.steps)
     → LeavesOnly (medium old) (medium new) (IsAtFrontOrNext point next records last pending)

@@ -8,7 +8,7 @@ use Rattle.record_replay.specs.rules.Calls.{Exchange, Tells, all_taken, last_ref
 use Rattle.worker_store.specs.restart_theorem.Lives.{Act, OfOutlet}
 use Rattle.worker_store.specs.restart_theorem.Courses.{Stage, Broken}
 use Rattle.worker_store.specs.restart_theorem.Promises.{Promise}
-use Rattle.worker_store.specs.laws.Underway.{IsUnderWay, IsBroken, HasLinesLeft}
+use Rattle.worker_store.specs.laws.Underway.{IsUnderWay, IsBroken, HasLinesLeft, standstill}
 use Rattle.worker_store.specs.rules.BetweenCalls.{IsForetold}
 use Rattle.worker_store.specs.laws.Pieces.{AreDone}
 
@@ -55,8 +55,8 @@ module _ (m : Module) (config : Settings) (guest : Guest) where
       → IsForetold stage (map Tells (last_refused (suc told) first line))
       → (made : ArePerformed m config promise stage (length p.host.lines)
       (map Tells (last_refused (suc told) first line)))
-      × IsBroken m config guest made.promise' made.stage' act (length promise.kept) p
-      (Broken OfOutlet)
+      × IsBroken m config guest made.promise' made.stage' act
+      (standstill (length promise.kept) p (Broken OfOutlet))
 
   -- Lines that wait behind the last question of a batch are told, and the outlet takes them.
   abbrev pub LeftLinesAreTold : Type 0
@@ -80,5 +80,5 @@ module _ (m : Module) (config : Settings) (guest : Guest) where
       → IsForetold stage (map Tells (last_refused (suc told) first line))
       → (made : ArePerformed m config promise stage (length p.host.lines)
       (map Tells (last_refused (suc told) first line)))
-      × IsBroken m config guest made.promise' made.stage' act (length promise.kept) p
-      (Broken OfOutlet)
+      × IsBroken m config guest made.promise' made.stage' act
+      (standstill (length promise.kept) p (Broken OfOutlet))

@@ -14,14 +14,22 @@ use Rattle.record_replay.specs.declared.fault.SourceFault.{SourceFault}
 use Rattle.worker_store.specs.restart_theorem.Lives.{Act, SourceSaid, Release, Told, Asked}
 use Rattle.worker_store.specs.restart_theorem.Lives.{OfSource, OfAnswer, OfOutlet}
 use Rattle.worker_store.specs.restart_theorem.Courses.{Stage, Phase, Open, NoneThere, Broken}
-use Rattle.worker_store.specs.restart_theorem.Courses.{next_stage}
-use Rattle.worker_store.specs.restart_theorem.Courses.{first_said, first_taken, phase_asked}
-use Rattle.worker_store.specs.restart_theorem.Courses.{HasLastAsked}
-use Rattle.worker_store.specs.restart_theorem.Courses.{IsInBatch}
+use Rattle.worker_store.specs.restart_theorem.Courses.{next_stage, first_said, first_taken}
+use Rattle.worker_store.specs.restart_theorem.Courses.{phase_asked, HasLastAsked, IsInBatch}
 use Rattle.worker_store.specs.restart_theorem.Promises.{Promise, after, IsTelling, IsInquiring}
-use Rattle.worker_store.specs.restart_theorem.Promises.{IsFitting}
-use Rattle.worker_store.specs.restart_theorem.Promises.{IsOneOf, fuel_of}
+use Rattle.worker_store.specs.restart_theorem.Promises.{IsFitting, IsOneOf, fuel_of}
 use Rattle.worker_store.specs.laws.Acts.{TakesSteps, most_held}
+
+-- where a call stands once something from outside has failed it: how many of the kept answers its
+-- process has taken, that process, and the phase of the life
+pub record Standstill : Type 0 where
+  pub held : ℕ
+  pub process : ProcessState
+  pub phase : Phase
+
+-- of these
+abbrev pub standstill : ℕ → ProcessState → Phase → Standstill
+standstill held process phase = record { held = held; process = process; phase = phase }
 
 module _ (m : Module) (config : Settings) (guest : Guest) where
   -- The module's process has taken the first so many of the kept answers. The act has come to its
@@ -61,11 +69,11 @@ module _ (m : Module) (config : Settings) (guest : Guest) where
 
   -- Something from outside has failed the call, and the process is where it was. It has emitted
   -- each line that was told.
-  pub record IsBroken (promise : Promise) (stage : Stage) (act : Act) (held : ℕ) (p : ProcessState)
-      (phase : Phase) : Type 0 where
-    pub in_slice : IsInItsSlice promise stage act held p
-    pub is : stage.phase ≡ phase
-    pub told : IsOneOf stage.line (length p.host.lines)
+  pub record IsBroken (promise : Promise) (stage : Stage) (act : Act) (at : Standstill)
+      : Type 0 where
+    pub in_slice : IsInItsSlice promise stage act at.held at.process
+    pub is : stage.phase ≡ at.phase
+    pub told : IsOneOf stage.line (length at.process.host.lines)
 
   -- ---- steps
 
@@ -100,7 +108,7 @@ module _ (m : Module) (config : Settings) (guest : Guest) where
       (promise : Promise) (stage : Stage) (act : Act) (told : ℕ) (p : ProcessState) (r : Release)
       → IsUnderWay promise stage act told p → r.number ≤ length p.host.lines
       → IsBroken (after promise (Told r false)) (next_stage stage (Told r false)) act
-      (length promise.kept) p (Broken OfOutlet)
+      (standstill (length promise.kept) p (Broken OfOutlet))
 
   -- ---- questions
 
@@ -149,21 +157,23 @@ module _ (m : Module) (config : Settings) (guest : Guest) where
       (promise : Promise) (stage : Stage) (act : Act) (p : ProcessState) (question : Question)
       (a : Answer) → IsAtQuestion promise stage act p question
       → IsBroken (promise_asked promise p question (Ok (Some a)) true)
-      (stage_asked stage p question (Ok (Some a)) true) act (length promise.kept) p Open
+      (stage_asked stage p question (Ok (Some a)) true) act
+      (standstill (length promise.kept) p Open)
 
   -- After any other the process is where it was: one that doesn't fit, none, or a fault.
   pub record OthersBreak (promise : Promise) (stage : Stage) (act : Act) (p : ProcessState)
       (question : Question) : Type 0 where
     pub misfit : (a : Answer)
         → IsBroken (promise_asked promise p question (Ok (Some a)) false)
-        (stage_asked stage p question (Ok (Some a)) false) act (length promise.kept) p
-        (Broken OfAnswer)
+        (stage_asked stage p question (Ok (Some a)) false) act
+        (standstill (length promise.kept) p (Broken OfAnswer))
     pub none_there : (fits : Bool) → IsBroken (promise_asked promise p question (Ok None) fits)
-        (stage_asked stage p question (Ok None) fits) act (length promise.kept) p
-        (NoneThere p.steps)
+        (stage_asked stage p question (Ok None) fits) act
+        (standstill (length promise.kept) p (NoneThere p.steps))
     pub fault : (e : SourceFault) (fits : Bool)
         → IsBroken (promise_asked promise p question (Err e) fits)
-        (stage_asked stage p question (Err e) fits) act (length promise.kept) p (Broken OfSource)
+        (stage_asked stage p question (Err e) fits) act
+        (standstill (length promise.kept) p (Broken OfSource))
 
   abbrev pub OtherAnswersBreak : Type 0
   OtherAnswersBreak =
@@ -184,4 +194,4 @@ module _ (m : Module) (config : Settings) (guest : Guest) where
   LeftIsBroken =
       (promise : Promise) (stage : Stage) (act : Act) (told : ℕ) (p : ProcessState)
       → HasLinesLeft promise stage act told p
-      → IsBroken promise stage act (length promise.kept) p stage.phase
+      → IsBroken promise stage act (standstill (length promise.kept) p stage.phase)

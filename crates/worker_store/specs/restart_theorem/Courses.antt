@@ -3,15 +3,11 @@ use Rattle.std.specs.Prelude.{◌≡◌, ◌⊎◌, ℕ, ◌+◌, ◌-◌, ◌<�
 use Rattle.std.specs.Prelude.{◌∷◌, Option, Some, None, is_some, Ok, Err}
 use Rattle.wasi_abi.specs.declared.numbers.TheConstants.{NUMBERS_END}
 use Rattle.worker_store.specs.restart_theorem.Lives.{Act, Slice, Batch, Checkpoint, Upgrade}
-use Rattle.worker_store.specs.restart_theorem.Lives.{SourceSaid}
-use Rattle.worker_store.specs.restart_theorem.Lives.{Inputs}
-use Rattle.worker_store.specs.restart_theorem.Lives.{Cause, OfDisk, OfSource, OfAnswer, OfOutlet}
-use Rattle.worker_store.specs.restart_theorem.Lives.{OfMemory}
-use Rattle.worker_store.specs.restart_theorem.Lives.{OfBounds}
-use Rattle.worker_store.specs.restart_theorem.Lives.{Reply, Over, Fails, Event, Told, Asked, Opened}
-use Rattle.worker_store.specs.restart_theorem.Lives.{Ended}
-use Rattle.worker_store.specs.restart_theorem.Lives.{Beginning, Recovers, Creates}
-use Rattle.worker_store.specs.restart_theorem.Lives.{End, Finished, Stopped, Failed}
+use Rattle.worker_store.specs.restart_theorem.Lives.{SourceSaid, Inputs, Cause, OfDisk, OfSource}
+use Rattle.worker_store.specs.restart_theorem.Lives.{OfAnswer, OfOutlet, OfMemory, OfBounds, Reply}
+use Rattle.worker_store.specs.restart_theorem.Lives.{Over, Fails, Event, Told, Asked, Opened, Ended}
+use Rattle.worker_store.specs.restart_theorem.Lives.{Beginning, Recovers, Creates, End, Finished}
+use Rattle.worker_store.specs.restart_theorem.Lives.{Stopped, Failed}
 
 -- what a life is doing
 pub data Phase : Type 0 where

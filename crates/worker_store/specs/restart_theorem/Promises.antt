@@ -19,21 +19,15 @@ use Rattle.process_rules.specs.Behind.{IsNarrowTo, AnswersBehindLine, AnswersBeh
 use Rattle.disk_layout.specs.rules.Journal.{TakesRecords}
 use Rattle.state_image.specs.rules.ProcessImage.{Saved, SavedShowsProcess}
 use Rattle.worker_store.specs.restart_theorem.Lives.{Act, Slice, Batch, Checkpoint, Upgrade}
-use Rattle.worker_store.specs.restart_theorem.Lives.{SourceSaid}
-use Rattle.worker_store.specs.restart_theorem.Lives.{Inputs}
-use Rattle.worker_store.specs.restart_theorem.Lives.{Release, Cause, OfJournal, OfLines}
-use Rattle.worker_store.specs.restart_theorem.Lives.{OfBounds, Reply, Spent, Waits, Over, Done}
-use Rattle.worker_store.specs.restart_theorem.Lives.{Fails}
-use Rattle.worker_store.specs.restart_theorem.Lives.{Event, Told, Asked, Opened, Ended, Beginning}
-use Rattle.worker_store.specs.restart_theorem.Lives.{Recovers}
-use Rattle.worker_store.specs.restart_theorem.Lives.{Creates, Life}
+use Rattle.worker_store.specs.restart_theorem.Lives.{SourceSaid, Inputs, Release, Cause, OfJournal}
+use Rattle.worker_store.specs.restart_theorem.Lives.{OfLines, OfBounds, Reply, Spent, Waits, Over}
+use Rattle.worker_store.specs.restart_theorem.Lives.{Done, Fails, Event, Told, Asked, Opened, Ended}
+use Rattle.worker_store.specs.restart_theorem.Lives.{Beginning, Recovers, Creates, Life}
 use Rattle.worker_store.specs.restart_theorem.Lives.{kept_of_said, kept_by_end}
 use Rattle.worker_store.specs.restart_theorem.Courses.{Stage, Shut, Open, NoneThere, at_beginning}
-use Rattle.worker_store.specs.restart_theorem.Courses.{next_stage}
-use Rattle.worker_store.specs.restart_theorem.Courses.{stage_after, first_said, first_taken}
-use Rattle.worker_store.specs.restart_theorem.Courses.{IsToldIn, IsAskedIn}
-use Rattle.worker_store.specs.restart_theorem.Courses.{ComesAfter, IsLast, IsNextAct, AreToldBy}
-use Rattle.worker_store.specs.restart_theorem.Courses.{MayFail}
+use Rattle.worker_store.specs.restart_theorem.Courses.{next_stage, stage_after, first_said}
+use Rattle.worker_store.specs.restart_theorem.Courses.{first_taken, IsToldIn, IsAskedIn, ComesAfter}
+use Rattle.worker_store.specs.restart_theorem.Courses.{IsLast, IsNextAct, AreToldBy, MayFail}
 use Rattle.worker_store.specs.restart_theorem.Courses.{MayFailBatch, MayEnd}
 
 -- ---- the promise

@@ -5,8 +5,7 @@ use Rattle.process.specs.rules.Values.{ProcessValue}
 use Rattle.state_image.specs.rules.Saving.{saved_of}
 use Rattle.sector_disk.specs.rules.DiskImage.{DiskImage}
 use Rattle.sector_disk.specs.rules.Medium.{Medium, CallsUpTo, CountsUpTo, IsAllSynced}
-use Rattle.sector_disk.specs.rules.Medium.{PerformsCalls}
-use Rattle.sector_disk.specs.rules.Medium.{Passes}
+use Rattle.sector_disk.specs.rules.Medium.{PerformsCalls, Passes}
 use Rattle.disk_layout.specs.declared.geometry.Geometry.{Geometry}
 use Rattle.journal.specs.rules.Packed.{sectors_for}
 use Rattle.journal.specs.rules.State.{state}
@@ -14,9 +13,8 @@ use Rattle.journal.specs.rules.Steps.{barrier_calls}
 use Rattle.worker_store.specs.declared.fault.StoreFault.{StoreFault}
 use Rattle.worker_store.specs.declared.store.WorkerStore.{WorkerStore}
 use Rattle.worker_store.specs.rules.Calls.{LeavesFronts, StoresAll, BarrierFails, LeavesOneOfTwo}
-use Rattle.worker_store.specs.rules.Calls.{StoresNext, CommitCalls, CommitFails}
-use Rattle.worker_store.specs.rules.Calls.{LeavesBeforeOrNext, LeavesPointOrNext, StoresAgain}
-use Rattle.worker_store.specs.rules.Calls.{ReopeningFails}
+use Rattle.worker_store.specs.rules.Calls.{StoresNext, CommitCalls, CommitFails, LeavesBeforeOrNext}
+use Rattle.worker_store.specs.rules.Calls.{LeavesPointOrNext, StoresAgain, ReopeningFails}
 use Rattle.worker_store.specs.rules.Stores.{IsOfStore, begun_store, with_stored, failed_store}
 
 -- The records that are pending are put on the disk, and synced.

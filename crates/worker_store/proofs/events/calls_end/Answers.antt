@@ -1,8 +1,7 @@
 use Rattle.worker_store.proofs.LawLemmas.CallEnds.{spent_slices_end, ended_slices_end}
-use Rattle.worker_store.proofs.LawLemmas.CallEnds.{waiting_slices_end}
-use Rattle.worker_store.proofs.LawLemmas.CallEnds.{failed_slices_end, done_saves_end}
-use Rattle.worker_store.proofs.LawLemmas.CallEnds.{failed_saves_end}
-use Rattle.worker_store.proofs.LawLemmas.CallEnds.{slices_begin, calls_leave_between}
+use Rattle.worker_store.proofs.LawLemmas.CallEnds.{waiting_slices_end, failed_slices_end}
+use Rattle.worker_store.proofs.LawLemmas.CallEnds.{done_saves_end, failed_saves_end, slices_begin}
+use Rattle.worker_store.proofs.LawLemmas.CallEnds.{calls_leave_between}
 use Rattle.worker_store.proofs.events.calls_end.Goals as goal
 
 pub returns-clause-spent : goal.returns-clause-spent

@@ -1,6 +1,5 @@
 use Rattle.worker_store.proofs.LawLemmas.Underway.{questions_are_asked, answers_go_on}
-use Rattle.worker_store.proofs.LawLemmas.Underway.{answers_are_kept}
-use Rattle.worker_store.proofs.LawLemmas.Underway.{other_answers_break}
+use Rattle.worker_store.proofs.LawLemmas.Underway.{answers_are_kept, other_answers_break}
 use Rattle.worker_store.proofs.events.slices_ask_questions.Goals as goal
 
 pub returns-clause-asked : goal.returns-clause-asked

@@ -1,6 +1,5 @@
 use Rattle.worker_store.proofs.LawLemmas.Fronts.{recorded_once, barrier_leaves_front}
-use Rattle.worker_store.proofs.LawLemmas.Fronts.{barrier_leaves_all}
-use Rattle.worker_store.proofs.LawLemmas.Fronts.{front_stands, barrier_stands}
+use Rattle.worker_store.proofs.LawLemmas.Fronts.{barrier_leaves_all, front_stands, barrier_stands}
 use Rattle.worker_store.proofs.laws.barriers_leave_fronts.Goals as goal
 
 pub returns-clause-recorded : goal.returns-clause-recorded

@@ -1,7 +1,6 @@
 use Rattle.worker_store.proofs.LawLemmas.Creating.{no_super_is_blank, zeros_keep_blank}
-use Rattle.worker_store.proofs.LawLemmas.Creating.{zeros_take_super}
-use Rattle.worker_store.proofs.LawLemmas.Creating.{runs_keep_no_super, zeros_await_head}
-use Rattle.worker_store.proofs.LawLemmas.Creating.{zero_runs_await_head}
+use Rattle.worker_store.proofs.LawLemmas.Creating.{zeros_take_super, runs_keep_no_super}
+use Rattle.worker_store.proofs.LawLemmas.Creating.{zeros_await_head, zero_runs_await_head}
 use Rattle.worker_store.proofs.LawLemmas.Creating.{filling_awaits_head, first_commit_keeps_no_super}
 use Rattle.worker_store.proofs.laws.creations_begin_blank.Goals as goal
 

@@ -1,6 +1,5 @@
 use Rattle.worker_store.proofs.LawLemmas.Points.{is_at_its_savepoint, point_stands}
-use Rattle.worker_store.proofs.LawLemmas.Points.{point_stands_alone}
-use Rattle.worker_store.proofs.LawLemmas.Points.{read_alike_is_at_savepoint}
+use Rattle.worker_store.proofs.LawLemmas.Points.{point_stands_alone, read_alike_is_at_savepoint}
 use Rattle.worker_store.proofs.laws.disks_are_at_savepoints.Goals as goal
 
 pub returns-clause-point : goal.returns-clause-point

@@ -1,9 +1,7 @@
 use Rattle.worker_store.proofs.LawLemmas.Carrying.{carried_keeps, barrier_carries}
-use Rattle.worker_store.proofs.LawLemmas.Carrying.{barrier_carries_on}
-use Rattle.worker_store.proofs.LawLemmas.Carrying.{commit_carries, savepoint_carries}
-use Rattle.worker_store.proofs.LawLemmas.Carrying.{creation_carries}
-use Rattle.worker_store.proofs.LawLemmas.Carrying.{begins_carried}
-use Rattle.worker_store.proofs.LawLemmas.Carrying.{stays_carried}
+use Rattle.worker_store.proofs.LawLemmas.Carrying.{barrier_carries_on, commit_carries}
+use Rattle.worker_store.proofs.LawLemmas.Carrying.{savepoint_carries, creation_carries}
+use Rattle.worker_store.proofs.LawLemmas.Carrying.{begins_carried, stays_carried}
 use Rattle.worker_store.proofs.laws.disks_carry_promises.Goals as goal
 
 pub returns-clause-keeps : goal.returns-clause-keeps

@@ -1,7 +1,6 @@
 use Rattle.worker_store.proofs.LawLemmas.Reading.{reads_the_module, finds_the_point}
-use Rattle.worker_store.proofs.LawLemmas.Reading.{reads_the_point}
-use Rattle.worker_store.proofs.LawLemmas.Reading.{reads_undamaged, finds_newest_point}
-use Rattle.worker_store.proofs.LawLemmas.Reading.{holds_the_records}
+use Rattle.worker_store.proofs.LawLemmas.Reading.{reads_the_point, reads_undamaged}
+use Rattle.worker_store.proofs.LawLemmas.Reading.{finds_newest_point, holds_the_records}
 use Rattle.worker_store.proofs.laws.disks_give_what_they_stand_by.Goals as goal
 
 pub returns-clause-module_read : goal.returns-clause-module_read

@@ -1,6 +1,5 @@
 use Rattle.worker_store.proofs.LawLemmas.Keeping.{barrier_at_any_moment, barrier_in_the_end}
-use Rattle.worker_store.proofs.LawLemmas.Keeping.{append_goes_on}
-use Rattle.worker_store.proofs.LawLemmas.Keeping.{stays_journaled, begins_journaled}
+use Rattle.worker_store.proofs.LawLemmas.Keeping.{append_goes_on, stays_journaled, begins_journaled}
 use Rattle.worker_store.proofs.laws.journals_carry_workers.Goals as goal
 
 pub returns-clause-barrier : goal.returns-clause-barrier

@@ -1,10 +1,7 @@
 use Rattle.worker_store.proofs.LawLemmas.Carrying.{held_at_holds_promise, promise_is_held_at}
-use Rattle.worker_store.proofs.LawLemmas.Carrying.{less_is_held}
-use Rattle.worker_store.proofs.LawLemmas.Carrying.{next_is_held}
-use Rattle.worker_store.proofs.LawLemmas.Carrying.{fresh_is_held, saved_is_held}
-use Rattle.worker_store.proofs.LawLemmas.Carrying.{opening_is_held}
-use Rattle.worker_store.proofs.LawLemmas.Carrying.{point_is_at, point_opens}
-use Rattle.worker_store.proofs.LawLemmas.Carrying.{marked_is_held, blank_is_unopened}
+use Rattle.worker_store.proofs.LawLemmas.Carrying.{less_is_held, next_is_held, fresh_is_held}
+use Rattle.worker_store.proofs.LawLemmas.Carrying.{saved_is_held, opening_is_held, point_is_at}
+use Rattle.worker_store.proofs.LawLemmas.Carrying.{point_opens, marked_is_held, blank_is_unopened}
 use Rattle.worker_store.proofs.laws.savepoints_hold_promises.Goals as goal
 
 pub returns-clause-stands : goal.returns-clause-stands

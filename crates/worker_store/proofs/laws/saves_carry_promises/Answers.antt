@@ -1,8 +1,7 @@
-use Rattle.worker_store.proofs.LawLemmas.Saving.{save_at_any_moment, save_carries}
-use Rattle.worker_store.proofs.LawLemmas.Saving.{done_saves_carry, failed_saves_carry}
+use Rattle.worker_store.proofs.LawLemmas.Saving.{save_at_any_moment, save_carries, done_saves_carry}
+use Rattle.worker_store.proofs.LawLemmas.Saving.{failed_saves_carry, ends_promise_no_less}
 use Rattle.worker_store.proofs.LawLemmas.Acts.{checkpoints_save, saving_ends_alike}
 use Rattle.worker_store.proofs.LawLemmas.Acts.{upgrades_save, upgrades_widen, acts_may_fail}
-use Rattle.worker_store.proofs.LawLemmas.Saving.{ends_promise_no_less}
 use Rattle.worker_store.proofs.laws.saves_carry_promises.Goals as goal
 
 pub returns-clause-moment : goal.returns-clause-moment

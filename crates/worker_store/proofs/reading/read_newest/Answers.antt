@@ -9,8 +9,7 @@ use Rattle.snapshot.specs.declared.fault.SnapshotFault.{SnapshotFault}
 use Rattle.snapshot.specs.declared.snapshots.Snapshots.{Snapshots}
 use Rattle.snapshot.specs.rules.Snapshots.{is_failed}
 use Rattle.worker_store.proofs.NewestLemmas.{judged, process_image_wrong, other_version}
-use Rattle.worker_store.proofs.NewestLemmas.{short_journal}
-use Rattle.worker_store.proofs.NewestLemmas.{reads_newest}
+use Rattle.worker_store.proofs.NewestLemmas.{short_journal, reads_newest}
 use Rattle.disk_layout.specs.declared.damage.Damage.TheVariants as damage
 use Rattle.disk_layout.specs.declared.fault.LayoutFault.TheVariants as layout
 use Rattle.snapshot.specs.declared.fault.SnapshotFault.TheVariants.{Damaged}

@@ -1,6 +1,5 @@
 use Rattle.worker_store.proofs.RestartLemmas.Disks.{what_stands_is_reached, records_ascend}
-use Rattle.worker_store.proofs.RestartLemmas.Disks.{stands_by_its_parts}
-use Rattle.worker_store.proofs.RestartLemmas.Disks.{heads_tell_widenings}
+use Rattle.worker_store.proofs.RestartLemmas.Disks.{stands_by_its_parts, heads_tell_widenings}
 use Rattle.worker_store.proofs.restart_theorem.disks_stand_for_what_is_reached.Goals as goal
 
 pub returns-clause-reached : goal.returns-clause-reached

@@ -1,7 +1,6 @@
 use Rattle.worker_store.proofs.RestartLemmas.NextLives.{found_was_crash_image, found_is_as_long}
-use Rattle.worker_store.proofs.RestartLemmas.NextLives.{found_synced_or_same}
-use Rattle.worker_store.proofs.RestartLemmas.NextLives.{no_worker_comes, next_life_finds_it}
-use Rattle.worker_store.proofs.RestartLemmas.NextLives.{next_life_is_within}
+use Rattle.worker_store.proofs.RestartLemmas.NextLives.{found_synced_or_same, no_worker_comes}
+use Rattle.worker_store.proofs.RestartLemmas.NextLives.{next_life_finds_it, next_life_is_within}
 use Rattle.worker_store.proofs.restart_theorem.next_life_finds_it.Goals as goal
 
 pub returns-clause-keeps : goal.returns-clause-keeps

@@ -1,6 +1,5 @@
 use Rattle.worker_store.proofs.RestartLemmas.StaysForGood.{openings_for_good, checkpoints_for_good}
-use Rattle.worker_store.proofs.RestartLemmas.StaysForGood.{syncs_for_good}
-use Rattle.worker_store.proofs.RestartLemmas.StaysForGood.{what_is_for_good}
+use Rattle.worker_store.proofs.RestartLemmas.StaysForGood.{syncs_for_good, what_is_for_good}
 use Rattle.worker_store.proofs.restart_theorem.promises_are_for_good.Goals as goal
 
 pub returns-clause-openings : goal.returns-clause-openings

@@ -1,6 +1,5 @@
 use Rattle.worker_store.proofs.RestartLemmas.Examples.{lives_examples, promise_examples}
-use Rattle.worker_store.proofs.RestartLemmas.Examples.{course_examples}
-use Rattle.worker_store.proofs.RestartLemmas.Examples.{reply_examples}
+use Rattle.worker_store.proofs.RestartLemmas.Examples.{course_examples, reply_examples}
 use Rattle.worker_store.proofs.restart_theorem.worked_examples.Goals as goal
 
 pub returns-clause-lives : goal.returns-clause-lives

@@ -1,6 +1,5 @@
-use Rattle.std.proofs.Common.{◌≡◌, ◌<◌, ◌+◌, ℕ, List, Err, Result, sym}
-use Rattle.std.proofs.Common.{ap}
-use Rattle.std.proofs.Common.{◌∙◌, subst, arith, rules, replicate}
+use Rattle.std.proofs.Common.{◌≡◌, ◌<◌, ◌+◌, ℕ, List, Err, Result, sym, ap, ◌∙◌, subst, arith}
+use Rattle.std.proofs.Common.{rules, replicate}
 use Rattle.std.proofs.lemmas.Result.{err_from_is_err_and}
 use Rattle.wasi_abi.specs.rules.Layouts.{padding}
 use Rattle.sector_disk.specs.rules.Medium.{Tears, TakesWrite}

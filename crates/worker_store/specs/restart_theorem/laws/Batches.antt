@@ -14,21 +14,18 @@ use Rattle.process_rules.specs.Behind.{AnswersBehindSync}
 use Rattle.record_replay.specs.declared.fault.SourceFault.{SourceFault}
 use Rattle.state_image.specs.rules.ProcessImage.{Saved}
 use Rattle.worker_store.specs.restart_theorem.Lives.{Act, Slice, Batch, SourceSaid, Inputs, Release}
-use Rattle.worker_store.specs.restart_theorem.Lives.{Cause}
-use Rattle.worker_store.specs.restart_theorem.Lives.{OfDisk, OfSource, OfOutlet, Reply, Spent}
-use Rattle.worker_store.specs.restart_theorem.Lives.{Waits, Fails}
-use Rattle.worker_store.specs.restart_theorem.Lives.{Event, Told, Asked, Opened, Ended}
-use Rattle.worker_store.specs.restart_theorem.Lives.{End, Finished, Stopped, Failed, Life}
+use Rattle.worker_store.specs.restart_theorem.Lives.{Cause, OfDisk, OfSource, OfOutlet, Reply}
+use Rattle.worker_store.specs.restart_theorem.Lives.{Spent, Waits, Fails, Event, Told, Asked}
+use Rattle.worker_store.specs.restart_theorem.Lives.{Opened, Ended, End, Finished, Stopped, Failed}
+use Rattle.worker_store.specs.restart_theorem.Lives.{Life}
 use Rattle.worker_store.specs.restart_theorem.Courses.{Stage, Open, NoneThere, Broken, HasLastAsked}
 use Rattle.worker_store.specs.restart_theorem.Courses.{phase_ended}
 use Rattle.worker_store.specs.restart_theorem.Promises.{Promise, IsKept, GoesOn}
 use Rattle.worker_store.specs.restart_theorem.laws.Refused.{in_peace, created_life, recovered_life}
 use Rattle.worker_store.specs.restart_theorem.laws.Refused.{IsOfUpgrades}
 use Rattle.worker_store.specs.restart_theorem.laws.Honest.{Teller, line_one, line_two}
-use Rattle.worker_store.specs.restart_theorem.laws.Honest.{both_requests}
-use Rattle.worker_store.specs.restart_theorem.laws.Honest.{asked_first, asked_second}
-use Rattle.worker_store.specs.restart_theorem.laws.Honest.{replaying_life}
-use Rattle.worker_store.specs.restart_theorem.laws.Honest.{nothing_to_do}
+use Rattle.worker_store.specs.restart_theorem.laws.Honest.{both_requests, asked_first, asked_second}
+use Rattle.worker_store.specs.restart_theorem.laws.Honest.{replaying_life, nothing_to_do}
 
 -- ---- events
 

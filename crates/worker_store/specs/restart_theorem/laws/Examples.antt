@@ -12,21 +12,14 @@ use Rattle.process_rules.specs.Runs.{Given, Wider}
 use Rattle.state_image.specs.rules.ProcessImage.{Saved}
 use Rattle.wasi_abi.specs.rules.Configs.{Settings}
 use Rattle.worker_store.specs.restart_theorem.Lives.{Slice, Batch, Checkpoint, Upgrade, Inputs}
-use Rattle.worker_store.specs.restart_theorem.Lives.{Release, OfDisk}
-use Rattle.worker_store.specs.restart_theorem.Lives.{OfMemory, OfOutlet, Over, Waits}
-use Rattle.worker_store.specs.restart_theorem.Lives.{OfSource, Reply, Spent, Done, Fails, Event}
-use Rattle.worker_store.specs.restart_theorem.Lives.{Told, Asked}
-use Rattle.worker_store.specs.restart_theorem.Lives.{Opened}
-use Rattle.worker_store.specs.restart_theorem.Lives.{Ended}
-use Rattle.worker_store.specs.restart_theorem.Lives.{Recovers, Creates, Finished, Stopped, Failed}
-use Rattle.worker_store.specs.restart_theorem.Lives.{Life}
+use Rattle.worker_store.specs.restart_theorem.Lives.{Release, OfDisk, OfMemory, OfOutlet, Over}
+use Rattle.worker_store.specs.restart_theorem.Lives.{Waits, OfSource, Reply, Spent, Done, Fails}
+use Rattle.worker_store.specs.restart_theorem.Lives.{Event, Told, Asked, Opened, Ended, Recovers}
+use Rattle.worker_store.specs.restart_theorem.Lives.{Creates, Finished, Stopped, Failed, Life}
 use Rattle.worker_store.specs.restart_theorem.Lives.{kept_after, kept_answers, told_lines}
-use Rattle.worker_store.specs.restart_theorem.Courses.{Phase}
-use Rattle.worker_store.specs.restart_theorem.Courses.{Stage, Shut, Unheard, Open, NoneThere}
-use Rattle.worker_store.specs.restart_theorem.Courses.{Broken, Closed}
-use Rattle.worker_store.specs.restart_theorem.Courses.{at_first, at_beginning, stage_after}
-use Rattle.worker_store.specs.restart_theorem.Courses.{IsToldIn, IsAskedIn}
-use Rattle.worker_store.specs.restart_theorem.Courses.{MayEnd}
+use Rattle.worker_store.specs.restart_theorem.Courses.{Phase, Stage, Shut, Unheard, Open, NoneThere}
+use Rattle.worker_store.specs.restart_theorem.Courses.{Broken, Closed, at_first, at_beginning}
+use Rattle.worker_store.specs.restart_theorem.Courses.{stage_after, IsToldIn, IsAskedIn, MayEnd}
 use Rattle.worker_store.specs.restart_theorem.Promises.{Promise, nothing_yet, promised, IsReply}
 
 -- ---- events

@@ -16,11 +16,8 @@ use Rattle.process_rules.specs.Runs.{Kept, Given, Wider, Wants, next_of, Reaches
 use Rattle.disk_layout.specs.rules.Journal.{TakesRecords}
 use Rattle.state_image.specs.rules.ProcessImage.{Saved}
 use Rattle.worker_store.specs.restart_theorem.Lives.{Slice, Checkpoint, Upgrade, SourceSaid, Inputs}
-use Rattle.worker_store.specs.restart_theorem.Lives.{Release}
-use Rattle.worker_store.specs.restart_theorem.Lives.{OfDisk, OfOutlet, OfMemory, Spent, Waits, Done}
-use Rattle.worker_store.specs.restart_theorem.Lives.{Fails}
-use Rattle.worker_store.specs.restart_theorem.Lives.{Event, Told, Asked}
-use Rattle.worker_store.specs.restart_theorem.Lives.{Opened}
+use Rattle.worker_store.specs.restart_theorem.Lives.{Release, OfDisk, OfOutlet, OfMemory, Spent}
+use Rattle.worker_store.specs.restart_theorem.Lives.{Waits, Done, Fails, Event, Told, Asked, Opened}
 use Rattle.worker_store.specs.restart_theorem.Lives.{Ended, Finished, Stopped, Failed, Life}
 use Rattle.worker_store.specs.restart_theorem.Promises.{IsAt, GoesOn}
 use Rattle.worker_store.specs.restart_theorem.laws.Refused.{in_peace, created_life, recovered_life}

@@ -6,8 +6,7 @@ use Rattle.wasi_abi.specs.rules.Configs.{Settings}
 use Rattle.process_rules.specs.Behind.{AnswersBehindSync}
 use Rattle.state_image.specs.rules.ProcessImage.{Saved}
 use Rattle.worker_store.specs.restart_theorem.Lives.{Act, Checkpoint, Inputs, Release, Reply, Done}
-use Rattle.worker_store.specs.restart_theorem.Lives.{Fails}
-use Rattle.worker_store.specs.restart_theorem.Lives.{Event, Told, Asked, Opened, Ended, Life}
+use Rattle.worker_store.specs.restart_theorem.Lives.{Fails, Event, Told, Asked, Opened, Ended, Life}
 use Rattle.worker_store.specs.restart_theorem.Lives.{events_of, kept_after, kept_answers}
 use Rattle.worker_store.specs.restart_theorem.Lives.{told_lines}
 use Rattle.worker_store.specs.restart_theorem.Courses.{Stage, stage_after}

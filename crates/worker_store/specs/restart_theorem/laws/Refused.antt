@@ -17,20 +17,15 @@ use Rattle.process_rules.specs.Runs.{Given, version_after, Reaches}
 use Rattle.process_rules.specs.Behind.{AnswersBehindSync}
 use Rattle.state_image.specs.rules.ProcessImage.{Saved}
 use Rattle.worker_store.specs.restart_theorem.Lives.{Act, Slice, Checkpoint, Upgrade, SourceSaid}
-use Rattle.worker_store.specs.restart_theorem.Lives.{Inputs}
-use Rattle.worker_store.specs.restart_theorem.Lives.{Release, Cause, OfJournal, OfLines}
+use Rattle.worker_store.specs.restart_theorem.Lives.{Inputs, Release, Cause, OfJournal, OfLines}
 use Rattle.worker_store.specs.restart_theorem.Lives.{OfDisk, OfSource, OfAnswer, OfOutlet, OfMemory}
-use Rattle.worker_store.specs.restart_theorem.Lives.{Reply}
-use Rattle.worker_store.specs.restart_theorem.Lives.{Spent, Waits, Done, Fails, Event, Told, Asked}
-use Rattle.worker_store.specs.restart_theorem.Lives.{Opened}
-use Rattle.worker_store.specs.restart_theorem.Lives.{Ended}
-use Rattle.worker_store.specs.restart_theorem.Lives.{Beginning, Recovers, Creates, End, Stopped}
-use Rattle.worker_store.specs.restart_theorem.Lives.{Failed, Life}
+use Rattle.worker_store.specs.restart_theorem.Lives.{Reply, Spent, Waits, Done, Fails, Event, Told}
+use Rattle.worker_store.specs.restart_theorem.Lives.{Asked, Opened, Ended, Beginning, Recovers}
+use Rattle.worker_store.specs.restart_theorem.Lives.{Creates, End, Stopped, Failed, Life}
 use Rattle.worker_store.specs.restart_theorem.Lives.{kept_by_end}
 use Rattle.worker_store.specs.restart_theorem.Courses.{Stage, Shut, Open, Closed}
 use Rattle.worker_store.specs.restart_theorem.Promises.{Promise, nothing_yet, as_begun, fuel_of}
-use Rattle.worker_store.specs.restart_theorem.Promises.{IsKept}
-use Rattle.worker_store.specs.restart_theorem.Promises.{IsLived, GoesOn}
+use Rattle.worker_store.specs.restart_theorem.Promises.{IsKept, IsLived, GoesOn}
 
 -- ---- words
 

@@ -9,8 +9,7 @@ use Rattle.process_rules.specs.Origins.{Origin}
 use Rattle.process_rules.specs.Runs.{Given, Wider, Succeeds, Wants, Nowhere, next_of}
 use Rattle.worker_store.specs.restart_theorem.Lives.{Release}
 use Rattle.worker_store.specs.restart_theorem.Promises.{Promise, nothing_yet}
-use Rattle.worker_store.specs.restart_theorem.Successions.{promised_by_all, promised_from}
-use Rattle.worker_store.specs.restart_theorem.Successions.{IsAtRest}
+use Rattle.worker_store.specs.restart_theorem.Successions.{promised_by_all, promised_from, IsAtRest}
 use Rattle.worker_store.specs.restart_theorem.Successions.{SucceedNone, HasNumber, IsFirstNumber}
 use Rattle.worker_store.specs.restart_theorem.Successions.{LeaveNoneOut, IsOneHistory}
 use Rattle.worker_store.specs.restart_theorem.laws.Examples.{first_life, second_life, hello_line}

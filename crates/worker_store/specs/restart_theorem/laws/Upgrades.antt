@@ -6,9 +6,8 @@ use Rattle.wasi_abi.specs.rules.Configs.{Settings}
 use Rattle.process_rules.specs.Processes.{ProcessState}
 use Rattle.process_rules.specs.Runs.{Kept, Wider, widened, Reaches}
 use Rattle.state_image.specs.rules.ProcessImage.{Saved}
-use Rattle.worker_store.specs.restart_theorem.Lives.{Act, Upgrade, Inputs, Reply, Done}
-use Rattle.worker_store.specs.restart_theorem.Lives.{Event, Told, Asked, Opened, Ended, Life}
-use Rattle.worker_store.specs.restart_theorem.Lives.{events_of}
+use Rattle.worker_store.specs.restart_theorem.Lives.{Act, Upgrade, Inputs, Reply, Done, Event, Told}
+use Rattle.worker_store.specs.restart_theorem.Lives.{Asked, Opened, Ended, Life, events_of}
 use Rattle.worker_store.specs.restart_theorem.Lives.{kept_by_end}
 use Rattle.worker_store.specs.restart_theorem.Courses.{Stage, Open, phase_ended}
 use Rattle.worker_store.specs.restart_theorem.Promises.{Promise, IsEnding, GoesOn}

@@ -1,6 +1,5 @@
 -- Whole lives of modules, which the restart theorem allows, and events that are none of theirs.
-use Rattle.std.specs.Prelude.{◌≡◌, ℕ, ◌≤◌, ◌^◌, Bool, true, List, [], ◌∷◌, codes}
-use Rattle.std.specs.Prelude.{Some}
+use Rattle.std.specs.Prelude.{◌≡◌, ℕ, ◌≤◌, ◌^◌, Bool, true, List, [], ◌∷◌, codes, Some}
 use Rattle.wasm_syntax.specs.laws.Examples.{hello, echo}
 use Rattle.wasi_abi.specs.declared.answer.Question.{Question}
 use Rattle.wasi_abi.specs.declared.answer.Question.TheVariants as questions
@@ -16,12 +15,8 @@ use Rattle.state_image.specs.laws.Examples.{fresh_process}
 use Rattle.state_image.specs.laws.WellTypedExamples.{hello_first_memory}
 use Rattle.disk_layout.specs.rules.Journal.{TakesRecords}
 use Rattle.worker_store.specs.restart_theorem.Lives.{Slice, Checkpoint, Upgrade, SourceSaid, Inputs}
-use Rattle.worker_store.specs.restart_theorem.Lives.{Release}
-use Rattle.worker_store.specs.restart_theorem.Lives.{Over}
-use Rattle.worker_store.specs.restart_theorem.Lives.{Done}
-use Rattle.worker_store.specs.restart_theorem.Lives.{Told, Asked, Opened, Ended, Creates, Finished}
-use Rattle.worker_store.specs.restart_theorem.Lives.{Stopped}
-use Rattle.worker_store.specs.restart_theorem.Lives.{Life}
+use Rattle.worker_store.specs.restart_theorem.Lives.{Release, Over, Done, Told, Asked, Opened}
+use Rattle.worker_store.specs.restart_theorem.Lives.{Ended, Creates, Finished, Stopped, Life}
 use Rattle.worker_store.specs.restart_theorem.Courses.{Stage, at_beginning}
 use Rattle.worker_store.specs.restart_theorem.Promises.{Promise, IsKept, AreKept, GoesOn}
 use Rattle.worker_store.specs.restart_theorem.laws.Refused.{in_peace, created_life, recovered_life}

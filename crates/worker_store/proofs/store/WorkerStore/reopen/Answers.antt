@@ -1,6 +1,5 @@
-use Rattle.std.proofs.Common.{◌<◌, ◌∙◌, [], refl, ap, inl, arith, false, rules}
+use Rattle.std.proofs.Common.{◌<◌, ◌∙◌, [], refl, ap, inl, arith, false, rules, length}
 use Rattle.std.proofs.lemmas.Grind.{common_steps}
-use Rattle.std.proofs.Common.{length}
 use Rattle.std.specs.Prelude.{Result, Err}
 use Rattle.wasi_abi.specs.rules.Versions.{version_number}
 use Rattle.sector_disk.proofs.Moments.{started, weaker}
