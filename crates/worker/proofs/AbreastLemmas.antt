@@ -25,7 +25,7 @@ use Rattle.worker_store.proofs.RestartLemmas.Fronts.{LeadsOn, fronts_lead_on}
 use Rattle.worker_store.specs.declared.store.WorkerStore.{WorkerStore}
 use Rattle.worker_store.proofs.LawLemmas.Carrying.{more_lines}
 use Rattle.worker_store.proofs.LawLemmas.Telling.{max_within}
-use Rattle.worker.specs.rules.OpenWorkers.{IsAbreast, IsOnDisk}
+use Rattle.worker.specs.rules.OpenWorkers.{IsAbreast, IsOnDisk, identity}
 use Rattle.worker.proofs.DurableLemmas.OnDisk.{IsReachedBy, reached_now, valid_module}
 
 -- ---- a process that takes no step by itself
@@ -102,7 +102,7 @@ line_there m config kept p i a valid reached still behind =
 
 module _ {D : Type 0} (medium : D → Medium) (m : Module) (config : Settings) (guest : Guest)
     (promise : Promise) (p : ProcessState) (step latest : ℕ) (store : WorkerStore) (disk : D)
-    (is : IsOnDisk m config guest promise p step latest store (medium disk)) where
+    (is : IsOnDisk (identity m config guest) promise p step latest store (medium disk)) where
   -- of a worker on its disk whose process is still
   pub none_beyond : IsStill guest p → promise.begun ≤ length p.host.lines
   none_beyond still =

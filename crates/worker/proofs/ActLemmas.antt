@@ -13,7 +13,7 @@ use Rattle.worker.specs.declared.recover_fault.RecoverFault.TheVariants as recov
 use Rattle.worker.specs.rules.DurableCalls.{ActCarries, Answered, CallKeeps, MayExchange}
 use Rattle.worker.specs.rules.DurableValues.{DurableValue}
 use Rattle.worker.specs.rules.OneLife.{CallsInOrder, FailsBy, no_more, called, call_failed}
-use Rattle.worker.specs.rules.Scenes.{scene}
+use Rattle.worker.specs.rules.Scenes.{scene, Surroundings, surroundings}
 use Rattle.worker.proofs.DurableLemmas.Working.{nothing_alone}
 use Rattle.worker.specs.declared.story.life.PlannedAct.{PlannedAct}
 use Rattle.worker.specs.rules.Planned.{act_of}
@@ -25,16 +25,19 @@ module _ {D S O : Type 0} (medium : D → Medium) (gives : Giving S) (takes : Ta
   pub call_is_done : (source source' : S) (outlet outlet' : O) (said : Answered act)
       → CallKeeps medium gives takes act (scene w disk source outlet) (Ok said)
       (scene w' disk' source' outlet')
-      → DoesAct medium gives takes act w disk source outlet (Ok tt) w' disk' source' outlet'
+      → DoesAct medium gives takes act (scene w disk source outlet) (Ok tt)
+      (scene w' disk' source' outlet')
   call_is_done source source' outlet outlet' said keeps =
-      λ acts undone last source_last outlet_last rest. called said keeps rest
+      λ acts undone last rest. called {after = scene w' disk' source' outlet'} said keeps rest
 
   pub call_fails : (source source' : S) (outlet outlet' : O) (why : WorkFault)
       → CallKeeps medium gives takes act (scene w disk source outlet) (Err why)
       (scene w' disk' source' outlet')
       → FailsBy act w why w' (medium disk) (medium disk')
-      → DoesAct medium gives takes act w disk source outlet (Err why) w' disk' source' outlet'
-  call_fails source source' outlet outlet' why keeps fails = λ acts. call_failed keeps fails
+      → DoesAct medium gives takes act (scene w disk source outlet) (Err why)
+      (scene w' disk' source' outlet')
+  call_fails source source' outlet outlet' why keeps fails =
+      λ acts. call_failed {after = scene w' disk' source' outlet'} keeps fails
 
   -- one that asks no source and tells no line
   module _ (source : S) (outlet : O) (quiet : MayExchange act []) where
@@ -46,14 +49,16 @@ module _ {D S O : Type 0} (medium : D → Medium) (gives : Giving S) (takes : Ta
 
     pub quiet_is_done : (said : Answered act)
         → ActCarries act [] w (Ok said) w' (medium disk) (medium disk')
-        → DoesAct medium gives takes act w disk source outlet (Ok tt) w' disk' source outlet
+        → DoesAct medium gives takes act (scene w disk source outlet) (Ok tt)
+        (scene w' disk' source outlet)
     quiet_is_done said carries =
         call_is_done source source outlet outlet said (quiet_keeps (Ok said) carries)
 
     pub quiet_fails : (why : WorkFault)
         → ActCarries act [] w (Err why) w' (medium disk) (medium disk')
         → FailsBy act w why w' (medium disk) (medium disk')
-        → DoesAct medium gives takes act w disk source outlet (Err why) w' disk' source outlet
+        → DoesAct medium gives takes act (scene w disk source outlet) (Err why)
+        (scene w' disk' source outlet)
     quiet_fails why carries fails =
         call_fails source source outlet outlet why (quiet_keeps (Err why) carries) fails
 
@@ -63,12 +68,10 @@ module _ {D S O : Type 0} (medium : D → Medium) (gives : Giving S) (takes : Ta
 pub record HasDone {D S O : Type 0} (medium : D → Medium) (gives : Giving S) (takes : Taking O)
     (all rest : List PlannedAct) (w w' : DurableValue) (disk disk' : D) (source source' : S)
     (outlet outlet' : O) : Type 0 where
-  pub behind : (undone : Result (List Act) RecoverFault) (last : D) (source_last : S)
-      (outlet_last : O)
-      → CallsInOrder medium gives takes (map act_of rest) w' disk' source' outlet' undone last
-      source_last outlet_last
-      → CallsInOrder medium gives takes (map act_of all) w disk source outlet undone
-      last source_last outlet_last
+  pub behind : (undone : Result (List Act) RecoverFault) (last : Surroundings D S O)
+      → CallsInOrder medium gives takes (map act_of rest) (scene w' disk' source' outlet') undone
+      last
+      → CallsInOrder medium gives takes (map act_of all) (scene w disk source outlet) undone last
 
 -- an act that is read at a place is the first of those from there on
 acts_from : (acts : List PlannedAct) (i : ℕ) (other : PlannedAct) → i < length acts
@@ -81,7 +84,7 @@ module _ {D S O : Type 0} (medium : D → Medium) (gives : Giving S) (takes : Ta
     (acts : List PlannedAct) (w : DurableValue) (disk : D) (source : S) (outlet : O) where
   pub none_is_done : HasDone medium gives takes acts (drop 0 acts) w w disk disk source source
       outlet outlet
-  none_is_done = record { behind = λ undone last source_last outlet_last calls. calls }
+  none_is_done = record { behind = λ undone last calls. calls }
 
   module _ (i : ℕ) (other : PlannedAct) (within : i < length acts) (now : DurableValue)
       (disk_now : D) (source_now : S) (outlet_now : O)
@@ -93,31 +96,30 @@ module _ {D S O : Type 0} (medium : D → Medium) (gives : Giving S) (takes : Ta
     first_so_far = subst (λ (rest : List PlannedAct). HasDone medium gives takes acts rest w now
         disk disk_now source source_now outlet outlet_now) (acts_from acts i other within) so_far
 
-    pub one_more_is_done : DoesAct medium gives takes (act_of (get_or acts i other)) now disk_now
-        source_now outlet_now (Ok tt) w' disk' source' outlet'
+    pub one_more_is_done : DoesAct medium gives takes (act_of (get_or acts i other))
+        (scene now disk_now source_now outlet_now) (Ok tt) (scene w' disk' source' outlet')
         → HasDone medium gives takes acts (drop (i + 1) acts) w w' disk disk' source source' outlet
         outlet'
     one_more_is_done does = record {
-      behind = λ undone last source_last outlet_last calls.
-          first_so_far.behind undone last source_last outlet_last
-          (does (map act_of (drop (i + 1) acts)) undone last source_last outlet_last calls);
+      behind = λ undone last calls. first_so_far.behind undone last
+          (does (map act_of (drop (i + 1) acts)) undone last calls);
     }
 
     pub one_fails : (why : WorkFault) → DoesAct medium gives takes (act_of (get_or acts i other))
-        now disk_now source_now outlet_now (Err why) w' disk' source' outlet'
-        → CallsInOrder medium gives takes (map act_of acts) w disk source outlet
-        (Err (recover.Worker why)) disk' source' outlet'
+        (scene now disk_now source_now outlet_now) (Err why) (scene w' disk' source' outlet')
+        → CallsInOrder medium gives takes (map act_of acts) (scene w disk source outlet)
+        (Err (recover.Worker why)) (surroundings disk' source' outlet')
     one_fails why does =
-        first_so_far.behind (Err (recover.Worker why)) disk' source' outlet'
+        first_so_far.behind (Err (recover.Worker why)) (surroundings disk' source' outlet')
         (does (map act_of (drop (i + 1) acts)))
 
   pub all_are_done : (i : ℕ) → length acts ≤ i → (w' : DurableValue) (disk' : D) (source' : S)
       (outlet' : O)
       → HasDone medium gives takes acts (drop i acts) w w' disk disk' source source' outlet outlet'
-      → CallsInOrder medium gives takes (map act_of acts) w disk source outlet (Ok []) disk'
-      source' outlet'
+      → CallsInOrder medium gives takes (map act_of acts) (scene w disk source outlet) (Ok [])
+      (surroundings disk' source' outlet')
   all_are_done i all w' disk' source' outlet' so_far =
       let none : HasDone medium gives takes acts [] w w' disk disk' source source' outlet outlet' =
       subst (λ (rest : List PlannedAct). HasDone medium gives takes acts rest w w' disk disk'
       source source' outlet outlet') (drop_all i acts all) so_far in
-      none.behind (Ok []) disk' source' outlet' no_more
+      none.behind (Ok []) (surroundings disk' source' outlet') no_more

@@ -24,8 +24,9 @@ saved_alike (one_more {second = between} {third = last} earlier saved) =
 
 pub slices_on_disk_add : {S O : Type 0} (gives : Giving S) (takes : Taking O)
     → SlicesOnDiskAdd gives takes
-slices_on_disk_add {S} {O} gives takes first second third last f g why s t u o p q one saved two =
-    slices_add gives takes (without_disk first) (without_disk second) (without_disk last) f g why s
-    t u o p q one
-    (subst (λ (w : WorkerValue). Slices gives takes w g why (without_disk last) t u p q)
+slices_on_disk_add gives takes first second third last f g why before between after one saved
+    two =
+    slices_add gives takes (without_disk first) (without_disk second) (without_disk last) f g why
+    before between after one
+    (subst (λ (w : WorkerValue). Slices gives takes w g why (without_disk last) between after)
     (saved_alike saved) two)

@@ -21,23 +21,26 @@ use Rattle.record_replay.specs.rules.Replays.{StopsReplay, TellsFrom}
 use Rattle.worker_store.specs.declared.fault.StoreFault.{StoreFault}
 use Rattle.worker_store.specs.declared.fault.StoreFault.TheVariants as store
 use Rattle.worker_store.specs.rules.Calls.{ReopeningFails}
+use Rattle.worker_store.specs.laws.Laws.{ProcessImagesFitAreas}
 use Rattle.worker.specs.declared.fault.WorkFault.TheVariants.{Disk}
 use Rattle.worker.specs.declared.found.Found.{Found}
 use Rattle.worker.specs.declared.recover_fault.RecoverFault.{RecoverFault}
 use Rattle.worker.specs.declared.recover_fault.RecoverFault.TheVariants as recover
 use Rattle.worker.specs.rules.WorkFaults.{fault_of_store}
 use Rattle.worker.specs.rules.DurableValues.{DurableValue}
-use Rattle.worker.specs.rules.Recoveries.{IsJustSynced}
-use Rattle.worker.specs.rules.ShownDisks.{HoldsWorker, RevivesHeld, EndsHeld}
-use Rattle.worker.specs.rules.ShownDisks.{FailsHeld, AnswersDisk, RecoversAsShown}
-use Rattle.worker.specs.rules.ShownDisks.{LeavesRefused, SurveysDisk, IsOfSaving}
-use Rattle.worker.specs.rules.ShownDisks.{IsRefusal}
-use Rattle.worker.specs.Findings.{numbers_of_found}
+use Rattle.worker.specs.rules.CallCounts.{most_behind}
+use Rattle.worker.specs.rules.Recoveries.{IsJustSynced, MarksDecide}
+use Rattle.worker.specs.rules.ShownDisks.{HoldsWorker, RevivesHeld, EndsHeld, FailsHeld}
+use Rattle.worker.specs.rules.ShownDisks.{AnswersDisk, LeavesRefused, Recovers, SurveysDisk}
+use Rattle.worker.specs.rules.ShownDisks.{IsOfSaving, IsRefusal}
+use Rattle.worker.specs.Findings.{FindsOne, numbers_of_found}
 use Rattle.worker.specs.FoundDisks.{IsFoundIn, FindsIn}
 use Rattle.worker.specs.Revivals.{RevivesFound, IsReplayed, StopsInVain}
 use Rattle.worker.specs.Revivals.{OpensStore, ReplaysForNothing}
 use Rattle.worker.proofs.RecoveryLemmas.There.{released_is}
 use Rattle.worker.proofs.RecoveryLemmas.Results.{is_just_synced, reads_none, sync_faulted}
+use Rattle.worker.proofs.RecoveryLemmas.Results.{not_found_from, is_found_from, is_found_some}
+use Rattle.worker.proofs.RecoveryLemmas.Results.{is_found_calls}
 
 -- ---- the worker that the disk holds
 
@@ -132,8 +135,7 @@ module _ (sectors : ℕ) (disk : DiskImage) (found : Found) (at : IsFoundIn sect
         let first = come.0 in
         subst (λ (e : RecoverFault). FailsHeld takes held_in e outlet outlet') (sym stops.is) (
           first,
-          subst (λ n. StopsReplay takes n held_in.well_typed.guest first.reached first.rest
-              first.process stops.fault outlet outlet') released come.1,
+          subst (λ n. StopsReplay takes n first stops.fault outlet outlet') released come.1,
         )
 
     -- the next generation couldn't be written
@@ -251,8 +253,8 @@ module _ {D O : Type 0} (medium : D → Medium) (takes : Taking O) (old new : D)
     {T : Type 0} (fault : DiskFault)
     (syncs : SyncsMedium {T = T} (Err fault) (medium old) (medium new)) (why : RecoverFault)
     (is : why ≡ recover.Worker (Disk fault)) where
-  pub failed_sync_shown : RecoversAsShown medium takes (Err why) old new outlet outlet
-  failed_sync_shown =
+  pub failed_sync_recovers : Recovers medium takes (Err why) old new outlet outlet
+  failed_sync_recovers =
       let calls = syncs.calls in
       inl (record {
         fault = fault;
@@ -283,35 +285,55 @@ module _ {D O T : Type 0} (medium : D → Medium) (takes : Taking O) (old sync m
   just_synced = is_just_synced (medium old) (medium sync) (medium mid) done syncs reads few
 
   -- no worker was found
-  pub unfound_shown : (why : RecoverFault)
+  pub not_found_recovers : (why : RecoverFault)
+      → FindsOne (medium sync).sectors (medium mid) (Err why)
+      → ((image : DiskImage) → (medium mid).shows image
+      → MarksDecide {T = Found} image (Err why))
       → ((image : DiskImage) → (medium mid).shows image
       → FindsIn (medium sync).sectors image (Err why))
-      → RecoversAsShown medium takes (Err why) old mid outlet outlet
-  unfound_shown why finds = inr (
+      → Recovers medium takes (Err why) old mid outlet outlet
+  not_found_recovers why one marks finds = inr (
     mid,
     just_synced,
-    λ image shown.
-        inl (
-          found_there (medium old) (medium sync) (medium mid) done syncs (Err why) finds image
-              shown,
-          refl,
-        ),
+    λ image shown. (
+      not_found_from medium takes old sync mid done syncs reads few outlet why one marks image
+          shown,
+      inl (
+        found_there (medium old) (medium sync) (medium mid) done syncs (Err why) finds image
+            shown,
+        refl,
+      ),
+    ),
+    λ denies. (reads_none (medium mid), refl),
+    tt,
     record { untold = λ refusal. refl; unwritten = λ other. reads_none (medium mid) },
   )
 
   -- one was
-  pub found_shown : (new : D) (outlet' : O) (found : Found)
+  pub is_found_recovers : (new : D) (outlet' : O) (fit : ProcessImagesFitAreas) (found : Found)
+      → FindsOne (medium sync).sectors (medium mid) (Ok found)
+      → ((image : DiskImage) → (medium mid).shows image
+      → MarksDecide {T = Found} image (Ok found))
+      → CallsUpTo ((medium sync).sectors + most_behind found.geometry) (medium sync) (medium mid)
       → ((image : DiskImage) → (medium mid).shows image
       → FindsIn (medium sync).sectors image (Ok found))
       → (result : Result DurableValue RecoverFault)
       → RevivesFound medium takes found result mid new outlet outlet'
-      → RecoversAsShown medium takes result old new outlet outlet'
-  found_shown new outlet' found finds result revives = inr (
+      → Recovers medium takes result old new outlet outlet'
+  is_found_recovers new outlet' fit found one marks calls finds result revives = inr (
     mid,
     just_synced,
-    λ image shown.
-        answers_so medium takes found mid new outlet outlet' (medium old).sectors image
-        (found_there (medium old) (medium sync) (medium mid) done syncs (Ok found) finds image
-        shown) result revives,
+    λ image shown. (
+      is_found_from medium takes old sync mid done syncs reads few outlet new outlet' fit found
+          one marks calls result revives image shown,
+      answers_so medium takes found mid new outlet outlet' (medium old).sectors image
+          (found_there (medium old) (medium sync) (medium mid) done syncs (Ok found) finds image
+          shown) result revives,
+    ),
+    λ denies.
+        absurd (is_found_some medium takes old sync mid done syncs reads few outlet new outlet'
+        fit found one marks calls result revives denies),
+    is_found_calls medium takes old sync mid done syncs reads few outlet new outlet' fit found one
+        marks calls result revives,
     faults_so medium takes found mid new outlet outlet' result revives,
   )

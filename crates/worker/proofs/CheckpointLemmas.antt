@@ -6,8 +6,7 @@ use Rattle.process_rules.specs.Runs.{none}
 use Rattle.process.specs.rules.Values.{IsProcess}
 use Rattle.state_image.specs.rules.ProcessImage.{process_image}
 use Rattle.state_image.specs.rules.Saving.{saved_of}
-use Rattle.sector_disk.specs.rules.Medium.{Medium, Passes}
-use Rattle.sector_disk.specs.rules.Medium.{CallsUpTo}
+use Rattle.sector_disk.specs.rules.Medium.{Medium, Passes, CallsUpTo}
 use Rattle.sector_disk.proofs.CallLemmas.{no_calls}
 use Rattle.record_replay.specs.rules.Calls.{Exchange}
 use Rattle.disk_layout.specs.declared.geometry.Geometry.{Geometry}

@@ -1,6 +1,5 @@
 -- A worker that is created on a disk.
-use Rattle.std.proofs.Common.{◌≡◌, ◌⊎◌, ℕ, ◌+◌, ◌*◌, ◌<◌, ◌≤◌, ◌^◌, List, [], ◌∷◌, ◌++◌}
-use Rattle.std.proofs.Common.{length}
+use Rattle.std.proofs.Common.{◌≡◌, ◌⊎◌, ℕ, ◌+◌, ◌*◌, ◌<◌, ◌≤◌, ◌^◌, List, [], ◌∷◌, ◌++◌, length}
 use Rattle.std.proofs.Common.{take, refl, sym, ap, ◌∙◌, subst, inl, ⊎_elim, arith}
 use Rattle.std.proofs.lemmas.Bool.{cases_lt}
 use Rattle.std.proofs.lemmas.List.{append-nil}
@@ -22,8 +21,7 @@ use Rattle.state_image.specs.rules.WellTyped.{IsWellTyped}
 use Rattle.state_image.proofs.ReachedWellTyped.{saved_is_well_typed}
 use Rattle.sector_disk.specs.declared.sector.TheConstants.{SECTOR_SIZE}
 use Rattle.sector_disk.specs.rules.DiskImage.{DiskImage}
-use Rattle.sector_disk.specs.rules.Medium.{Medium, LeavesOnly, PerformsCalls}
-use Rattle.sector_disk.specs.rules.Medium.{CallsUpTo}
+use Rattle.sector_disk.specs.rules.Medium.{Medium, LeavesOnly, PerformsCalls, CallsUpTo}
 use Rattle.sector_disk.proofs.CallLemmas.{no_calls}
 use Rattle.sector_disk.proofs.Moments.{leaves_only, leaves_weaker, started}
 use Rattle.disk_layout.specs.declared.fault.LayoutFault.TheVariants as layout

@@ -3,8 +3,7 @@ use Rattle.std.proofs.Common.{◌≡◌, ℕ, ◌<◌, ◌≤◌, ◌++◌, List
 use Rattle.std.proofs.Common.{arith, inl, inr}
 use Rattle.std.proofs.lemmas.Bool.Decides.{nat_tests}
 use Rattle.std.specs.Prelude.{Bool, true, false, Result, Ok, Err, Option, Some, None, IsTrue}
-use Rattle.std.specs.Prelude.{nat_le}
-use Rattle.std.specs.Prelude.{◌||◌, ◌↔◌, ◌⊎◌}
+use Rattle.std.specs.Prelude.{nat_le, ◌||◌, ◌⊎◌}
 use Rattle.sector_disk.specs.declared.fault_disk.FaultDisk.{FaultDisk}
 use Rattle.sector_disk.specs.declared.memory.MemDisk.{MemDisk}
 use Rattle.sector_disk.specs.declared.fault_point.FaultPoint.{FaultPoint}
@@ -12,8 +11,7 @@ use Rattle.sector_disk.specs.rules.DiskImage.{DiskImage}
 use Rattle.sector_disk.specs.rules.FaultDisk.{call_counts_of}
 use Rattle.sector_disk.specs.rules.Medium.{IsAllSynced}
 use Rattle.sector_disk.specs.laws.Memory.{memory_stays}
-use Rattle.sector_disk.specs.rules.Memory.{memory_medium, MemoryState}
-use Rattle.sector_disk.specs.rules.Memory.{memory_state_of, after_cut}
+use Rattle.sector_disk.specs.rules.Memory.{memory_medium, MemoryState, memory_state_of, after_cut}
 use Rattle.sector_disk.specs.rules.Trouble.{point_numbers, has_begun, call_number}
 use Rattle.worker_store.specs.restart_theorem.Lives.{Act, Cause, OfDisk, End, Inputs}
 use Rattle.worker_store.specs.restart_theorem.Lives.End.{Finished as finished, Stopped as stopped}
@@ -24,26 +22,17 @@ use Rattle.worker.specs.declared.recover_fault.RecoverFault.{RecoverFault}
 use Rattle.worker.specs.rules.OneLife.{IsCauseOf, undone_acts}
 use Rattle.worker.specs.laws.OneLife.{EndsBy, IsLater}
 use Rattle.worker.specs.declared.story.report.LifeEnd.{LifeEnd}
-use Rattle.worker.specs.declared.story.report.LifeEnd.TheVariants.{Finished, Stopped}
-use Rattle.worker.specs.declared.story.report.LifeEnd.TheVariants.{Failed}
+use Rattle.worker.specs.declared.story.report.LifeEnd.TheVariants.{Finished, Stopped, Failed}
 use Rattle.worker.specs.rules.Planned.{call_at}
-use Rattle.worker.specs.rules.StoryDisks.{story_medium}
+use Rattle.worker.specs.rules.StoryDisks.{story_medium, reported_end, StopSays}
 use Rattle.worker.specs.rules.Told.{TellsLifeEnd}
 use Rattle.worker.specs.LifeCalls.{LeavesSome}
-use Rattle.worker.specs.rules.StoryDisks.{reported_end, StopSays}
 use Rattle.worker.specs.Endings.{IsFoundBehind}
 
 pub stopping_leaves_some : LeavesSome story_medium
 stopping_leaves_some f = (f.inner.shown.items, memory_stays f.inner)
 
 -- ---- stops
-
--- what a test says of it
-pub stop_says : (b : Bool) (stop : Option ℕ) (calls : ℕ) → (IsTrue b ↔ HasStopped stop calls)
-    → StopSays b stop calls
-stop_says true stop calls both = both.0 refl
-stop_says false stop calls both =
-    λ has. let e : false ≡ true = both.1 has in absurd (cc)
 
 pub not_both : (stop : Option ℕ) (calls : ℕ) → HasStopped stop calls → HasNotStopped stop calls → ⊥
 not_both None calls has not = has

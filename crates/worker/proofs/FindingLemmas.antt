@@ -21,8 +21,7 @@ use Rattle.snapshot.specs.declared.fault.SnapshotFault.TheVariants as snapshot
 use Rattle.journal.specs.declared.fault.JournalFault.TheVariants as journal
 use Rattle.worker.specs.rules.CallCounts.{most_behind}
 use Rattle.worker.specs.rules.RecoverFaults.{fault_of_read}
-use Rattle.worker.specs.rules.Recoveries.{SaysNothing, SaysNoWorker, SaysNoWorkerOr}
-use Rattle.worker.specs.rules.Recoveries.{MarksDecide}
+use Rattle.worker.specs.rules.Recoveries.{SaysNothing, SaysNoWorker, SaysNoWorkerOr, MarksDecide}
 use Rattle.worker.specs.Findings.{HasSearchCause, Searches}
 
 -- errors of what is read, and of a recovery

@@ -1,7 +1,6 @@
 -- Lives go on, one after another.
 use Rattle.std.proofs.Common.{◌≡◌, ℕ, ◌<◌, ◌≤◌, ◌+◌, ◌++◌, List, [], ◌∷◌, length, refl, sym, ap}
-use Rattle.std.proofs.Common.{◌∙◌}
-use Rattle.std.proofs.Common.{subst, inl, arith, take, get_or, ◌^◌, ◌*◌}
+use Rattle.std.proofs.Common.{◌∙◌, subst, inl, arith, take, get_or, ◌^◌, ◌*◌}
 use Rattle.std.specs.Prelude.{Result, Ok, Err, Option, map, replicate, IfOk}
 use Rattle.std.proofs.lemmas.List.{length-replicate, take_all, take_more}
 use Rattle.std.proofs.Math.Nat.{le_refl}
@@ -33,7 +32,8 @@ use Rattle.worker_store.proofs.RestartLemmas.Disks.{blank_is_within}
 use Rattle.worker_store.proofs.RestartLemmas.NextLives.{found_is_as_long, next_life_finds_it}
 use Rattle.worker_store.proofs.RestartLemmas.NextLives.{next_life_is_within}
 use Rattle.worker.specs.declared.recover_fault.RecoverFault.{RecoverFault}
-use Rattle.worker.specs.rules.OneLife.{opened_in, shown_first, undone_acts}
+use Rattle.worker.specs.rules.OneLife.{opened_in, shown_first, undone_acts, recipe, one_life}
+use Rattle.worker.specs.rules.Scenes.{surroundings}
 use Rattle.worker.specs.laws.OneLife.{CameTrue, IsLifeOver, IsLifeOf, IsLater, CallsMakeLives}
 use Rattle.worker.specs.laws.OneLife.{released_in}
 use Rattle.worker.specs.declared.story.LivedOn.{LivedOn}
@@ -45,29 +45,23 @@ use Rattle.worker.specs.declared.story.living.LivedOnce.{LivedOnce}
 use Rattle.worker.specs.declared.story.report.Opening.{Opening}
 use Rattle.worker.specs.declared.story.report.LifeEnd.{LifeEnd}
 use Rattle.worker.specs.declared.story.report.LifeReport.{LifeReport}
-use Rattle.worker.specs.rules.Planned.{inputs_of, act_of, said_of, takes_but}
-use Rattle.worker.specs.rules.Planned.{number_refused}
+use Rattle.worker.specs.rules.Planned.{inputs_of, act_of, said_of, takes_but, number_refused}
 use Rattle.worker_store.specs.rules.BetweenCalls.{Foretell}
 use Rattle.record_replay.specs.declared.refusing.RefusingOutlet.{RefusingOutlet}
 use Rattle.record_replay.specs.rules.Lists.{inner_outlet, until_fault}
 use Rattle.worker.specs.rules.CallCounts.{most_calls, CallsForEvents}
-use Rattle.worker.specs.rules.Told.{TellsLife, TellsEach, TellsOpening, TellsLifeEnd}
-use Rattle.worker.specs.rules.StoryDisks.{IsEmptyDisk, IsEmptyDiskFor, IsRunOn, none}
-use Rattle.worker.specs.rules.StoryDisks.{one_more}
-use Rattle.worker.specs.rules.StoryDisks.{TellsLives}
-use Rattle.worker.specs.rules.StoryDisks.{story_medium}
-use Rattle.worker.specs.rules.Told.{BeginFewCalls}
+use Rattle.worker.specs.rules.Told.{TellsLife, TellsEach, TellsOpening, TellsLifeEnd, BeginFewCalls}
 use Rattle.worker.specs.rules.Told.{told_line}
+use Rattle.worker.specs.rules.StoryDisks.{IsEmptyDisk, IsEmptyDiskFor, IsRunOn, none, one_more}
+use Rattle.worker.specs.rules.StoryDisks.{TellsLives, story_medium}
 use Rattle.worker.specs.LifeCalls.{LivesOnce, LeavesSome}
 use Rattle.worker.specs.Endings.{EndsLife}
-use Rattle.worker.specs.Going.{HasAllRoom, IsKeptOn, IsReportedOn, LivesOn}
+use Rattle.worker.specs.Going.{HasAllRoom, IsKeptOn, IsReportedOn, LivesOn, GoneOn}
 use Rattle.worker_store.specs.restart_theorem.Successions.{promised_by_all}
-use Rattle.worker.specs.Going.{GoneOn}
 use Rattle.worker.specs.Hearing.{hands_out, hears}
 use Rattle.worker_store.proofs.RestartLemmas.FileLives.{zeros_are_blank}
 use Rattle.worker.proofs.HeardLemmas.{said_so, heard_all}
-use Rattle.worker.proofs.EndLemmas.{tells_end, next_finds, faults_as_planned}
-use Rattle.worker.proofs.EndLemmas.{stopping_leaves_some}
+use Rattle.worker.proofs.EndLemmas.{tells_end, next_finds, faults_as_planned, stopping_leaves_some}
 
 -- ---- the empty disk
 
@@ -227,8 +221,8 @@ module _ (bytes : List ℕ) (config : Settings) (planned : PlannedLife) (found n
     (begun : call_counts_of first ≡ record { reads = 0; writes = 0; syncs = 0 })
     (unheard : (inner_outlet heard).lines ≡ [])
     (refuses : until_fault heard ≡ number_refused planned.refuse)
-    (once : LivesOnce story_medium hands_out hears bytes config (map act_of planned.acts) lived
-    first planned.answers heard last answers_left heard')
+    (once : LivesOnce story_medium hands_out hears (recipe bytes config) (map act_of planned.acts)
+    (surroundings first planned.answers heard) lived (surroundings last answers_left heard'))
     (ends : EndsLife lived last (inner_outlet heard') planned report next) (m : Module)
     (so_far : Promise) where
   calls_of : ℕ
@@ -311,10 +305,10 @@ module _ (bytes : List ℕ) (config : Settings) (planned : PlannedLife) (found n
   told_on law accepted kept =
       let room : HasAllRoom bytes config (story_medium first) =
       record { sectors = kept.room.sectors; writes = kept.room.writes } in
-      let made = law m config bytes so_far
-      (map act_of planned.acts) first last planned.answers answers_left heard heard'
-      once.begins once.worker (undone_acts lived.ended) accepted once.calls kept.keeps
-      kept.within in
+      let made = law m config bytes so_far (map act_of planned.acts)
+      (surroundings first planned.answers heard)
+      (one_life once.begins once.worker (undone_acts lived.ended)
+      (surroundings last answers_left heard')) accepted once.calls kept.keeps kept.within in
       let life = made.2 (inputs_of planned) calls_of refl (met made.0 made.1 room) in
       told_so made.0 made.1 room kept.keeps kept.within life.0 life.1 life.2 life.3 life.4
 
@@ -325,8 +319,8 @@ one_life_is_told : (bytes : List ℕ) (config : Settings) (planned : PlannedLife
     → first.inner ≡ found → first.stop ≡ planned.stop → first.fail ≡ planned.fail
     → call_counts_of first ≡ record { reads = 0; writes = 0; syncs = 0 }
     → (inner_outlet heard).lines ≡ [] → until_fault heard ≡ number_refused planned.refuse
-    → LivesOnce story_medium hands_out hears bytes config (map act_of planned.acts) lived
-    first planned.answers heard last answers_left heard'
+    → LivesOnce story_medium hands_out hears (recipe bytes config) (map act_of planned.acts)
+    (surroundings first planned.answers heard) lived (surroundings last answers_left heard')
     → EndsLife lived last (inner_outlet heard') planned report next
     → CallsMakeLives story_medium hands_out hears
     → LivesOn bytes config planned found report next
@@ -344,8 +338,9 @@ pub ended_lives_are_told : (bytes : List ℕ) (config : Settings) (planned : Pla
     → first.fail ≡ planned.fail → call_counts_of first ≡ record { reads = 0; writes = 0; syncs = 0 }
     → (inner_outlet heard).lines ≡ [] → until_fault heard ≡ number_refused planned.refuse
     → answers ≡ planned.answers → acts ≡ planned.acts
-    → (LeavesSome story_medium → LivesOnce story_medium hands_out hears bytes config
-    (map act_of acts) lived first answers heard last answers_left heard')
+    → (LeavesSome story_medium → LivesOnce story_medium hands_out hears (recipe bytes config)
+    (map act_of acts) (surroundings first answers heard) lived
+    (surroundings last answers_left heard'))
     → IfOk result (λ on. EndsLife lived last (inner_outlet heard') planned on.report on.disk)
     → CallsMakeLives story_medium hands_out hears
     → IfOk result (λ on. LivesOn bytes config planned found on.report on.disk)
@@ -354,11 +349,12 @@ ended_lives_are_told bytes config planned found first last heard heard' answers_
     once ends law = one_life_is_told bytes config planned found on.disk on.report first last heard
     heard' answers_left
     lived below stop fail begun unheard refuses
-    (subst (λ (a : List Answer). LivesOnce story_medium hands_out hears bytes config
-    (map act_of planned.acts) lived first a heard last answers_left heard') answers_are
-    (subst (λ (a : List PlannedAct). LivesOnce story_medium hands_out hears bytes config
-    (map act_of a) lived first answers heard last answers_left heard') acts_are
-    (once stopping_leaves_some))) ends law
+    (subst (λ (a : List Answer). LivesOnce story_medium hands_out hears (recipe bytes config)
+    (map act_of planned.acts) (surroundings first a heard) lived
+    (surroundings last answers_left heard')) answers_are
+    (subst (λ (a : List PlannedAct). LivesOnce story_medium hands_out hears (recipe bytes config)
+    (map act_of a) (surroundings first answers heard) lived (surroundings last answers_left heard'))
+    acts_are (once stopping_leaves_some))) ends law
 ended_lives_are_told bytes config planned found first last heard heard' answers_left
     answers acts lived (Err why) below stop fail begun unheard refuses answers_are acts_are
     once ends law = tt

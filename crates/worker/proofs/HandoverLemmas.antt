@@ -1,7 +1,6 @@
 -- What a worker hands over, by what was found of it.
 use Rattle.std.proofs.Common.{true≢false, ◌≡◌, ◌≢◌, ◌⊎◌, ◌↔◌, inl, inr, ⊎_elim, ℕ, ◌+◌, ◌*◌, ◌<◌}
-use Rattle.std.proofs.Common.{◌≤◌}
-use Rattle.std.proofs.Common.{Bool, true, false, List, [], refl, sym, ap, ◌∙◌, subst, arith}
+use Rattle.std.proofs.Common.{◌≤◌, Bool, true, false, List, [], refl, sym, ap, ◌∙◌, subst, arith}
 use Rattle.std.proofs.Common.{Option, Some, None, is_some, option_map}
 use Rattle.std.specs.Prelude.{IsTrue, Result, Ok, Err}
 use Rattle.wasm_syntax.specs.declared.module.Module.{Module}
@@ -29,8 +28,7 @@ use Rattle.worker.specs.declared.fault.WorkFault.TheVariants.{Disk}
 use Rattle.worker.specs.declared.found.Found.{Found}
 use Rattle.worker.specs.declared.handover.Handover.{Handover}
 use Rattle.worker.specs.declared.leave_fault.LeaveFault.{LeaveFault}
-use Rattle.worker.specs.declared.leave_fault.LeaveFault.TheVariants.{NotParked, StepsSpent}
-use Rattle.worker.specs.declared.leave_fault.LeaveFault.TheVariants.{Recover}
+use Rattle.worker.specs.declared.leave_fault.LeaveFault.TheVariants.{NotParked, StepsSpent, Recover}
 use Rattle.worker.specs.declared.recover_fault.RecoverFault.{RecoverFault}
 use Rattle.worker.specs.declared.recover_fault.RecoverFault.TheVariants as recover
 use Rattle.worker.specs.rules.Questions.{HasQuestion}

@@ -6,22 +6,22 @@ use Rattle.wasi_abi.specs.rules.Configs.{Settings}
 use Rattle.sector_disk.specs.rules.Medium.{Medium}
 use Rattle.state_image.specs.rules.Saving.{saved_of}
 use Rattle.record_replay.specs.rules.Calls.{Giving, Taking}
-use Rattle.worker_store.specs.restart_theorem.Lives.{Act}
-use Rattle.worker_store.specs.restart_theorem.Lives.{Creates}
+use Rattle.worker_store.specs.restart_theorem.Lives.{Act, Creates}
 use Rattle.worker_store.specs.restart_theorem.Lives.Beginning.{Recovers as recovers}
 use Rattle.worker.specs.declared.fault.WorkFault.{WorkFault}
 use Rattle.worker.specs.declared.recover_fault.RecoverFault.{RecoverFault}
 use Rattle.worker.specs.declared.recover_fault.RecoverFault.TheVariants as recover
 use Rattle.worker.specs.rules.DurableCreations.{CreationKeeps, IsNotCreatedOn}
 use Rattle.worker.specs.rules.DurableValues.{DurableValue}
-use Rattle.worker.specs.rules.Recoveries.{IsNoWorker, Recovers, RecoveryCarries}
+use Rattle.worker.specs.rules.Recoveries.{IsNoWorker, RecoveryCarries}
+use Rattle.worker.specs.rules.ShownDisks.{Recovers}
 use Rattle.worker.specs.rules.OneLife.{BeginsLife, CallsInOrder, recovered, created, opened}
-use Rattle.worker.specs.rules.OneLife.{unopened, undone_acts}
+use Rattle.worker.specs.rules.OneLife.{unopened, undone_acts, recipe}
+use Rattle.worker.specs.rules.Scenes.{scene, site, surroundings}
 use Rattle.worker.specs.declared.story.living.LivedOnce.{LivedOnce}
 use Rattle.worker.specs.declared.story.opening.OpenedWorker.{OpenedWorker}
 use Rattle.worker.specs.declared.story.report.Opening.{Opening}
-use Rattle.worker.specs.declared.story.report.Opening.TheVariants.{Created, Recovered}
-use Rattle.worker.specs.declared.story.report.Opening.TheVariants.{Unopened}
+use Rattle.worker.specs.declared.story.report.Opening.TheVariants.{Created, Recovered, Unopened}
 use Rattle.worker.specs.rules.Told.{TellsOpening}
 use Rattle.worker.specs.LifeCalls.{LeavesSome, Opens, LivesOnce, beginning_of}
 use Rattle.worker.specs.LifeCalls.{TellsGeneration, IsOfRecovery}
@@ -40,14 +40,16 @@ module _ {D O : Type 0} (medium : D → Medium) (takes : Taking O) (bytes : List
   pub opens_again : (w : DurableValue) (disk : D) (outlet' : O)
       → Recovers medium takes (Ok w) found disk outlet outlet'
       → RecoveryCarries takes (Ok w) (medium found) (medium disk) outlet outlet'
-      → BeginsLife medium takes bytes config found outlet recovers (Ok w) disk outlet'
+      → BeginsLife medium takes (recipe bytes config) (site found outlet) recovers (Ok w)
+      (site disk outlet')
   opens_again w disk outlet' recovery carries =
       let crashed = some disk in recovered crashed.0 crashed.1 (λ says. says) recovery carries
 
   pub opens_not : (why : RecoverFault) (disk : D) (outlet' : O) → (IsNoWorker why → ⊥)
       → Recovers medium takes (Err why) found disk outlet outlet'
       → RecoveryCarries takes (Err why) (medium found) (medium disk) outlet outlet'
-      → BeginsLife medium takes bytes config found outlet recovers (Err why) disk outlet'
+      → BeginsLife medium takes (recipe bytes config) (site found outlet) recovers (Err why)
+      (site disk outlet')
   opens_not why disk outlet' other recovery carries =
       let crashed = some disk in recovered crashed.0 crashed.1 other recovery carries
 
@@ -56,7 +58,8 @@ module _ {D O : Type 0} (medium : D → Medium) (takes : Taking O) (bytes : List
       (carries : RecoveryCarries takes (Err none) (medium found) (medium mid) outlet outlet') where
     pub opens_anew : (w : DurableValue)
         → CreationKeeps bytes config (Ok w) (medium mid) (medium disk)
-        → BeginsLife medium takes bytes config found outlet Creates (Ok w) disk outlet'
+        → BeginsLife medium takes (recipe bytes config) (site found outlet) Creates (Ok w)
+        (site disk outlet')
     opens_anew w keeps =
         let crashed = some mid in
         created (Err none) (Ok w) crashed.0 crashed.1 says recovery carries keeps tt
@@ -64,8 +67,8 @@ module _ {D O : Type 0} (medium : D → Medium) (takes : Taking O) (bytes : List
     pub opens_none : (why : WorkFault)
         → CreationKeeps bytes config (Err why) (medium mid) (medium disk)
         → IsNotCreatedOn bytes config (medium mid) (medium disk) why
-        → BeginsLife medium takes bytes config found outlet Creates (Err (recover.Worker why)) disk
-        outlet'
+        → BeginsLife medium takes (recipe bytes config) (site found outlet) Creates
+        (Err (recover.Worker why)) (site disk outlet')
     opens_none why keeps refused =
         let crashed = some mid in
         created (Err none) (Err why) crashed.0 crashed.1 says recovery carries keeps refused
@@ -75,7 +78,7 @@ module _ {D S O : Type 0} (medium : D → Medium) (gives : Giving S) (takes : Ta
     (source source' : S) (outlet inside outlet' : O) where
   -- the generation that is told is that of the recovery
   of_recovery : (start : OpenedWorker) (told : Opening)
-      → Opens medium takes bytes config found outlet (Ok start) disk inside
+      → Opens medium takes (recipe bytes config) (site found outlet) (Ok start) (site disk inside)
       → TellsGeneration start.is_created start.worker.store.journal.generation told
       → IsOfRecovery medium takes found outlet told
   of_recovery start (Recovered generation steps answers lines image) opens told =
@@ -84,14 +87,14 @@ module _ {D S O : Type 0} (medium : D → Medium) (gives : Giving S) (takes : Ta
   of_recovery start Unopened opens told = tt
 
   lives_open : (start : OpenedWorker) (lived : LivedOnce)
-      → Opens medium takes bytes config found outlet (Ok start) disk inside
-      → CallsInOrder medium gives takes acts start.worker disk source inside
-      (undone_acts lived.ended) last source' outlet'
+      → Opens medium takes (recipe bytes config) (site found outlet) (Ok start) (site disk inside)
+      → CallsInOrder medium gives takes acts (scene start.worker disk source inside)
+      (undone_acts lived.ended) (surroundings last source' outlet')
       → TellsOpening (beginning_of start.is_created) (Some (saved_of start.worker.process))
       lived.opened
       → TellsGeneration start.is_created start.worker.store.journal.generation lived.opened
-      → LivesOnce medium gives takes bytes config acts lived found source outlet last source'
-      outlet'
+      → LivesOnce medium gives takes (recipe bytes config) acts (surroundings found source outlet)
+      lived (surroundings last source' outlet')
   lives_open start lived opens calls told generation = record {
     begins = beginning_of start.is_created;
     worker = Some start.worker;
@@ -101,15 +104,18 @@ module _ {D S O : Type 0} (medium : D → Medium) (gives : Giving S) (takes : Ta
   }
 
   pub lives_on : (start : OpenedWorker) (result : Result LivedOnce AllocError)
-      → (LeavesSome medium → Opens medium takes bytes config found outlet (Ok start) disk inside)
-      → IfOk result (λ lived. CallsInOrder medium gives takes acts start.worker disk source inside
-      (undone_acts lived.ended) last source' outlet')
+      → (LeavesSome medium → Opens medium takes (recipe bytes config) (site found outlet)
+      (Ok start) (site disk inside))
+      → IfOk result (λ lived. CallsInOrder medium gives takes acts
+      (scene start.worker disk source inside) (undone_acts lived.ended)
+      (surroundings last source' outlet'))
       → IfOk result (λ lived. TellsOpening (beginning_of start.is_created)
       (Some (saved_of start.worker.process)) lived.opened)
       → IfOk result (λ lived.
       TellsGeneration start.is_created start.worker.store.journal.generation lived.opened)
-      → IfOk result (λ lived. LeavesSome medium → LivesOnce medium gives takes bytes config acts
-      lived found source outlet last source' outlet')
+      → IfOk result (λ lived. LeavesSome medium → LivesOnce medium gives takes
+      (recipe bytes config) acts (surroundings found source outlet) lived
+      (surroundings last source' outlet'))
   lives_on start (Ok lived) opens calls told generation =
       λ some. lives_open start lived (opens some) calls told generation
   lives_on start (Err e) opens calls told generation = tt
@@ -118,9 +124,9 @@ module _ {D S O : Type 0} (medium : D → Medium) (gives : Giving S) (takes : Ta
     (bytes : List ℕ) (config : Settings) (acts : List Act) (found last : D)
     (source : S) (outlet outlet' : O) where
   pub lives_shut : (why : RecoverFault)
-      → Opens medium takes bytes config found outlet (Err why) last outlet'
-      → LivesOnce medium gives takes bytes config acts
-      (record { opened = Unopened; ended = Err why }) found source outlet last source outlet'
+      → Opens medium takes (recipe bytes config) (site found outlet) (Err why) (site last outlet')
+      → LivesOnce medium gives takes (recipe bytes config) acts (surroundings found source outlet)
+      (record { opened = Unopened; ended = Err why }) (surroundings last source outlet')
   lives_shut why opens = record {
     begins = opens.0;
     worker = None;

@@ -13,7 +13,6 @@ use Rattle.process_rules.specs.Processes.{ProcessState, Guest}
 use Rattle.process.specs.Parts.{ShowsParts, IsAtCall}
 use Rattle.process.proofs.Performing.{next_is}
 use Rattle.process.proofs.Waiting.{wants_no_answer}
-use Rattle.process.specs.rules.Values.{ProcessValue, ShowsProcess}
 use Rattle.worker.specs.rules.Questions.{HasQuestion}
 
 -- a call's rule that asks for an answer
@@ -43,13 +42,3 @@ module _ (m : MachineValue) (held : HeldWasiState) (guest : Guest) (p : ProcessS
         next_is guest p c arguments at None (Err (Inquires question))
             (asking question (call_rule c arguments None p.configuration.store.memory p.host) here),
       )
-
--- what a process shows, its parts show
-pub parts_shown : (v : ProcessValue) (guest : Guest) (p : ProcessState) → ShowsProcess v guest p
-    → ShowsParts v.machine v.host guest p
-parts_shown v guest p shows = record {
-  calls = shows.calls;
-  configuration = shows.configuration;
-  host = shows.host;
-  closed = shows.closed;
-}

@@ -18,8 +18,7 @@ use Rattle.process_rules.proofs.Growing.{runs_count}
 use Rattle.machine.specs.rules.Values.{MachineValue}
 use Rattle.machine.specs.rules.Runs.{HasBegun}
 use Rattle.machine.specs.declared.from_bytes.fault.ModuleFault.{ModuleFault}
-use Rattle.machine.specs.rules.Acceptance.{Accepts, ModuleFaultDenies, HasNoAcceptedModule}
-use Rattle.machine.specs.rules.Acceptance.{is_want}
+use Rattle.machine.specs.rules.Acceptance.{Accepts, ModuleFaultDenies, HasNoAcceptedModule, is_want}
 use Rattle.machine.proofs.Wants.{no_want}
 use Rattle.sector_disk.specs.rules.DiskImage.{DiskImage}
 use Rattle.disk_layout.specs.declared.reading.contents.Contents.{Contents}

@@ -1,6 +1,5 @@
 -- A life is run on the disk that it finds.
-use Rattle.std.proofs.Common.{◌≡◌, ℕ, ◌+◌, ◌≤◌, List, [], length, refl, sym, ◌∙◌, subst}
-use Rattle.std.proofs.Common.{inl, inr}
+use Rattle.std.proofs.Common.{◌≡◌, ℕ, ◌+◌, ◌≤◌, List, [], length, refl, sym, ◌∙◌, subst, inl, inr}
 use Rattle.std.specs.Prelude.{Result, Ok, Err, IfOk, map}
 use Rattle.wasm_syntax.specs.declared.module.Module.{Module}
 use Rattle.wasi_abi.specs.declared.answer.Answer.{Answer}
@@ -24,12 +23,12 @@ use Rattle.worker.specs.declared.story.life.PlannedLife.{PlannedLife}
 use Rattle.worker.specs.declared.story.living.LivedOnce.{LivedOnce}
 use Rattle.worker.specs.declared.story.report.LifeReport.{LifeReport}
 use Rattle.worker.specs.declared.story.report.Opening.{Opening}
-use Rattle.worker.specs.declared.story.report.Opening.TheVariants.{Created, Recovered}
-use Rattle.worker.specs.declared.story.report.Opening.TheVariants.{Unopened}
-use Rattle.worker.specs.rules.OneLife.{shown_first}
+use Rattle.worker.specs.declared.story.report.Opening.TheVariants.{Created, Recovered, Unopened}
+use Rattle.worker.specs.rules.OneLife.{shown_first, recipe}
+use Rattle.worker.specs.rules.Scenes.{surroundings}
 use Rattle.worker.specs.rules.DurableValues.{DurableValue}
 use Rattle.worker.specs.rules.Planned.{act_of, call_at, number_refused}
-use Rattle.worker.specs.rules.Recoveries.{Recovers}
+use Rattle.worker.specs.rules.ShownDisks.{Recovers}
 use Rattle.worker.specs.rules.StoryDisks.{story_medium, IsBegunOn, IsNextGeneration}
 use Rattle.worker.specs.rules.StoryDisks.{IsRunOn, StopSays}
 use Rattle.worker.specs.rules.Told.{TellsOpening}
@@ -60,7 +59,7 @@ next_after w found disk heard heard' image m config kept n (inl failed_sync) sho
     let e = failed_sync.is in absurd (cc)
 next_after w found disk heard heard' image m config kept n (inr by) shows stands fits =
     let synced = by.1 in
-    let from = by.2 image (shown_still found by.0 image synced.stays shows) in
+    let from = (by.2 image (shown_still found by.0 image synced.stays shows)).0 in
     let revived = (from.revives m config kept n stands fits).0 in
     revived.generation
 
@@ -78,8 +77,8 @@ one_life_is_run : (bytes : List ℕ) (config : Settings) (planned : PlannedLife)
     (heard heard' : RefusingOutlet HeardLines) (answers_left : List Answer) (lived : LivedOnce)
     → IsBegunOn planned found first → (inner_outlet heard).lines ≡ []
     → until_fault heard ≡ number_refused planned.refuse
-    → LivesOnce story_medium hands_out hears bytes config (map act_of planned.acts) lived
-    first planned.answers heard last answers_left heard'
+    → LivesOnce story_medium hands_out hears (recipe bytes config) (map act_of planned.acts)
+    (surroundings first planned.answers heard) lived (surroundings last answers_left heard')
     → EndsLife lived last (inner_outlet heard') planned report next
     → IsRunOn bytes config planned report found next
 one_life_is_run bytes config planned found next report first last heard heard'
@@ -119,18 +118,20 @@ pub ended_lives_are_run : (bytes : List ℕ) (config : Settings) (planned : Plan
     (result : Result LivedOn StoryFault) → IsBegunOn planned found first
     → (inner_outlet heard).lines ≡ [] → until_fault heard ≡ number_refused planned.refuse
     → answers ≡ planned.answers → acts ≡ planned.acts
-    → (LeavesSome story_medium → LivesOnce story_medium hands_out hears bytes config
-    (map act_of acts) lived first answers heard last answers_left heard')
+    → (LeavesSome story_medium → LivesOnce story_medium hands_out hears (recipe bytes config)
+    (map act_of acts) (surroundings first answers heard) lived
+    (surroundings last answers_left heard'))
     → IfOk result (λ on. EndsLife lived last (inner_outlet heard') planned on.report on.disk)
     → IfOk result (λ on. IsRunOn bytes config planned on.report found on.disk)
 ended_lives_are_run bytes config planned found first last heard heard' answers_left
     answers acts lived (Ok on) begun unheard refuses answers_are acts_are once ends =
     one_life_is_run bytes config planned found on.disk on.report first last heard
     heard' answers_left lived begun unheard refuses
-    (subst (λ (a : List Answer). LivesOnce story_medium hands_out hears bytes config
-    (map act_of planned.acts) lived first a heard last answers_left heard') answers_are
-    (subst (λ (a : List PlannedAct). LivesOnce story_medium hands_out hears bytes config
-    (map act_of a) lived first answers heard last answers_left heard') acts_are
-    (once stopping_leaves_some))) ends
+    (subst (λ (a : List Answer). LivesOnce story_medium hands_out hears (recipe bytes config)
+    (map act_of planned.acts) (surroundings first a heard) lived
+    (surroundings last answers_left heard')) answers_are
+    (subst (λ (a : List PlannedAct). LivesOnce story_medium hands_out hears (recipe bytes config)
+    (map act_of a) (surroundings first answers heard) lived (surroundings last answers_left heard'))
+    acts_are (once stopping_leaves_some))) ends
 ended_lives_are_run bytes config planned found first last heard heard' answers_left
     answers acts lived (Err why) begun unheard refuses answers_are acts_are once ends = tt

@@ -1,7 +1,6 @@
 -- An act that saves a worker, as an event of a life, and what its disk holds.
-use Rattle.std.proofs.Common.{◌≡◌, ◌≢◌, ℕ, ◌+◌, ◌-◌, ◌*◌, ◌≤◌, ◌^◌, List, [], ◌∷◌, ◌++◌}
-use Rattle.std.proofs.Common.{◌⊎◌, length, Some, false, refl, sym, ap, ◌∙◌, subst, inl, inr}
-use Rattle.std.proofs.Common.{arith, take}
+use Rattle.std.proofs.Common.{◌≡◌, ◌≢◌, ℕ, ◌+◌, ◌-◌, ◌*◌, ◌≤◌, ◌^◌, List, [], ◌∷◌, ◌++◌, ◌⊎◌}
+use Rattle.std.proofs.Common.{length, Some, false, refl, sym, ap, ◌∙◌, subst, inl, inr, arith, take}
 use Rattle.std.proofs.lemmas.List.{append-nil}
 use Rattle.std.proofs.Math.Seq.{take-length}
 use Rattle.std.specs.Prelude.{Result, Ok, Err}
@@ -25,24 +24,22 @@ use Rattle.sector_disk.specs.rules.Medium.{Medium, CallsUpTo}
 use Rattle.disk_layout.specs.declared.geometry.Geometry.{Geometry}
 use Rattle.disk_layout.specs.rules.Journal.{Record, TakesRecords}
 use Rattle.worker_store.specs.restart_theorem.Lives.{Act, Checkpoint, Reply, Done, Fails, Cause}
-use Rattle.worker_store.specs.restart_theorem.Lives.{OfDisk}
-use Rattle.worker_store.specs.restart_theorem.Lives.{OfBounds, Ended, kept_by_end}
+use Rattle.worker_store.specs.restart_theorem.Lives.{OfDisk, OfBounds, Ended, kept_by_end}
 use Rattle.worker_store.specs.restart_theorem.Courses.{Stage, Open, MayFail, next_stage}
 use Rattle.worker_store.specs.restart_theorem.Promises.{Promise, after, MayPlead}
 use Rattle.worker_store.specs.restart_theorem.Holds.{StaysWithin}
 use Rattle.worker_store.specs.restart_theorem.Exchanges.{none as no_exchange}
 use Rattle.worker_store.specs.rules.Savepoints.{Savepoint}
 use Rattle.worker_store.specs.laws.Acts.{SavesWith, ShowsItsVersion, MayBeKept, keeping_more}
-use Rattle.worker_store.specs.laws.CallEnds.{IsSavedAs, HasBound, ComesAtOnce, IsSavingNext}
-use Rattle.worker_store.specs.rules.Carried.{count_at, IsHeldAt, SyncsAreHeld}
+use Rattle.worker_store.specs.laws.CallEnds.{IsSavedAs, HasBound, ComesAtOnce, IsSavingNext, saving}
+use Rattle.worker_store.specs.rules.Carried.{count_at, IsHeldAt, IsCarried, SyncsAreHeld}
 use Rattle.worker_store.specs.laws.AtHand.{IsNextOf}
 use Rattle.worker_store.specs.laws.Saves.{IsSavingAt, IsSavedBy}
 use Rattle.worker_store.proofs.LawLemmas.Acts.{saving_ends_alike, acts_may_fail}
 use Rattle.worker_store.proofs.LawLemmas.CallEnds.{done_saves_end, failed_saves_end, saved_runs}
 use Rattle.worker_store.proofs.LawLemmas.CallEnds.{calls_leave_between}
 use Rattle.worker_store.proofs.LawLemmas.Carrying.{all_is_held, begins_carried}
-use Rattle.worker_store.proofs.LawLemmas.Raising.{all_syncs_are_held, carried_is_reached}
-use Rattle.worker_store.proofs.LawLemmas.Raising.{up_to_all}
+use Rattle.worker_store.proofs.LawLemmas.Raising.{all_syncs_are_held, carried_is_reached, up_to_all}
 use Rattle.worker_store.proofs.LawLemmas.AtHand.{shown_is_saved, next_is_at_hand, same_within}
 use Rattle.worker_store.proofs.LawLemmas.Saving.{done_saves_carry, failed_saves_carry}
 use Rattle.worker_store.proofs.LawLemmas.TurnLemmas.{more_carries, syncs_of_more}
@@ -58,8 +55,8 @@ use Rattle.worker.specs.rules.WorkFaults.{fault_of_store}
 use Rattle.worker.specs.rules.DurableValues.{DurableValue}
 use Rattle.worker_store.specs.rules.BetweenCalls.{IsForetold}
 use Rattle.worker.specs.rules.DurableCalls.{CallCarries, HasCauseAt, HasCauseOf, IsFailureOf}
-use Rattle.worker.specs.rules.DurableCalls.{IsReplyOfSaving}
-use Rattle.worker.specs.rules.OpenWorkers.{IsOpenOn, IsOnDisk}
+use Rattle.worker.specs.rules.DurableCalls.{IsReplyOfSaving, invocation}
+use Rattle.worker.specs.rules.OpenWorkers.{IsOpenOn, IsOnDisk, identity}
 use Rattle.worker.specs.Savings.{LeavesFrontOrNext, IsSaveFault, SaveFails}
 use Rattle.worker.specs.rules.CallCounts.{most_saving}
 use Rattle.worker.specs.rules.Checkpoints.{IsCheckpointFault, CheckpointFails}
@@ -92,7 +89,7 @@ pub record SavesProcess (m : Module) (config : Settings) (guest : Guest) (p : Pr
 -- into its area.
 pub record CanSave (m : Module) (config : Settings) (guest : Guest) (promise : Promise)
     (p : ProcessState) (step latest : ℕ) (before : WorkerStore) (disk : Medium)
-    (on : IsOnDisk m config guest promise p step latest before disk) (more : List Kept)
+    (on : IsOnDisk (identity m config guest) promise p step latest before disk) (more : List Kept)
     (q : ProcessState) (v : ProcessValue) : Type 0 where
   pub next : Savepoint m config
   pub is_next : IsNextOf on.point (on.records ++ on.pending) more on.now q v next
@@ -104,7 +101,7 @@ module _ {D : Type 0} (medium : D → Medium) where
   pub can_save : (m : Module) (config : Settings) (guest : Guest) (promise : Promise)
       (p : ProcessState) (step latest : ℕ) (before : WorkerStore) (disk : D) (more : List Kept)
       (k : ℕ) (q : ProcessState) (v : ProcessValue)
-      → (on : IsOnDisk m config guest promise p step latest before (medium disk))
+      → (on : IsOnDisk (identity m config guest) promise p step latest before (medium disk))
       → Runs guest p more k q → ShowsProcess v guest q → IsProcess v → v.machine.guest ≡ m
       → IsOfBytes (host_of config) → ProcessImagesFitAreas
       → TakesRecords (saved_of v).version config.journal
@@ -213,8 +210,8 @@ module _ {D : Type 0} (medium : D → Medium) (old new : DurableValue) (disk : D
     abbrev held_then : ℕ
     held_then = length (promise.kept ++ more)
 
-    abbrev saving_next : IsSavingNext m config guest promise stage act more p q
-        (saved_of new.process)
+    abbrev saving_next : IsSavingNext m config guest promise stage act p
+        (saving more q (saved_of new.process))
     saving_next = record {
       between = opened.between;
       comes = is.comes;
@@ -228,15 +225,32 @@ module _ {D : Type 0} (medium : D → Medium) (old new : DurableValue) (disk : D
 
     saving_at : (let on = opened.on_disk in
         let can = ready in
-        IsSavingAt promise act more (saved_of new.process) on.point can.next old.store.journal
-        on.records on.pending on.last on.now (medium disk))
+        IsSavingAt promise act more (saved_of new.process) on.point can.next
+        (on.records ++ on.pending) on.now)
     saving_at =
-        let on = opened.on_disk in
         let can = ready in
         let next_is = can.is_next in
         let comes = is.comes in
         let lines : length q.host.lines ≡ length p.host.lines = comes.lines in
         let heard : length p.host.lines ≤ promise.heard = opened.heard in
+        record {
+          saves = saves;
+          saved = next_is.saved;
+          all = can.all;
+          front = next_is.saves (keeping_more promise more)
+              (all_first (promise.kept ++ more) can.next.front can.all)
+              (up_to_all (promise.kept ++ more) can.next.front q.steps can.all)
+              (omega (arith, lines, heard));
+        }
+
+    -- what was promised is held on the disk, these being kept besides
+    carried_with_more : (let on = opened.on_disk in
+        IsCarried (keeping_more promise more) on.point old.store.journal on.records on.pending
+        on.last on.now (medium disk))
+    carried_with_more =
+        let on = opened.on_disk in
+        let comes = is.comes in
+        let lines : length q.host.lines ≡ length p.host.lines = comes.lines in
         let by = reached_now medium m config guest promise p p.steps promise.events old.store disk
         on in
         let counted : p.steps ≡ on.now.steps + on.n =
@@ -247,18 +261,9 @@ module _ {D : Type 0} (medium : D → Medium) (old new : DurableValue) (disk : D
           emitted = subst (λ n. ((step : ℕ) → IsNarrowTo more step) ⊎ (promise.begun ≤ n))
               (shown_whole.shows.lines ∙ lines) saves.may.emitted;
         } in
-        record {
-          saves = saves;
-          saved = next_is.saved;
-          all = can.all;
-          front = next_is.saves (keeping_more promise more)
-              (all_first (promise.kept ++ more) can.next.front can.all)
-              (up_to_all (promise.kept ++ more) can.next.front q.steps can.all)
-              (omega (arith, lines, heard));
-          carried = more_carries medium m config promise on.point old.store.journal on.records
-              on.pending on.last on.now p p.steps more disk on.carried on.point.accepted.valid
-              by.reached opened.synced (come_so_far on.now.steps p.steps on.n counted) may_be;
-        }
+        more_carries medium m config promise on.point old.store.journal on.records on.pending
+        on.last on.now p p.steps more disk on.carried on.point.accepted.valid by.reached
+        opened.synced (come_so_far on.now.steps p.steps on.n counted) may_be
       where
         come_so_far : (a b n : ℕ) → b ≡ a + n → a ≤ b
         come_so_far a b n e = omega (arith, e)
@@ -301,7 +306,7 @@ module _ {D : Type 0} (medium : D → Medium) (old new : DurableValue) (disk : D
     -- it fails for a cause that it may plead
     pub save_pleaded : (cause : Cause) → MayPlead config (promise.kept ++ more) stage act cause
         → HasBound m config guest promise q cause
-        → CallCarries m config guest promise stage act (Fails cause) new (medium disk)
+        → CallCarries (invocation m config guest act) promise stage (Fails cause) new (medium disk)
         (medium disk') []
     save_pleaded cause pleads bound =
         let on = opened.on_disk in
@@ -318,7 +323,7 @@ module _ {D : Type 0} (medium : D → Medium) (old new : DurableValue) (disk : D
           );
           carried = failed_saves_carry medium m config promise act more (saved_of new.process) cause
               held_then on.point can.next old.store.journal on.records on.pending on.last on.now
-              disk disk' saving_at syncs_then
+              disk disk' saving_at carried_with_more syncs_then
               (leaves m config on.point can.next on.records on.pending on.last on.now on.stores
               next_is.comes next_is.saved);
           bounded = save_bounds;
@@ -329,7 +334,7 @@ module _ {D : Type 0} (medium : D → Medium) (old new : DurableValue) (disk : D
 
     pub save_failed : (cause : Cause) → MayFail Open cause
         → HasBound m config guest promise q cause
-        → CallCarries m config guest promise stage act (Fails cause) new (medium disk)
+        → CallCarries (invocation m config guest act) promise stage (Fails cause) new (medium disk)
         (medium disk') []
     save_failed cause may bound =
         let between = opened.between in
@@ -361,11 +366,12 @@ module _ {D : Type 0} (medium : D → Medium) (old new : DurableValue) (disk : D
           let next_is = can.is_next in
           done_saves_carry medium m config promise act more (saved_of new.process) on.point can.next
           old.store.journal on.records on.pending on.last on.now disk disk' saving_at
+          carried_with_more
           (leaves m config on.point can.next on.records on.pending on.last on.now on.stores
           next_is.comes next_is.saved) (let s = stored in s.journaled.at_savepoint)
 
       saved_on : (let can = ready in
-          IsOnDisk m config guest more_then q q.steps (promise.events + 1) new.store
+          IsOnDisk (identity m config guest) more_then q q.steps (promise.events + 1) new.store
           (medium disk'))
       saved_on =
           let on = opened.on_disk in
@@ -438,8 +444,8 @@ module _ {D : Type 0} (medium : D → Medium) (old new : DurableValue) (disk : D
             };
           }
 
-      pub save_done : CallCarries m config guest promise stage act Done new (medium disk)
-          (medium disk') []
+      pub save_done : CallCarries (invocation m config guest act) promise stage Done new
+          (medium disk) (medium disk') []
       save_done =
           let there = saved_by_act in
           record {
@@ -486,7 +492,7 @@ SavingCarries act old result new disk disk' =
     → stage.acts ≡ act ∷ acts → IsForetold stage []
     → (reply : Reply) × IsReplyOfSaving result reply
     × HasCauseOf result guest config new.process disk disk'
-    × CallCarries m config guest promise stage act reply new disk disk' []
+    × CallCarries (invocation m config guest act) promise stage reply new disk disk' []
 
 -- how its disk is left
 module _ {D : Type 0} (medium : D → Medium) (act : Act) (old new : DurableValue) (disk disk' : D)
@@ -525,8 +531,8 @@ module _ {D : Type 0} (medium : D → Medium) (act : Act) (old new : DurableValu
 
       failed : (cause : Cause) → MayFail Open cause
           → ((q : ProcessState) → HasBound m config guest promise q cause)
-          → CallCarries m config guest promise stage act (Fails cause) new (medium disk)
-          (medium disk') []
+          → CallCarries (invocation m config guest act) promise stage (Fails cause) new
+          (medium disk) (medium disk') []
       failed cause may bound =
           let is = saves m config guest promise stage p opened in
           save_failed medium old new disk fit m config guest promise stage p opened is.0 is.1
@@ -536,7 +542,8 @@ module _ {D : Type 0} (medium : D → Medium) (act : Act) (old new : DurableValu
           → IsCheckpointFault old (medium disk) (medium disk') (fault_of_store fault)
           → (reply : Reply) × IsFailureOf (fault_of_store fault) reply
           × HasCauseAt (fault_of_store fault) guest config new.process (medium disk) (medium disk')
-          × CallCarries m config guest promise stage act reply new (medium disk) (medium disk') []
+          × CallCarries (invocation m config guest act) promise stage reply new (medium disk)
+          (medium disk') []
       carries store.TooBig late = (
         Fails OfBounds,
         (OfBounds, refl, refl),

@@ -5,8 +5,7 @@ use Rattle.std.specs.Prelude.{Result, Err, ◌==◌, slice_get, reverse, map}
 use Rattle.std.proofs.lemmas.Bool.{leb-true}
 use Rattle.wasm_syntax.specs.declared.value.Value.{Value}
 use Rattle.wasm_rules.specs.Types.{number_in}
-use Rattle.wasm_rules.specs.Configuration.{Configuration, Thread, Outcome, Goes, Traps, Asks}
-use Rattle.wasm_rules.specs.Configuration.{Stuck}
+use Rattle.wasm_rules.specs.Configuration.{Configuration, Thread, Outcome, Goes, Traps, Asks, Stuck}
 use Rattle.wasm_rules.specs.Steps.{counted_step}
 use Rattle.wasi_abi.specs.declared.errno.Errno.{Errno}
 use Rattle.wasi_abi.specs.declared.errno.Errno.TheVariants.{Inval}
@@ -21,11 +20,10 @@ use Rattle.wasi_abi.specs.rules.Versions.{text_limit}
 use Rattle.wasi_calls_rules.specs.WasiStates.{Target, Stream, Node, Descriptor, WasiState}
 use Rattle.wasi_calls_rules.specs.Checks.{Bytes, Halt, Refuses, Ends, Asks as Inquires, ◌>>=◌}
 use Rattle.wasi_calls_rules.specs.Checks.{Buffer, Ruling, check_or, some_or, buffers, asked}
-use Rattle.wasi_calls_rules.specs.Checks.{fitting}
+use Rattle.wasi_calls_rules.specs.Checks.{fitting, answered_by}
 use Rattle.wasi_abi.specs.declared.version.Version.{Version}
 use Rattle.wasi_abi.specs.declared.version.Version.TheVariants.{One, Two}
 use Rattle.disk_layout.specs.rules.Journal.{payload_of}
-use Rattle.wasi_calls_rules.specs.Checks.{answered_by}
 use Rattle.wasi_calls_rules.specs.Small.{time_put, clock_question, clock_time_get, random_put}
 use Rattle.wasi_calls_rules.specs.Small.{random_get}
 use Rattle.wasi_calls_rules.specs.Moving.{Got, input_taken, input_read, target_read, fd_read}

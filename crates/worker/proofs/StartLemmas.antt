@@ -6,7 +6,7 @@ use Rattle.std.proofs.lemmas.List.{append-nil, length-take-le, take_all, take_at
 use Rattle.wasm_syntax.specs.declared.module.Module.{Module}
 use Rattle.wasi_abi.specs.rules.Configs.{Settings}
 use Rattle.sector_disk.specs.declared.memory.MemDisk.{MemDisk}
-use Rattle.sector_disk.specs.rules.DiskImage.{DiskImage, zeros}
+use Rattle.sector_disk.specs.rules.DiskImage.{DiskImage}
 use Rattle.sector_disk.specs.rules.Pending.{Leaves}
 use Rattle.sector_disk.specs.rules.Memory.{after_cut, memory_medium, memory_state_of, MemoryState}
 use Rattle.disk_layout.specs.rules.Places.{geometry_of, total_sectors}
@@ -16,16 +16,11 @@ use Rattle.worker_store.specs.restart_theorem.Holds.{IsBounded}
 use Rattle.worker.specs.declared.story.life.PlannedLife.{PlannedLife}
 use Rattle.worker.specs.declared.story.report.LifeReport.{LifeReport}
 use Rattle.worker.specs.declared.story.starting.StoryStart.{StoryStart}
-use Rattle.worker.specs.rules.StoryDisks.{IsEmptyDisk, IsEmptyDiskFor, IsRunOn, TellsLives}
-use Rattle.worker.specs.rules.StoryDisks.{copied}
+use Rattle.worker.specs.rules.StoryDisks.{IsEmptyDiskFor, IsRunOn, TellsLives, copied}
 use Rattle.worker.specs.Going.{GoOnBehind, GoneOn, HasSize, HaveStarted, IsKeptOn, LivesOn}
-use Rattle.worker.specs.Going.{AddsReports}
+use Rattle.worker.specs.Going.{AddsReports, kept_at}
 use Rattle.worker_store.specs.restart_theorem.Successions.{promised_by_all}
-use Rattle.worker.specs.Going.{kept_at}
 use Rattle.worker.proofs.GoingLemmas.{no_life_so_far, one_more_has_gone}
-
-abbrev empty_state : ℕ → ℕ → MemoryState
-empty_state sectors writes = record { durable = zeros sectors; pending = []; limit = writes }
 
 -- ---- a copy of the disk
 
@@ -213,17 +208,6 @@ have_started bytes config all later place told mid reports first left (Some star
     (before [] [] (no_life_so_far bytes config told first none made)))
 
 -- ---- the disk of a room
-
-pub wiped_is_empty : (sectors writes : ℕ) (used wiped : MemDisk) → HasSize sectors writes used
-    → memory_state_of wiped ≡ record {
-      durable = zeros (length (memory_state_of used).durable);
-      pending = [];
-      limit = (memory_state_of used).limit;
-    } → IsEmptyDisk sectors writes wiped
-wiped_is_empty sectors writes used wiped size is =
-    is
-    ∙ ap (λ (n : ℕ). empty_state n (memory_state_of used).limit) size.sectors_are
-    ∙ ap (empty_state sectors) size.writes_are
 
 pub cut_has_size : (sectors writes : ℕ) (used cut : MemDisk) (tears : List ℕ)
     → HasSize sectors writes used → memory_state_of cut ≡ after_cut (memory_state_of used) tears

@@ -4,7 +4,7 @@ use Rattle.std.specs.Prelude.{◌≢◌}
 use Rattle.process.specs.rules.Values.{IsProcess}
 use Rattle.sector_disk.specs.rules.Medium.{Medium}
 use Rattle.disk_layout.specs.rules.Places.{total_sectors}
-use Rattle.record_replay.specs.rules.Calls.{Giving, Taking}
+use Rattle.record_replay.specs.rules.Calls.{Giving, Taking, ports}
 use Rattle.record_replay.specs.rules.Slices.{Slices}
 use Rattle.record_replay.specs.declared.slices.now.Now.{Now}
 use Rattle.record_replay.specs.declared.slices.now.Now.TheVariants.{Spent}
@@ -34,8 +34,8 @@ module _ {D S O : Type 0} (medium : D → Medium) (gives : Giving S) (takes : Ta
   -- they were taken
   pub steps_done : old.has_failed ≡ false → (now : Now)
       → StoreGoes running.store new.store (medium disk) (medium disk')
-      → Slices gives takes (working running.process) fuel now (working new.process) source source'
-      outlet outlet' → (now ≢ Spent → new.is_abreast ≡ true)
+      → Slices gives takes (working running.process) fuel now (working new.process)
+      (ports source outlet) (ports source' outlet') → (now ≢ Spent → new.is_abreast ≡ true)
       → RunsSteps medium gives takes fuel (scene old disk source outlet) (Ok now)
       (scene (durable_of new replayed) disk' source' outlet')
   steps_done works now runs slices abreast =
@@ -43,8 +43,8 @@ module _ {D S O : Type 0} (medium : D → Medium) (gives : Giving S) (takes : Ta
       record {
         shows = shown_before;
         done = slices_of gives takes (working running.process) (working new.process)
-            (without_disk old) (without_disk (durable_of new replayed)) fuel now source source'
-            outlet outlet'
+            (without_disk old) (without_disk (durable_of new replayed)) fuel now
+            (ports source outlet) (ports source' outlet')
             (ap (λ z. record { process = running.process; failed = z }) (sym before)
             ∙ ap without_disk is_old)
             (ap (λ z. record { process = new.process; failed = z }) (sym (runs.works before)))

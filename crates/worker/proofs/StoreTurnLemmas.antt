@@ -39,12 +39,10 @@ use Rattle.worker.specs.rules.WorkFaults.{fault_of_store}
 use Rattle.worker.specs.Savings.{HasSaveCause}
 use Rattle.worker.specs.rules.SliceCalls.{AreSliceCalls, AreLastCalls, AreBarrierCalls}
 use Rattle.worker.specs.rules.SliceCalls.{SliceCalls, none, barrier, save}
-use Rattle.worker.specs.StoreTurns.{StoreGoes, StoreStops, StoreRuns, StoreSaves}
-use Rattle.worker.specs.StoreTurns.{HasTurnCause, StoreHears, HearsOrNot}
-use Rattle.worker.specs.StoreTurns.{HasHearingCause}
+use Rattle.worker.specs.StoreTurns.{StoreGoes, StoreStops, StoreRuns, StoreSaves, HasTurnCause}
+use Rattle.worker.specs.StoreTurns.{StoreHears, HearsOrNot, HasHearingCause}
 use Rattle.worker.specs.rules.Unsynced.{CountsInSlice}
-use Rattle.worker.proofs.TurnCounts.{counts_none, counts_join, barrier_counts}
-use Rattle.worker.proofs.TurnCounts.{commit_counts}
+use Rattle.worker.proofs.TurnCounts.{counts_none, counts_join, barrier_counts, commit_counts}
 
 -- ---- calls, one after another
 

@@ -38,8 +38,7 @@ use Rattle.worker_store.proofs.RestartLemmas.Disks.{blank_is_within}
 use Rattle.worker_store.specs.rules.Savepoints.{Savepoint, IsAtSavepoint, BeginsAtPoint}
 use Rattle.worker_store.specs.laws.Succeeding.{IsFirstFrom}
 use Rattle.worker_store.proofs.LawLemmas.AtHand.{version_shown}
-use Rattle.worker_store.proofs.LawLemmas.Succeeding.{successor_holds_promise}
-use Rattle.worker_store.proofs.LawLemmas.Succeeding.{successor_is_at_hand}
+use Rattle.worker_store.proofs.LawLemmas.Succeeding.{successor_holds_promise, successor_is_at_hand}
 use Rattle.worker_store.specs.declared.fault.StoreFault.{StoreFault}
 use Rattle.worker_store.specs.declared.fault.StoreFault.TheVariants as store
 use Rattle.worker_store.specs.declared.store.WorkerStore.{WorkerStore}

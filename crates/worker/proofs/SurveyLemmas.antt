@@ -1,7 +1,5 @@
 -- What a look at a disk tells, by what was found there.
-use Rattle.std.proofs.Common.{◌≡◌, inl, inr, ℕ, ◌<◌, ◌≤◌, List, length, refl, ap}
-use Rattle.std.proofs.Common.{◌*◌}
-use Rattle.std.proofs.Common.{subst, arith}
+use Rattle.std.proofs.Common.{◌≡◌, inl, inr, ℕ, ◌<◌, ◌≤◌, List, length, refl, ap, ◌*◌, subst, arith}
 use Rattle.std.specs.Prelude.{Result, Ok, Err}
 use Rattle.wasm_syntax.specs.declared.module.Module.{Module}
 use Rattle.wasi_abi.specs.declared.version.Version.{Version}
@@ -10,8 +8,7 @@ use Rattle.process_rules.specs.Runs.{Kept}
 use Rattle.state_image.specs.rules.ProcessImage.{Saved}
 use Rattle.sector_disk.specs.declared.fault.DiskFault.{DiskFault}
 use Rattle.sector_disk.specs.rules.DiskImage.{DiskImage}
-use Rattle.sector_disk.specs.rules.Medium.{Medium, SyncsMedium}
-use Rattle.sector_disk.specs.rules.Medium.{CallsUpTo}
+use Rattle.sector_disk.specs.rules.Medium.{Medium, SyncsMedium, CallsUpTo}
 use Rattle.disk_layout.specs.rules.Journal.{Record}
 use Rattle.disk_layout.specs.rules.Stored.{OnlyReads}
 use Rattle.worker_store.specs.restart_theorem.Stands.{StandsFor}

@@ -52,8 +52,7 @@ use Rattle.worker.specs.Savings.{LeavesFrontOrNext, SaveCalls, SaveFails, HasSav
 use Rattle.worker.specs.rules.CallCounts.{most_saving}
 use Rattle.worker.specs.rules.Checkpoints.{IsCheckpointFault}
 use Rattle.worker.specs.rules.Upgrades.{upgraded, UpgradeCalls, IsUpgradeFault, LeavesProcess}
-use Rattle.worker.specs.rules.Upgrades.{UpgradeFails, HasUpgradeCause, Migrates, IsTooSmall}
-use Rattle.worker.specs.rules.Upgrades.{IsNotCaughtUp}
+use Rattle.worker.specs.rules.Upgrades.{UpgradeFails, HasUpgradeCause, IsTooSmall, IsNotCaughtUp}
 use Rattle.worker.specs.Upgrading.{AfterFault}
 use Rattle.worker.proofs.SavingActLemmas.{SavesShown, save_fault, saving_done}
 use Rattle.worker.proofs.SavingActLemmas.{saving_fault, save_pleaded}
@@ -344,11 +343,6 @@ module _ (old : DurableValue) (failed : old.has_failed ≡ true) (disk disk' : M
       → UpgradeFails old after disk disk' why
   failed_upgrade_fails why after m config guest promise stage p opened =
       let works = opened.works in absurd (cc)
-
-pub failed_migrates : {D : Type 0} (medium : D → Medium) (old : DurableValue) (disk disk' : D)
-    → old.has_failed ≡ true → Migrates medium old disk disk'
-failed_migrates medium old disk disk' failed m config guest promise stage p opened narrow =
-    let works = opened.works in absurd (cc)
 
 -- ---- calls
 

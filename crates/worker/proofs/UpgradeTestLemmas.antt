@@ -1,8 +1,5 @@
 -- What is in the way of version 2, and what it says.
-use Rattle.std.proofs.Common.{◌≡◌, ℕ, Bool, true, false, refl, sym, subst}
-use Rattle.std.specs.Prelude.{◌↔◌, IsTrue}
-use Rattle.wasi_abi.specs.declared.version.Version.TheVariants.{One, Two}
-use Rattle.disk_layout.specs.rules.Journal.{TakesRecords}
+use Rattle.std.proofs.Common.{◌≡◌, ℕ, refl, sym, subst}
 use Rattle.worker.specs.declared.fault.WorkFault.TheVariants.{Upgrade}
 use Rattle.worker.specs.declared.running_worker.RunningWorker.{RunningWorker}
 use Rattle.worker.specs.declared.upgrade_fault.UpgradeFault.{UpgradeFault}
@@ -11,36 +8,6 @@ use Rattle.worker.specs.rules.DurableValues.{DurableValue, durable_of}
 use Rattle.worker.specs.rules.Upgrades.{IsTooSmall, IsNotCaughtUp, IsInTheWay, HasUpgradeCause}
 use Rattle.worker.specs.Upgrading.{MayUpgrade, IsUpgradeRefused}
 use Rattle.sector_disk.specs.rules.Medium.{Medium}
-
--- ---- the tests
-
-takes_none : (w : RunningWorker) (takes : Bool)
-    → (IsTrue takes ↔ TakesRecords Two w.store.geometry.journal_sectors) → takes ≡ false
-    → TakesRecords Two w.store.geometry.journal_sectors → ⊥
-takes_none w takes means none can = absurd (let yes = means.1 can in cc)
-
-pub refused_small : (w : RunningWorker) (takes : Bool)
-    → (IsTrue takes ↔ TakesRecords Two w.store.geometry.journal_sectors) → takes ≡ false
-    → IsUpgradeRefused w upgrade.JournalTooSmall
-refused_small w takes means none = takes_none w takes means none
-
-module _ (w : RunningWorker) (takes : Bool)
-    (means : IsTrue takes ↔ TakesRecords Two w.store.geometry.journal_sectors)
-    (yes : takes ≡ true) where
-  takes_all : TakesRecords Two w.store.geometry.journal_sectors
-  takes_all = means.0 yes
-
-  pub may_abreast : w.is_abreast ≡ true → MayUpgrade w
-  may_abreast says = record { takes = takes_all; abreast = λ narrow. says }
-
-  pub may_wide : w.process.host.host.version ≡ Two → MayUpgrade w
-  may_wide wide = record { takes = takes_all; abreast = λ narrow. absurd (cc) }
-
-  pub refused_behind : w.is_abreast ≡ false → w.process.host.host.version ≡ One
-      → IsUpgradeRefused w upgrade.NotCaughtUp
-  refused_behind behind narrow = (takes_all, narrow, behind)
-
--- ---- what an upgrade says then
 
 -- of a worker whose parts are these
 module _ (w : RunningWorker) (old : DurableValue) (replayed : ℕ)

@@ -22,10 +22,9 @@ use Rattle.worker.specs.rules.Upgrades.{upgraded, IsUpgradedIn, UpgradeCalls, Up
 use Rattle.worker.specs.rules.Upgrades.{HasUpgradeCause, Migrates, EndsInTwo}
 use Rattle.worker.specs.Upgrading.{MayUpgrade, IsUpgradeRefused, AfterFault, BarsAndCommits}
 use Rattle.worker.proofs.MigrationLemmas.{migrates, ends_in_two}
-use Rattle.worker.proofs.UpgradeLemmas.{upgrade_carries, upgrade_fault_carries}
-use Rattle.worker.proofs.UpgradeLemmas.{upgrade_fault_fails, after_fault_of, upgrade_cause}
-use Rattle.worker.proofs.UpgradeLemmas.{too_small_carries, not_caught_up_carries}
-use Rattle.worker.proofs.UpgradeLemmas.{upgrade_calls_err, upgrade_calls_ok}
+use Rattle.worker.proofs.UpgradeLemmas.{upgrade_carries, upgrade_fault_carries, upgrade_fault_fails}
+use Rattle.worker.proofs.UpgradeLemmas.{after_fault_of, upgrade_cause, too_small_carries}
+use Rattle.worker.proofs.UpgradeLemmas.{not_caught_up_carries, upgrade_calls_err, upgrade_calls_ok}
 use Rattle.worker.proofs.WideningLemmas.{upgraded_version, shows_upgraded}
 
 module _ {D : Type 0} (medium : D → Medium) (running after : RunningWorker) (replayed : ℕ)

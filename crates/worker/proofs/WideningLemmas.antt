@@ -6,8 +6,7 @@ use Rattle.wasi_abi.specs.declared.version.Version.TheVariants.{One, Two}
 use Rattle.wasi_calls_rules.specs.WasiStates.{WasiState}
 use Rattle.process_rules.specs.Processes.{ProcessState, Guest}
 use Rattle.process_rules.specs.Runs.{widened}
-use Rattle.process.specs.rules.Values.{ProcessValue, ShowsProcess, IsProcess, HasWidened}
-use Rattle.process.specs.rules.Values.{waiting_in}
+use Rattle.process.specs.rules.Values.{ProcessValue, ShowsProcess, IsProcess, waiting_in}
 use Rattle.process.proofs.Widening.{value_widened, shows_widened, is_widened}
 use Rattle.worker.specs.rules.Upgrades.{in_version_two, upgraded}
 
@@ -55,13 +54,6 @@ module _ (v : ProcessValue) where
       (shows_widened v guest p shows)
 
 -- ---- as it is done
-
-pub has_widened : (v w : ProcessValue) → v.host.host.version ≡ One → HasWidened v w
-    → w ≡ upgraded v
-has_widened v w narrow is = is.is ∙ sym (upgraded_one v narrow)
-
-pub stays_wide : (v : ProcessValue) → v.host.host.version ≡ Two → v ≡ upgraded v
-stays_wide v wide = sym (upgraded_two v wide)
 
 -- ---- versions of what is shown
 

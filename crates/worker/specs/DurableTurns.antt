@@ -1,7 +1,6 @@
 -- The turns of a slice of a worker on its disk.
 use Rattle.std.specs.Prelude.{◌≡◌, ◌≢◌, ℕ, ◌⊎◌, ◌+◌, ◌-◌, ◌<◌, ◌≤◌, Bool, true, false, List, []}
-use Rattle.std.specs.Prelude.{◌∷◌, ◌++◌, suc, drop}
-use Rattle.std.specs.Prelude.{length, map, Some, None, Result, Ok, Err}
+use Rattle.std.specs.Prelude.{◌∷◌, ◌++◌, suc, drop, length, map, Some, None, Result, Ok, Err}
 use Rattle.wasm_syntax.specs.declared.module.Module.{Module}
 use Rattle.wasi_abi.specs.declared.answer.Question.{Question}
 use Rattle.wasi_abi.specs.rules.Configs.{Settings}
@@ -44,8 +43,9 @@ use Rattle.worker.specs.rules.WorkFaults.{fault_of_store}
 use Rattle.record_replay.specs.rules.Refusals.{slice_fault}
 use Rattle.worker.specs.declared.running_worker.RunningWorker.{RunningWorker}
 use Rattle.worker.specs.rules.DurableValues.{durable_of}
-use Rattle.worker.specs.rules.OpenWorkers.{IsOnDisk, IsAbreast, IsOpenOn}
+use Rattle.worker.specs.rules.OpenWorkers.{Identity, identity, IsOnDisk, IsAbreast, IsOpenOn}
 use Rattle.worker.specs.rules.DurableCalls.{ComesOf, HasCauseOf, HasCauseAt, IsReplyOf}
+use Rattle.worker.specs.rules.Scenes.{SceneOf, scene}
 
 -- ---- within a slice
 
@@ -57,6 +57,28 @@ pub record Course : Type 0 where
   pub act : Act
   pub first : ℕ
 
+-- a worker that runs, with its disk, and the lines that it has handed over and that aren't told
+pub record Running : Type 1 where
+  pub lines_held : List Begun
+  pub worker : RunningWorker
+  pub disk : Medium
+
+-- of these
+abbrev pub running_on : List Begun → RunningWorker → Medium → Running
+running_on lines_held w disk = record { lines_held = lines_held; worker = w; disk = disk }
+
+-- the scene of a call that tells no line
+abbrev pub asking_scene : {W D S : Type 0} → W → D → S → SceneOf W D S (Unit {0})
+asking_scene worker disk source = scene worker disk source tt
+
+-- the scene of a call that asks nothing
+abbrev pub telling_scene : {W D O : Type 0} → W → D → O → SceneOf W D (Unit {0}) O
+telling_scene worker disk outlet = scene worker disk tt outlet
+
+-- which worker it is of
+abbrev pub identity_of : Course → Identity
+identity_of c = identity c.code c.config c.guest
+
 -- These releases are still to be made: of lines that are held, and then of those that wait.
 abbrev pub to_tell : List Begun → ProcessValue → List Begun
 to_tell lines_held v = lines_held ++ all_taken (first_waiting v) (waiting_in v)
@@ -65,40 +87,39 @@ to_tell lines_held v = lines_held ++ all_taken (first_waiting v) (waiting_in v)
 -- before them were told. The disk holds what is promised, the guest's syncs up to this step
 -- included, by a savepoint of this generation at most.
 pub record IsRunningOn (c : Course) (promise : Promise) (stage : Stage) (p : ProcessState)
-    (step latest : ℕ) (lines_held : List Begun) (w : RunningWorker) (disk : Medium) : Type 0
-  where
-    pub opened : promise.has_opened ≡ true
-    pub texts : IsOfBytes (host_of c.config)
-    pub shows : ShowsProcess w.process c.guest p
-    pub module_is : w.process.machine.guest ≡ c.code
-    pub told : ℕ
-    pub counted : told + length lines_held ≡ w.process.host.released
-    pub queued : to_tell lines_held w.process ≡ all_taken (suc told) (drop told p.host.lines)
-    pub way : IsUnderWay c.code c.config c.guest promise stage c.act told p
-    pub began : stage.step ≡ c.first
-    pub on_disk : IsOnDisk c.code c.config c.guest promise p step latest w.store disk
-    pub synced : promise.synced ≤ p.steps
-    pub abreast : IsAbreast promise stage p w.is_abreast
+    (step latest : ℕ) (here : Running) : Type 0 where
+  pub opened : promise.has_opened ≡ true
+  pub texts : IsOfBytes (host_of c.config)
+  pub shows : ShowsProcess here.worker.process c.guest p
+  pub module_is : here.worker.process.machine.guest ≡ c.code
+  pub told : ℕ
+  pub counted : told + length here.lines_held ≡ here.worker.process.host.released
+  pub queued : to_tell here.lines_held here.worker.process
+      ≡ all_taken (suc told) (drop told p.host.lines)
+  pub way : IsUnderWay c.code c.config c.guest promise stage c.act told p
+  pub began : stage.step ≡ c.first
+  pub on_disk : IsOnDisk (identity_of c) promise p step latest here.worker.store here.disk
+  pub synced : promise.synced ≤ p.steps
+  pub abreast : IsAbreast promise stage p here.worker.is_abreast
 
 -- between two turns
 abbrev pub IsBetweenTurns : Course → Promise → Stage → ProcessState → List Begun → RunningWorker
     → Medium → Type 0
 IsBetweenTurns c promise stage p lines_held w disk =
-    IsRunningOn c promise stage p p.steps promise.events lines_held w disk
+    IsRunningOn c promise stage p p.steps promise.events (running_on lines_held w disk)
 
 -- something may be owed for the last step
 abbrev pub IsOwingTurn : Course → Promise → Stage → ProcessState → List Begun → RunningWorker
     → Medium → Type 0
 IsOwingTurn c promise stage p lines_held w disk =
-    IsRunningOn c promise stage p (p.steps - 1) promise.events lines_held w disk
+    IsRunningOn c promise stage p (p.steps - 1) promise.events (running_on lines_held w disk)
 
 -- The next step wants an answer. No more lines are held than may.
 pub record IsAskingOn (c : Course) (promise : Promise) (stage : Stage) (p : ProcessState)
-    (question : Question) (latest : ℕ) (lines_held : List Begun) (w : RunningWorker)
-    (disk : Medium) : Type 0 where
-  pub running : IsRunningOn c promise stage p p.steps latest lines_held w disk
-  pub few : length lines_held ≤ most_held c.act
-  pub none_waits : waiting_in w.process ≡ []
+    (question : Question) (latest : ℕ) (here : Running) : Type 0 where
+  pub running : IsRunningOn c promise stage p p.steps latest here
+  pub few : length here.lines_held ≤ most_held c.act
+  pub none_waits : waiting_in here.worker.process ≡ []
   pub unended : p.ended ≡ None
   pub wants : next_of c.guest p None ≡ Wants question
   pub room : p.steps < stage.step + fuel_of c.act
@@ -200,9 +221,10 @@ abbrev pub MakesRoom : RunningWorker → RunningWorker → Medium → Medium →
 MakesRoom old new disk disk' =
     (c : Course) (promise : Promise) (stage : Stage) (p : ProcessState) (question : Question)
     (lines_held : List Begun)
-    → IsAskingOn c promise stage p question promise.events lines_held old disk
+    → IsAskingOn c promise stage p question promise.events (running_on lines_held old disk)
     → HoldsNoLine lines_held old
-    → IsAskingOn c promise stage p question (promise.events + 1) lines_held new disk'
+    → IsAskingOn c promise stage p question (promise.events + 1)
+    (running_on lines_held new disk')
     × HasRoom new × GoesOnFrom c.code c.config promise promise disk disk'
     × StaysWithin (promise.events + 1) disk disk'
 
@@ -211,7 +233,7 @@ abbrev pub MakesNoRoom : RunningWorker → WorkFault → RunningWorker → Mediu
 MakesNoRoom old why new disk disk' =
     (c : Course) (promise : Promise) (stage : Stage) (p : ProcessState) (question : Question)
     (lines_held : List Begun)
-    → IsAskingOn c promise stage p question promise.events lines_held old disk
+    → IsAskingOn c promise stage p question promise.events (running_on lines_held old disk)
     → HoldsNoLine lines_held old → TurnFails c promise stage why [] new disk disk'
 
 -- a question, with what the source said to it
@@ -301,18 +323,23 @@ AsksOutside gives question (Asks ask ∷ []) source source' =
 AsksOutside gives question _ source source' = ⊥
 
 -- room is made, and the source is asked
-abbrev pub AsksTurn : {S : Type 0} → Giving S → RunningWorker → Question → Result Bool WorkFault
-    → RunningWorker → Medium → Medium → S → S → Type 0
-AsksTurn gives old question (Ok is_there) new disk disk' source source' =
-    (exchanges : List Exchange) × AsksOutside gives question exchanges source source'
+abbrev pub AsksTurn : {D S O : Type 0} → (D → Medium) → Giving S → Question
+    → SceneOf RunningWorker D S O → Result Bool WorkFault → SceneOf RunningWorker D S O → Type 0
+AsksTurn medium gives question before (Ok is_there) after = (exchanges : List Exchange)
+    × AsksOutside gives question exchanges before.source after.source
     × ((c : Course) (promise : Promise) (stage : Stage) (p : ProcessState)
-    → IsAskingOn c promise stage p question promise.events [] old disk → IsForetold stage exchanges
-    → TurnAsks c promise stage is_there exchanges new disk disk') × (length exchanges ≡ 1)
-AsksTurn gives old question (Err why) new disk disk' source source' = (exchanges : List Exchange)
-    × AsksOutside gives question exchanges source source'
+    → IsAskingOn c promise stage p question promise.events
+    (running_on [] before.worker (medium before.disk))
+    → IsForetold stage exchanges → TurnAsks c promise stage is_there exchanges after.worker
+    (medium before.disk) (medium after.disk))
+    × (length exchanges ≡ 1)
+AsksTurn medium gives question before (Err why) after = (exchanges : List Exchange)
+    × AsksOutside gives question exchanges before.source after.source
     × ((c : Course) (promise : Promise) (stage : Stage) (p : ProcessState)
-    → IsAskingOn c promise stage p question promise.events [] old disk → IsForetold stage exchanges
-    → TurnFails c promise stage why exchanges new disk disk')
+    → IsAskingOn c promise stage p question promise.events
+    (running_on [] before.worker (medium before.disk))
+    → IsForetold stage exchanges → TurnFails c promise stage why exchanges after.worker
+    (medium before.disk) (medium after.disk))
 
 -- the store failed to make room, and the source wasn't asked; or it was, in vain
 abbrev pub IsAskFault : {S : Type 0} → Giving S → RunningWorker → Question → WorkFault
@@ -325,13 +352,16 @@ IsAskFault gives old question why new source source' =
 -- ---- a slice
 
 -- All turns of a slice, or those so far. It is over for this reason, or fails.
-abbrev pub WorksOn : {S O : Type 0} → Giving S → Taking O → RunningWorker → ℕ → Result Now WorkFault
-    → RunningWorker → Medium → Medium → S → S → O → O → Type 0
-WorksOn gives takes old fuel result new disk disk' source source' outlet outlet' =
-    (exchanges : List Exchange) × Exchanges gives takes source outlet exchanges source' outlet'
+abbrev pub WorksOn : {D S O : Type 0} → (D → Medium) → Giving S → Taking O → ℕ
+    → SceneOf RunningWorker D S O → Result Now WorkFault → SceneOf RunningWorker D S O → Type 0
+WorksOn medium gives takes fuel before result after = (exchanges : List Exchange)
+    × Exchanges gives takes before.source before.outlet exchanges after.source after.outlet
     × ((c : Course) (promise : Promise) (stage : Stage) (p : ProcessState) → fuel_of c.act ≡ fuel
-    → c.first ≡ old.process.steps → IsBetweenTurns c promise stage p [] old disk
+    → c.first ≡ before.worker.process.steps
+    → IsBetweenTurns c promise stage p [] before.worker (medium before.disk)
     → IsForetold stage exchanges → (reply : Reply) × IsReplyOf result reply
-    × HasCauseOf result c.guest c.config new.process disk disk'
-    × TurnEnds c promise stage reply exchanges new disk disk')
-    × CallsForEvents (length exchanges + 1) disk disk'
+    × HasCauseOf result c.guest c.config after.worker.process (medium before.disk)
+    (medium after.disk)
+    × TurnEnds c promise stage reply exchanges after.worker (medium before.disk)
+    (medium after.disk))
+    × CallsForEvents (length exchanges + 1) (medium before.disk) (medium after.disk)

@@ -10,8 +10,7 @@ use Rattle.worker.specs.declared.story.hearing.HeardLines.{HeardLines}
 use Rattle.worker.specs.declared.story.life.PlannedLife.{PlannedLife}
 use Rattle.worker.specs.declared.story.living.LivedOnce.{LivedOnce}
 use Rattle.worker.specs.declared.story.report.LifeEnd.{LifeEnd}
-use Rattle.worker.specs.declared.story.report.LifeEnd.TheVariants.{Finished, Stopped}
-use Rattle.worker.specs.declared.story.report.LifeEnd.TheVariants.{Failed}
+use Rattle.worker.specs.declared.story.report.LifeEnd.TheVariants.{Finished, Stopped, Failed}
 use Rattle.worker.specs.declared.story.report.LifeReport.{LifeReport}
 use Rattle.worker.specs.rules.Planned.{call_at}
 use Rattle.worker.specs.rules.StoryDisks.{IsNextDisk, StopSays, reported_end}

@@ -19,8 +19,7 @@ use Rattle.worker.specs.declared.fault.WorkFault.{WorkFault}
 use Rattle.worker.specs.declared.found.Found.{Found}
 use Rattle.worker.specs.declared.handover.Handover.{Handover}
 use Rattle.worker.specs.declared.leave_fault.LeaveFault.{LeaveFault}
-use Rattle.worker.specs.declared.leave_fault.LeaveFault.TheVariants.{NotParked, StepsSpent}
-use Rattle.worker.specs.declared.leave_fault.LeaveFault.TheVariants.{Recover}
+use Rattle.worker.specs.declared.leave_fault.LeaveFault.TheVariants.{NotParked, StepsSpent, Recover}
 use Rattle.worker.specs.rules.Successions.{handed_over}
 use Rattle.worker.specs.rules.WorkFaults.{fault_of_store}
 

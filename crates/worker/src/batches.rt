@@ -9,12 +9,15 @@ ghost use Rattle.std.specs.Prelude.{◌+◌, ◌⊎◌, Err, None, IfErr, IfOk, 
 ghost use Rattle.process.specs.rules.Values.{IsProcess, waiting_in};
 ghost use Rattle.disk_layout.specs.rules.Places.{total_sectors};
 ghost use Rattle.record_replay.specs.rules.Calls.{Releases};
+ghost use Rattle.worker_store.specs.restart_theorem.Lives.{Batch};
 ghost use Rattle.worker.specs.BatchTurns.{RefusesOne, TellsAll, TellsVainly, FlushesAll};
 ghost use Rattle.worker.specs.BatchTurns.{FlushesNot, HasEnded, FailsQueue, HoldsLines};
 ghost use Rattle.worker.specs.BatchTurns.{HoldsOrTells, FreesOrTells, TellsRest, WorksInBatch};
-ghost use Rattle.worker.specs.BatchTurns.{held_as_begun, AsksHolding, AsksThenFails};
+ghost use Rattle.worker.specs.BatchTurns.{held_as_begun, holding, AsksHolding, AsksThenFails};
+ghost use Rattle.worker.specs.DurableTurns.{asking_scene, telling_scene};
 ghost use Rattle.worker.specs.StoreTurns.{LeavesStore, StoreGoes, StoreRuns};
 ghost use Rattle.worker.specs.rules.CallCounts.{most_saving};
+ghost use Rattle.worker.specs.rules.Scenes.{scene};
 ghost use Rattle.record_replay.specs.Turns.{AsksOnce};
 ghost use Rattle.sector_disk.specs.rules.Medium.{CallsUpTo};
 
@@ -79,8 +82,8 @@ impl RunningWorker {
     /// Holds the lines that wait, if that many may and the process goes on. Whether it did. Without
     /// memory for them they still wait, and the queue may have some of them at its end.
     fn hold(&mut self, queue: &mut Queue) -> bool
-        ensures held { result ≡ true → HoldsLines queue.old.most self.old queue.old.lines
-            self.new queue.new.lines }
+        ensures held { result ≡ true → HoldsLines queue.old.most
+            (holding self.old queue.old.lines) (holding self.new queue.new.lines) }
         ensures unheld { result ≡ false → self.new ≡ self.old }
         ensures front { take (length queue.old.lines) queue.new.lines ≡ queue.old.lines }
         ensures most { queue.new.most ≡ queue.old.most }
@@ -112,10 +115,12 @@ impl RunningWorker {
     ) -> Result<(), WorkFault>
         requires { total_sectors self.old.store.geometry ≤ (D.medium disk.old).sectors }
         ensures most { queue.new.most ≡ queue.old.most }
-        ensures done { OnOk result (HoldsOrTells D.medium O.takes queue.old.most self.old
-            queue.old.lines self.new queue.new.lines disk.old disk.new outlet.old outlet.new) }
-        ensures fails { IfErr result (λ why. FailsQueue O.takes self.old queue.old.lines why
-            self.new (D.medium disk.old) (D.medium disk.new) outlet.old outlet.new) }
+        ensures done { OnOk result (HoldsOrTells D.medium O.takes queue.old.most
+            (telling_scene (holding self.old queue.old.lines) disk.old outlet.old)
+            (telling_scene (holding self.new queue.new.lines) disk.new outlet.new)) }
+        ensures fails { IfErr result (λ why. FailsQueue D.medium O.takes
+            (telling_scene (holding self.old queue.old.lines) disk.old outlet.old) why
+            (telling_scene self.new disk.new outlet.new)) }
         ensures store { LeavesStore result self.old.store self.new.store (D.medium disk.old)
             (D.medium disk.new) }
     {
@@ -141,8 +146,9 @@ impl RunningWorker {
         ensures flushes { OnOk result (FlushesAll (held_as_begun held.now) self.old self.new
             (D.medium disk.old) (D.medium disk.new)) }
         ensures says { OnOk result (self.new.is_abreast ≡ self.old.is_abreast) }
-        ensures fails { IfErr result (λ why. FailsQueue O.takes self.old held.now why self.new
-            (D.medium disk.old) (D.medium disk.new) outlet.old outlet.new) }
+        ensures fails { IfErr result (λ why. FailsQueue D.medium O.takes
+            (telling_scene (holding self.old held.now) disk.old outlet.old) why
+            (telling_scene self.new disk.new outlet.new)) }
         ensures store { LeavesStore result self.old.store self.new.store (D.medium disk.old)
             (D.medium disk.new) }
     {
@@ -164,10 +170,12 @@ impl RunningWorker {
     ) -> Result<(), WorkFault>
         requires { total_sectors self.old.store.geometry ≤ (D.medium disk.old).sectors }
         ensures most { queue.new.most ≡ queue.old.most }
-        ensures done { OnOk result (FreesOrTells D.medium O.takes self.old queue.old.lines
-            self.new queue.new.lines disk.old disk.new outlet.old outlet.new) }
-        ensures fails { IfErr result (λ why. FailsQueue O.takes self.old queue.old.lines why
-            self.new (D.medium disk.old) (D.medium disk.new) outlet.old outlet.new) }
+        ensures done { OnOk result (FreesOrTells D.medium O.takes
+            (telling_scene (holding self.old queue.old.lines) disk.old outlet.old)
+            (telling_scene (holding self.new queue.new.lines) disk.new outlet.new)) }
+        ensures fails { IfErr result (λ why. FailsQueue D.medium O.takes
+            (telling_scene (holding self.old queue.old.lines) disk.old outlet.old) why
+            (telling_scene self.new disk.new outlet.new)) }
         ensures store { LeavesStore result self.old.store self.new.store (D.medium disk.old)
             (D.medium disk.new) }
     {
@@ -196,8 +204,9 @@ impl RunningWorker {
             (Ok is_there) self.new.process source.old source.new) }
         ensures released { self.new.process.host.released ≡ self.old.process.host.released }
         ensures abreast { OnOk result (self.new.is_abreast ≡ true) }
-        ensures holding { AsksHolding D.medium S.gives self.old question result self.new disk.old
-            disk.new source.old source.new }
+        ensures holding { AsksHolding D.medium S.gives question
+            (asking_scene self.old disk.old source.old) result
+            (asking_scene self.new disk.new source.new) }
         ensures fault { IfErr result (λ why. AsksThenFails S.gives self.old question why self.new
             source.old source.new) }
         ensures ended { IfErr result (λ why. (why ≡ WorkFault.Work SliceFault.Source)
@@ -235,9 +244,10 @@ impl RunningWorker {
         requires none_waits { waiting_in self.old.process ≡ [] }
         requires none_held { queue.old.lines ≡ [] }
         requires sectors { total_sectors self.old.store.geometry ≤ (D.medium disk.old).sectors }
-        ensures works { WorksInBatch D.medium S.gives O.takes self.old watched.entry.fuel
-            queue.old.most result self.new queue.new.lines disk.old disk.new source.old source.new
-            outlet.old outlet.new }
+        ensures works { WorksInBatch D.medium S.gives O.takes
+            (Batch watched.entry.fuel queue.old.most)
+            (scene self.old disk.old source.old outlet.old) result
+            (scene (holding self.new queue.new.lines) disk.new source.new outlet.new) }
         ensures abreast { IfOk result (λ now. now ≢ Now.Spent → self.new.is_abreast ≡ true) }
         ensures shows { OnOk result (IsProcess self.new.process) }
         ensures places { self.new.store.geometry ≡ self.old.store.geometry }
@@ -275,8 +285,9 @@ impl RunningWorker {
         outlet: &mut O,
     ) -> Result<Now, WorkFault>
         requires { total_sectors self.old.store.geometry ≤ (D.medium disk.old).sectors }
-        ensures rest { TellsRest D.medium O.takes worked self.old queue.now.lines result self.new
-            disk.old disk.new outlet.old outlet.new }
+        ensures rest { TellsRest D.medium O.takes worked
+            (telling_scene (holding self.old queue.now.lines) disk.old outlet.old) result
+            (telling_scene self.new disk.new outlet.new) }
         ensures places { self.new.store.geometry ≡ self.old.store.geometry }
         ensures sectors { (D.medium disk.new).sectors ≡ (D.medium disk.old).sectors }
     {
@@ -307,7 +318,6 @@ fn is_refused(worked: &Result<Now, WorkFault>) -> bool
 impl Worker {
     ghost use Rattle.worker.specs.rules.Batches.{RunsBatch};
     ghost use Rattle.worker.specs.rules.DurableValues.{IsTooSmallFor, failed_worker};
-    ghost use Rattle.worker.specs.rules.Scenes.{scene};
 
     /// Takes at most `fuel` steps, as `slice` does. Fewer than `most` lines may wait while the
     /// source is ready, so that one sync of the disk serves them all. Before the source is waited

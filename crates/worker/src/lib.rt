@@ -27,7 +27,7 @@
 //!   another one nothing is known.
 //! - `Worker::create`: the worker of the accepted module at its start, of generation 1 (`created`).
 //! - `Worker::recover`: nothing is written or told before a good sync, and what the disk then shows
-//!   decides the result (`recovers`, `shown`). Want of memory may end a recovery anywhere.
+//!   decides the result (`recovers`). Want of memory may end a recovery anywhere.
 //! - `Worker::slice` runs as a worker without a disk would (`done`, `failed`). Where it says that
 //!   the worker waits or has ended, no line is beyond its process (`abreast`). None is beyond that
 //!   of a worker that is created, or recovered at its end.

@@ -7,8 +7,7 @@ ghost use Rattle.disk_layout.specs.rules.Places.{total_sectors};
 ghost use Rattle.journal.specs.rules.State.{state};
 ghost use Rattle.worker_store.specs.rules.Calls.{StoresNext};
 ghost use Rattle.worker.specs.rules.CallCounts.{most_saving};
-ghost use Rattle.worker.specs.Savings.{LeavesFrontOrNext, SaveCalls, SaveFails};
-ghost use Rattle.worker.specs.Savings.{HasSaveCause};
+ghost use Rattle.worker.specs.Savings.{LeavesFrontOrNext, SaveCalls, SaveFails, HasSaveCause};
 ghost use Rattle.worker.specs.StoreTurns.{StoreSaves};
 
 use process::Process;

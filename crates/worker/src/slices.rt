@@ -6,11 +6,13 @@
 ghost use Rattle.std.specs.Prelude.{◌≡◌, ◌≢◌, ◌≤◌, [], false, true, IfErr, IfOk, OnOk};
 ghost use Rattle.process.specs.rules.Values.{IsProcess, waiting_in};
 ghost use Rattle.disk_layout.specs.rules.Places.{total_sectors};
+ghost use Rattle.record_replay.specs.rules.Calls.{ports};
 ghost use Rattle.record_replay.specs.rules.Slices.{Slices};
 ghost use Rattle.record_replay.specs.Turns.{working};
 ghost use Rattle.worker.specs.DurableTurns.{WorksOn};
 ghost use Rattle.worker.specs.StoreTurns.{StoreRuns};
 ghost use Rattle.worker.specs.rules.DurableFailures.{SlicesOnDiskInVain};
+ghost use Rattle.worker.specs.rules.Scenes.{scene};
 
 use crate::durable::Worker;
 use crate::fault::WorkFault;
@@ -35,13 +37,16 @@ impl RunningWorker {
         requires none_waits { waiting_in self.old.process ≡ [] }
         requires sectors { total_sectors self.old.store.geometry ≤ (D.medium disk.old).sectors }
         ensures done { IfOk result (λ now. Slices S.gives O.takes (working self.old.process) fuel
-            now (working self.new.process) source.old source.new outlet.old outlet.new) }
+            now (working self.new.process) (ports source.old outlet.old)
+            (ports source.new outlet.new)) }
         ensures abreast { IfOk result (λ now. now ≢ Now.Spent → self.new.is_abreast ≡ true) }
         ensures shows { OnOk result (IsProcess self.new.process) }
-        ensures works { WorksOn S.gives O.takes self.old fuel result self.new
-            (D.medium disk.old) (D.medium disk.new) source.old source.new outlet.old outlet.new }
+        ensures works { WorksOn D.medium S.gives O.takes fuel
+            (scene self.old disk.old source.old outlet.old) result
+            (scene self.new disk.new source.new outlet.new) }
         ensures failed { IfErr result (λ why. SlicesOnDiskInVain S.gives O.takes self.old.process
-            fuel why self.new.process source.old source.new outlet.old outlet.new) }
+            fuel why self.new.process (ports source.old outlet.old)
+            (ports source.new outlet.new)) }
         ensures runs { StoreRuns result self.old.store self.new.store (D.medium disk.old)
             (D.medium disk.new) }
         ensures places { self.new.store.geometry ≡ self.old.store.geometry }
@@ -72,7 +77,6 @@ impl Worker {
     ghost use Rattle.std.specs.Prelude.{Err};
     ghost use Rattle.worker.specs.rules.Effects.{RunsSlice};
     ghost use Rattle.worker.specs.rules.DurableValues.{IsTooSmallFor, failed_worker};
-    ghost use Rattle.worker.specs.rules.Scenes.{scene};
 
     /// Takes at most `fuel` steps: answers from the source, lines to the outlet. Before a line is
     /// released all answers are on the disk, and so they are before a sync of the guest returns.

@@ -18,9 +18,8 @@ ghost use Rattle.record_replay.specs.rules.Faults.{IsRefusedByWorker};
 ghost use Rattle.worker_store.specs.restart_theorem.Successions.{IsAtRest};
 ghost use Rattle.worker.specs.rules.CallCounts.{most_creating};
 ghost use Rattle.worker.specs.rules.DurableCreations.{places_for};
-ghost use Rattle.worker.specs.rules.Successions.{IsCreatedFrom, IsNotCreatedFrom};
-ghost use Rattle.worker.specs.rules.Successions.{IsRefusedBefore, ReadsLegacy, SuccessionCalls};
-ghost use Rattle.worker.specs.rules.Successions.{SuccessionKeeps};
+ghost use Rattle.worker.specs.rules.Successions.{IsCreatedFrom, IsNotCreatedFrom, IsRefusedBefore};
+ghost use Rattle.worker.specs.rules.Successions.{ReadsLegacy, SuccessionCalls, SuccessionKeeps};
 ghost use Rattle.worker.specs.Succeeding.{BeginsFrom, HandsOverFound, IsFoundAtWork};
 ghost use Rattle.worker.specs.Succeeding.{IsFoundParked, asks_request, told_of};
 

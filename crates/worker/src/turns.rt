@@ -10,9 +10,9 @@ ghost use Rattle.sector_disk.specs.rules.Medium.{CallsUpTo};
 ghost use Rattle.disk_layout.specs.rules.Places.{total_sectors};
 ghost use Rattle.record_replay.specs.rules.Waiting.{ReleasesAll};
 ghost use Rattle.record_replay.specs.Turns.{AsksOnce};
-ghost use Rattle.worker.specs.DurableTurns.{AsksTurn, FlushesTurn, IsAskFault, IsFlushFault};
-ghost use Rattle.worker.specs.DurableTurns.{Hears, HasRoom, IsOfStoreFault, MakesNoRoom};
-ghost use Rattle.worker.specs.DurableTurns.{MakesRoom, TakesNone, TakesOnRecord};
+ghost use Rattle.worker.specs.DurableTurns.{asking_scene, AsksTurn, FlushesTurn, IsAskFault};
+ghost use Rattle.worker.specs.DurableTurns.{Hears, HasRoom, IsFlushFault, IsOfStoreFault};
+ghost use Rattle.worker.specs.DurableTurns.{MakesNoRoom, MakesRoom, TakesNone, TakesOnRecord};
 ghost use Rattle.worker.specs.rules.CallCounts.{most_saving};
 ghost use Rattle.worker.specs.BatchTurns.{AsksHolding};
 ghost use Rattle.worker.specs.StoreTurns.{HearsOrNot, LeavesStore, StoreGoes, StoreRuns};
@@ -62,10 +62,12 @@ impl RunningWorker {
             (Ok is_there) self.new.process source.old source.new) }
         ensures released { self.new.process.host.released ≡ self.old.process.host.released }
         ensures abreast { OnOk result (self.new.is_abreast ≡ true) }
-        ensures turn { AsksTurn S.gives self.old question result self.new (D.medium disk.old)
-            (D.medium disk.new) source.old source.new }
-        ensures holding { AsksHolding D.medium S.gives self.old question result self.new
-            disk.old disk.new source.old source.new }
+        ensures turn { AsksTurn D.medium S.gives question
+            (asking_scene self.old disk.old source.old) result
+            (asking_scene self.new disk.new source.new) }
+        ensures holding { AsksHolding D.medium S.gives question
+            (asking_scene self.old disk.old source.old) result
+            (asking_scene self.new disk.new source.new) }
         ensures fault { IfErr result (λ why. IsAskFault S.gives self.old question why self.new
             source.old source.new) }
         ensures goes { result ≡ Err (WorkFault.Work SliceFault.Source)

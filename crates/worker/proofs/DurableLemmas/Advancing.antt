@@ -1,7 +1,6 @@
 -- Steps of a worker on its disk, up to where it stops.
 use Rattle.std.proofs.Common.{◌≡◌, ℕ, suc, ◌+◌, ◌-◌, ◌<◌, ◌≤◌, List, [], length, drop, refl, sym}
-use Rattle.std.proofs.Common.{ap, ◌++◌}
-use Rattle.std.proofs.Common.{◌∙◌, subst, inl, ⊎_elim, arith, Some, None, Ok, Err, true}
+use Rattle.std.proofs.Common.{ap, ◌++◌, ◌∙◌, subst, inl, ⊎_elim, arith, Some, None, Ok, Err, true}
 use Rattle.std.specs.Prelude.{◌≢◌}
 use Rattle.std.proofs.Math.Nat.{le-max_right}
 use Rattle.std.proofs.lemmas.List.{append-nil, drop_all}
@@ -41,14 +40,12 @@ use Rattle.worker.specs.declared.fault.WorkFault.TheVariants.{Work}
 use Rattle.worker.specs.declared.running_worker.RunningWorker.{RunningWorker}
 use Rattle.record_replay.specs.rules.Refusals.{slice_fault}
 use Rattle.worker.specs.rules.OpenWorkers.{IsAbreast}
-use Rattle.worker.specs.DurableTurns.{Course, IsBetweenTurns, IsOwingTurn}
-use Rattle.worker.specs.DurableTurns.{IsAskingOn, to_tell}
-use Rattle.worker.specs.DurableTurns.{TurnEnds, TurnFails, slice_end}
+use Rattle.worker.specs.DurableTurns.{Course, IsBetweenTurns, IsOwingTurn, IsAskingOn, to_tell}
+use Rattle.worker.specs.DurableTurns.{TurnEnds, TurnFails, slice_end, running_on}
 use Rattle.worker.proofs.AbreastLemmas.{abreast_on, abreast_now, lines_of_runs}
 use Rattle.worker.proofs.AbreastLemmas.{ended_is_still, none_beyond}
-use Rattle.worker.proofs.DurableLemmas.OnDisk.{keeps_now, fewer_syncs, lowered_to}
-use Rattle.worker.proofs.DurableLemmas.OnDisk.{stepped_to, reached_now, valid_module}
-use Rattle.worker.proofs.DurableLemmas.OnDisk.{quiet_syncs}
+use Rattle.worker.proofs.DurableLemmas.OnDisk.{keeps_now, fewer_syncs, lowered_to, stepped_to}
+use Rattle.worker.proofs.DurableLemmas.OnDisk.{reached_now, valid_module, quiet_syncs}
 use Rattle.worker.proofs.DurableLemmas.Bounds.{on_disk_still}
 use Rattle.worker.proofs.DurableLemmas.Holding.{to_tell_on}
 use Rattle.worker.proofs.DurableLemmas.Syncing.{sync_emits_none, unsynced_steps_are_held}
@@ -415,8 +412,8 @@ module _ {D : Type 0} (medium : D → Medium) (c : Course) (promise : Promise) (
   -- an answer is wanted
   pub record AsksThere (question : Question) : Type 0 where
     pub process : ProcessState
-    pub asking : IsAskingOn c promise stage process question promise.events lines_held
-        (with_process w v) (medium disk)
+    pub asking : IsAskingOn c promise stage process question promise.events
+        (running_on lines_held (with_process w v) (medium disk))
 
   pub advance_asks : (question : Question) → length lines_held ≤ most_held c.act
       → AdvancesProcess w.process fuel_left (Ok (stops.Asks question)) v → AsksThere question

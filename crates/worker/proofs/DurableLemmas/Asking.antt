@@ -20,11 +20,10 @@ use Rattle.worker.specs.declared.fault.WorkFault.{WorkFault}
 use Rattle.worker.specs.declared.fault.WorkFault.TheVariants.{Work}
 use Rattle.worker.specs.declared.running_worker.RunningWorker.{RunningWorker}
 use Rattle.record_replay.specs.Turns.{AsksOnce, AnswersBy}
-use Rattle.worker.specs.DurableTurns.{Course, TurnGoes, TurnEnds, TurnFails}
-use Rattle.worker.specs.DurableTurns.{slice_end, MakesRoom, MakesNoRoom, asks_once, TakesOnRecord}
-use Rattle.worker.specs.DurableTurns.{IsAskingOn, TakesNone}
-use Rattle.worker.specs.DurableTurns.{LacksRecord, IsNotTaken, IsMisfit, HearsBy, Hears}
-use Rattle.worker.specs.DurableTurns.{AsksTurn}
+use Rattle.worker.specs.DurableTurns.{Course, TurnGoes, TurnEnds, TurnFails, slice_end, MakesRoom}
+use Rattle.worker.specs.DurableTurns.{MakesNoRoom, asks_once, TakesOnRecord, IsAskingOn, TakesNone}
+use Rattle.worker.specs.DurableTurns.{LacksRecord, IsNotTaken, IsMisfit, HearsBy, Hears, AsksTurn}
+use Rattle.worker.specs.DurableTurns.{running_on, asking_scene}
 use Rattle.worker.proofs.AbreastLemmas.{abreast_now, asking_is_still, none_beyond}
 use Rattle.worker.proofs.DurableLemmas.Advancing.{says_abreast}
 use Rattle.worker.proofs.DurableLemmas.Bounds.{bounds_join, question_counts}
@@ -97,8 +96,9 @@ module _ {D : Type 0} (medium : D → Medium) where
   -- so the worker may say it
   said_asking : (c : Course) (promise : Promise) (stage : Stage) (p : ProcessState)
       (question : Question) (latest : ℕ) (lines_held : List Begun) (w : RunningWorker) (disk : D)
-      → IsAskingOn c promise stage p question latest lines_held w (medium disk)
-      → IsAskingOn c promise stage p question latest lines_held (says_abreast w) (medium disk)
+      → IsAskingOn c promise stage p question latest (running_on lines_held w (medium disk))
+      → IsAskingOn c promise stage p question latest
+      (running_on lines_held (says_abreast w) (medium disk))
   said_asking c promise stage p question latest lines_held w disk asking =
       let there = asking.running in
       record {
@@ -143,8 +143,8 @@ module _ {D S : Type 0} (medium : D → Medium) (gives : Giving S) (old mid new 
     (makes : MakesRoom old mid (medium disk) (medium disk')) (same : mid.process ≡ old.process)
     (says : mid.is_abreast ≡ true) (step_is : step ≡ old.process.steps + 1) where
   fails_so : (e : SourceFault) → gives source question (Err e) source' → new ≡ mid
-      → AsksTurn gives old question (Err (Work slice.Source)) new (medium disk)
-      (medium disk') source source'
+      → AsksTurn medium gives question (asking_scene old disk source) (Err (Work slice.Source))
+      (asking_scene new disk' source')
   fails_so e asked still = (
     asks_once question (Err e),
     (refl, asked),
@@ -162,7 +162,8 @@ module _ {D S : Type 0} (medium : D → Medium) (gives : Giving S) (old mid new 
   )
 
   waits_so : gives source question (Ok None) source' → new ≡ mid
-      → AsksTurn gives old question (Ok false) new (medium disk) (medium disk') source source'
+      → AsksTurn medium gives question (asking_scene old disk source) (Ok false)
+      (asking_scene new disk' source')
   waits_so asked still = (
     asks_once question (Ok None),
     (refl, asked),
@@ -178,7 +179,8 @@ module _ {D S : Type 0} (medium : D → Medium) (gives : Giving S) (old mid new 
 
   takes_so : (a : Answer) → gives source question (Ok (Some a)) source'
       → TakesOnRecord mid question (record { step = step; answer = a }) new
-      → AsksTurn gives old question (Ok true) new (medium disk) (medium disk') source source'
+      → AsksTurn medium gives question (asking_scene old disk source) (Ok true)
+      (asking_scene new disk' source')
   takes_so a asked takes = (
     asks_once question (Ok (Some a)),
     (refl, asked),
@@ -199,7 +201,8 @@ module _ {D S : Type 0} (medium : D → Medium) (gives : Giving S) (old mid new 
 
   takes_none : (a : Answer) (why : WorkFault) → gives source question (Ok (Some a)) source'
       → TakesNone mid question (record { step = step; answer = a }) why new
-      → AsksTurn gives old question (Err why) new (medium disk) (medium disk') source source'
+      → AsksTurn medium gives question (asking_scene old disk source) (Err why)
+      (asking_scene new disk' source')
   takes_none a why asked none = (
     asks_once question (Ok (Some a)),
     (refl, asked),
@@ -224,21 +227,25 @@ module _ {D S : Type 0} (medium : D → Medium) (gives : Giving S) (old mid new 
 
   hears_so : (said : SourceSaid) (result : Result Bool WorkFault)
       → gives source question said source' → HearsBy mid question step said result new
-      → AsksTurn gives old question result new (medium disk) (medium disk') source source'
+      → AsksTurn medium gives question (asking_scene old disk source) result
+      (asking_scene new disk' source')
   hears_so (Err e) result asked h =
-      subst (λ r. AsksTurn gives old question r new (medium disk) (medium disk') source source')
+      subst (λ r. AsksTurn medium gives question (asking_scene old disk source) r
+      (asking_scene new disk' source'))
       (sym h.0) (fails_so e asked h.1)
   hears_so (Ok None) result asked h =
-      subst (λ r. AsksTurn gives old question r new (medium disk) (medium disk') source source')
+      subst (λ r. AsksTurn medium gives question (asking_scene old disk source) r
+      (asking_scene new disk' source'))
       (sym h.0) (waits_so asked h.1)
   hears_so (Ok (Some a)) (Ok is_there) asked h =
-      subst (λ b. AsksTurn gives old question (Ok b) new (medium disk) (medium disk')
-      source source') (sym h.0) (takes_so a asked h.1)
+      subst (λ b. AsksTurn medium gives question (asking_scene old disk source) (Ok b)
+      (asking_scene new disk' source')) (sym h.0) (takes_so a asked h.1)
   hears_so (Ok (Some a)) (Err why) asked h = takes_none a why asked h
 
   pub asks_turn : (result : Result Bool WorkFault)
       → Hears gives mid question step result new source source'
-      → AsksTurn gives old question result new (medium disk) (medium disk') source source'
+      → AsksTurn medium gives question (asking_scene old disk source) result
+      (asking_scene new disk' source')
   asks_turn result h = hears_so h.said result h.asked h.hears
 
 -- The worker still says so where the source has answered, or has none.
@@ -264,7 +271,8 @@ hears_abreast gives old new question step (Err why) source source' h = tt
 pub asks_nothing : {D S : Type 0} (medium : D → Medium) (gives : Giving S) (old new : RunningWorker)
     (question : Question) (why : WorkFault) (disk disk' : D) (source : S)
     → MakesNoRoom old why new (medium disk) (medium disk')
-    → AsksTurn gives old question (Err why) new (medium disk) (medium disk') source source
+    → AsksTurn medium gives question (asking_scene old disk source) (Err why)
+    (asking_scene new disk' source)
 asks_nothing medium gives old new question why disk disk' source none = (
   [],
   refl,

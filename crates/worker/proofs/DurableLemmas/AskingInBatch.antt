@@ -1,7 +1,6 @@
 -- The source is asked in a batch, where lines may be held.
-use Rattle.std.proofs.Common.{◌≡◌, ℕ, ◌+◌, ◌≤◌, List, [], ◌++◌, refl, sym, ap, ◌∙◌}
-use Rattle.std.proofs.Common.{subst, inl, inr, arith, Bool, true, false, Some, None, Ok}
-use Rattle.std.proofs.Common.{Err}
+use Rattle.std.proofs.Common.{◌≡◌, ℕ, ◌+◌, ◌≤◌, List, [], ◌++◌, refl, sym, ap, ◌∙◌, subst, inl, inr}
+use Rattle.std.proofs.Common.{arith, Bool, true, false, Some, None, Ok, Err}
 use Rattle.std.specs.Prelude.{Result, ◌≢◌}
 use Rattle.std.proofs.lemmas.List.{append-nil}
 use Rattle.wasi_abi.specs.declared.answer.Question.{Question}
@@ -17,8 +16,7 @@ use Rattle.disk_layout.specs.rules.Journal.{Record}
 use Rattle.record_replay.specs.declared.fault.SourceFault.{SourceFault}
 use Rattle.record_replay.specs.rules.Calls.{Giving, Begun, Exchange}
 use Rattle.worker_store.specs.restart_theorem.Lives.{Reply, Waits, Fails, SourceSaid, Cause}
-use Rattle.worker_store.specs.restart_theorem.Lives.{OfSource, OfAnswer}
-use Rattle.worker_store.specs.restart_theorem.Lives.{kept_of_said}
+use Rattle.worker_store.specs.restart_theorem.Lives.{OfSource, OfAnswer, kept_of_said}
 use Rattle.worker_store.specs.restart_theorem.Courses.{Broken, Stage, Phase, MayFail, IsInBatch}
 use Rattle.worker_store.specs.restart_theorem.Courses.{HasLastAsked, phase_asked}
 use Rattle.worker_store.specs.restart_theorem.Promises.{Promise, IsFitting}
@@ -42,8 +40,10 @@ use Rattle.worker.specs.rules.WorkFaults.{fault_of_store}
 use Rattle.worker.specs.DurableTurns.{Course, IsAskingOn, TurnEnds, TurnFails, MakesRoom}
 use Rattle.worker.specs.DurableTurns.{MakesNoRoom, asks_once, TakesOnRecord, TakesNone, LacksRecord}
 use Rattle.worker.specs.DurableTurns.{IsNotTaken, IsMisfit, HearsBy, Hears, IsOfStoreFault}
+use Rattle.worker.specs.DurableTurns.{running_on, asking_scene}
 use Rattle.worker.specs.StoreTurns.{StoreHears}
-use Rattle.worker.specs.BatchTurns.{IsToldTurn, IsStopped, TurnStops, AsksOn, AsksOne, AsksHolding}
+use Rattle.worker.specs.BatchTurns.{IsToldTurn, IsStopped, StopsAt, TurnComes, AsksOn, AsksOne}
+use Rattle.worker.specs.BatchTurns.{AsksHolding}
 use Rattle.worker.proofs.StoreTurnLemmas.{append_hears}
 use Rattle.worker.proofs.DurableLemmas.Bounds.{bounds_join, question_counts}
 use Rattle.worker.proofs.DurableLemmas.Asking.{goes_behind, fails_behind}
@@ -57,7 +57,8 @@ use Rattle.worker.proofs.DurableLemmas.Stopping.{waits_there, fails_there}
 module _ {D : Type 0} (medium : D → Medium) (c : Course) (promise : Promise) (stage : Stage)
     (p : ProcessState) (question : Question) (lines_held : List Begun) (w : RunningWorker)
     (disk : D)
-    (asking : IsAskingOn c promise stage p question (promise.events + 1) lines_held w (medium disk))
+    (asking : IsAskingOn c promise stage p question (promise.events + 1)
+    (running_on lines_held w (medium disk)))
     (says : w.is_abreast ≡ true) (batch : IsInBatch stage.acts) where
   -- lines are left to be told behind it
   left_behind : (said : SourceSaid) (fits : Bool) → HasLastAsked (phase_asked p.steps said fits)
@@ -108,26 +109,25 @@ module _ {D : Type 0} (medium : D → Medium) (c : Course) (promise : Promise) (
       → IsFitting (text_limit p.host.version) question said fits
       → IsForetold stage (asks_once question said)
       → IsStopped medium c (promise_once promise p question said fits)
-      (stage_once stage p question said fits) p result reply lines_held w disk
-      → TurnStops medium c promise stage result (asks_once question said) lines_held w disk disk
+      (stage_once stage p question said fits) p result reply (running_on lines_held w (medium disk))
+      → TurnComes c promise stage (asks_once question said) (medium disk) (medium disk)
+      (StopsAt medium result (running_on lines_held w (medium disk)) c)
   stops_once said fits result reply fitting foretold stopped = record {
     promise' = promise_once promise p question said fits;
     stage' = stage_once stage p question said fits;
-    process = p;
-    reply = reply;
     done = done_once medium c promise stage p question lines_held w disk asking says said fits
         fitting foretold;
     onward = goes_once medium c promise stage p question lines_held w disk asking says said fits
         fitting foretold;
     bounded = bounds_still medium c promise stage p question lines_held w disk asking says
         (promise.events + 1) (omega arith);
-    stopped = stopped;
+    state = (p, reply, stopped);
   }
 
   -- there is no answer
   pub none_stops : IsForetold stage (asks_once question (Ok None))
-      → TurnStops medium c promise stage (Ok now.Waiting) (asks_once question (Ok None)) lines_held
-      w disk disk
+      → TurnComes c promise stage (asks_once question (Ok None)) (medium disk) (medium disk)
+      (StopsAt medium (Ok now.Waiting) (running_on lines_held w (medium disk)) c)
   none_stops foretold =
       let running = asking.running in
       let began = running.began in
@@ -154,8 +154,8 @@ module _ {D : Type 0} (medium : D → Medium) (c : Course) (promise : Promise) (
 
   -- the source fails
   pub fault_stops : (e : SourceFault) → IsForetold stage (asks_once question (Err e))
-      → TurnStops medium c promise stage (Err (Work slice.Source)) (asks_once question (Err e))
-      lines_held w disk disk
+      → TurnComes c promise stage (asks_once question (Err e)) (medium disk) (medium disk)
+      (StopsAt medium (Err (Work slice.Source)) (running_on lines_held w (medium disk)) c)
   fault_stops e foretold =
       stops_once (Err e) false (Err (Work slice.Source)) (Fails OfSource) tt foretold (record {
         telling = left_behind (Err e) false tt refl;
@@ -170,9 +170,8 @@ module _ {D : Type 0} (medium : D → Medium) (c : Course) (promise : Promise) (
   pub misfit_stops : (a : Answer) (step : ℕ) (why : WorkFault) (w' : RunningWorker)
       → IsMisfit w question (record { step = step; answer = a }) why w'
       → IsForetold stage (asks_once question (Ok (Some a)))
-      → TurnStops medium c promise stage (Err (Work slice.Source))
-      (asks_once question (Ok (Some a)))
-      lines_held w disk disk
+      → TurnComes c promise stage (asks_once question (Ok (Some a))) (medium disk) (medium disk)
+      (StopsAt medium (Err (Work slice.Source)) (running_on lines_held w (medium disk)) c)
   misfit_stops a step why w' h foretold =
       let limit = same_limit medium c promise stage p question lines_held w disk asking says in
       stops_once (Ok (Some a)) false (Err (Work slice.Source)) (Fails OfAnswer)
@@ -208,21 +207,21 @@ stops_behind : {D : Type 0} (medium : D → Medium) (c : Course) (promise : Prom
     (w : RunningWorker) (disk mid disk' : D)
     → GoesOnFrom c.code c.config promise promise (medium disk) (medium mid)
     → StaysWithin (promise.events + 1) (medium disk) (medium mid)
-    → (turn : TurnStops medium c promise stage result exchanges lines_held w mid disk')
+    → (turn : TurnComes c promise stage exchanges (medium mid) (medium disk')
+    (StopsAt medium result (running_on lines_held w (medium disk')) c))
     → promise.events + 1 ≤ turn.promise'.events
-    → TurnStops medium c promise stage result exchanges lines_held w disk disk'
+    → TurnComes c promise stage exchanges (medium disk) (medium disk')
+    (StopsAt medium result (running_on lines_held w (medium disk')) c)
 stops_behind medium c promise stage result exchanges lines_held w disk mid disk' goes bounded turn
     counts = record {
       promise' = turn.promise';
       stage' = turn.stage';
-      process = turn.process;
-      reply = turn.reply;
       done = turn.done;
       onward = turns_join medium c.code c.config promise promise turn.promise' disk mid disk' goes
           turn.onward;
       bounded = bounds_join (promise.events + 1) turn.promise'.events (medium disk) (medium mid)
           (medium disk') counts bounded turn.bounded;
-      stopped = turn.stopped;
+      state = turn.state;
     }
 
 -- ---- any other fault
@@ -231,7 +230,8 @@ module _ {D : Type 0} (medium : D → Medium) (c : Course) (promise : Promise) (
     (exchanges : List Exchange) (lines_held : List Begun) (w : RunningWorker) (disk disk' : D) where
   store_fails_on : (fault : StoreFault)
       → TurnFails c promise stage (fault_of_store fault) exchanges w (medium disk) (medium disk')
-      → AsksOn medium (Err (fault_of_store fault)) c promise stage exchanges lines_held w disk disk'
+      → AsksOn medium (Err (fault_of_store fault)) c promise stage exchanges (medium disk)
+      (running_on lines_held w (medium disk'))
   store_fails_on (store.Disk why) turn = turn
   store_fails_on store.Memory turn = turn
   store_fails_on store.Failed turn = turn
@@ -244,13 +244,16 @@ module _ {D : Type 0} (medium : D → Medium) (c : Course) (promise : Promise) (
   process_fails_on : (fault : ProcessFault) (why : WorkFault) → why ≡ Work (slice_fault fault)
       → (fault ≡ stop.WrongAnswer → ⊥) → TurnFails c promise stage why exchanges w (medium disk)
       (medium disk')
-      → AsksOn medium (Err why) c promise stage exchanges lines_held w disk disk'
+      → AsksOn medium (Err why) c promise stage exchanges (medium disk)
+      (running_on lines_held w (medium disk'))
   process_fails_on stop.WrongAnswer why is right turn = absurd (right refl)
   process_fails_on stop.Memory why is right turn =
-      subst (λ z. AsksOn medium (Err z) c promise stage exchanges lines_held w disk disk') (sym is)
+      subst (λ z. AsksOn medium (Err z) c promise stage exchanges (medium disk)
+      (running_on lines_held w (medium disk'))) (sym is)
       (subst (λ z. TurnFails c promise stage z exchanges w (medium disk) (medium disk')) is turn)
   process_fails_on stop.StepsSpent why is right turn =
-      subst (λ z. AsksOn medium (Err z) c promise stage exchanges lines_held w disk disk') (sym is)
+      subst (λ z. AsksOn medium (Err z) c promise stage exchanges (medium disk)
+      (running_on lines_held w (medium disk'))) (sym is)
       (subst (λ z. TurnFails c promise stage z exchanges w (medium disk) (medium disk')) is turn)
 
 asked_one : (question : Question) (said : SourceSaid) (result : Result Bool WorkFault)
@@ -281,20 +284,22 @@ module _ {D S : Type 0} (medium : D → Medium) (gives : Giving S) (old mid new 
     (question : Question) (step : ℕ) (disk disk' : D) (source source' : S)
     (makes : MakesRoom old mid (medium disk) (medium disk')) (same : mid.process ≡ old.process)
     (says : mid.is_abreast ≡ true) (step_is : step ≡ old.process.steps + 1) where
-  abbrev Holding : Result Bool WorkFault → Type 0
-  Holding result =
-      AsksHolding medium gives old question result new disk disk' source source'
+  abbrev AsksSo : Result Bool WorkFault → Type 0
+  AsksSo result =
+      AsksHolding medium gives question (asking_scene old disk source) result
+      (asking_scene new disk' source')
 
   fault_held : (e : SourceFault) → gives source question (Err e) source' → new ≡ mid
-      → Holding (Err (Work slice.Source))
+      → AsksSo (Err (Work slice.Source))
   fault_held e asked still = (
     asks_once question (Err e),
     (refl, asked),
     refl,
     λ c promise stage p lines_held asking batch free foretold.
         let made = makes c promise stage p question lines_held asking free in
-        let turn = subst (λ w. TurnStops medium c promise stage (Err (Work slice.Source))
-        (asks_once question (Err e)) lines_held w disk' disk') (sym still)
+        let turn = subst (λ w. TurnComes c promise stage (asks_once question (Err e))
+        (medium disk') (medium disk') (StopsAt medium (Err (Work slice.Source))
+        (running_on lines_held w (medium disk')) c)) (sym still)
         (fault_stops medium c promise stage p question lines_held mid disk' made.0 says batch e
         foretold) in
         stops_behind medium c promise stage (Err (Work slice.Source)) (asks_once question (Err e))
@@ -303,15 +308,16 @@ module _ {D S : Type 0} (medium : D → Medium) (gives : Giving S) (old mid new 
         (record { question = question; said = Err e }) turn.done),
   )
 
-  none_held : gives source question (Ok None) source' → new ≡ mid → Holding (Ok false)
+  none_held : gives source question (Ok None) source' → new ≡ mid → AsksSo (Ok false)
   none_held asked still = (
     asks_once question (Ok None),
     (refl, asked),
     refl,
     λ c promise stage p lines_held asking batch free foretold.
         let made = makes c promise stage p question lines_held asking free in
-        let turn = subst (λ w. TurnStops medium c promise stage (Ok now.Waiting)
-        (asks_once question (Ok None)) lines_held w disk' disk') (sym still)
+        let turn = subst (λ w. TurnComes c promise stage (asks_once question (Ok None))
+        (medium disk') (medium disk') (StopsAt medium (Ok now.Waiting)
+        (running_on lines_held w (medium disk')) c)) (sym still)
         (none_stops medium c promise stage p question lines_held mid disk' made.0 says batch
         foretold) in
         stops_behind medium c promise stage (Ok now.Waiting) (asks_once question (Ok None))
@@ -321,7 +327,7 @@ module _ {D S : Type 0} (medium : D → Medium) (gives : Giving S) (old mid new 
   )
 
   taken_held : (a : Answer) → gives source question (Ok (Some a)) source'
-      → TakesOnRecord mid question (record { step = step; answer = a }) new → Holding (Ok true)
+      → TakesOnRecord mid question (record { step = step; answer = a }) new → AsksSo (Ok true)
   taken_held a asked takes = (
     asks_once question (Ok (Some a)),
     (refl, asked),
@@ -341,15 +347,16 @@ module _ {D S : Type 0} (medium : D → Medium) (gives : Giving S) (old mid new 
 
   misfit_held : (a : Answer) (why : WorkFault) → gives source question (Ok (Some a)) source'
       → IsMisfit mid question (record { step = step; answer = a }) why new
-      → Holding (Err (Work slice.Source))
+      → AsksSo (Err (Work slice.Source))
   misfit_held a why asked h = (
     asks_once question (Ok (Some a)),
     (refl, asked),
     refl,
     λ c promise stage p lines_held asking batch free foretold.
         let made = makes c promise stage p question lines_held asking free in
-        let turn = subst (λ w. TurnStops medium c promise stage (Err (Work slice.Source))
-        (asks_once question (Ok (Some a))) lines_held w disk' disk') (sym h.same)
+        let turn = subst (λ w. TurnComes c promise stage (asks_once question (Ok (Some a)))
+        (medium disk') (medium disk') (StopsAt medium (Err (Work slice.Source))
+        (running_on lines_held w (medium disk')) c)) (sym h.same)
         (misfit_stops medium c promise stage p question lines_held mid disk' made.0 says batch a
         step why new h foretold) in
         stops_behind medium c promise stage (Err (Work slice.Source))
@@ -360,7 +367,7 @@ module _ {D S : Type 0} (medium : D → Medium) (gives : Giving S) (old mid new 
 
   lacks_held : (a : Answer) (why : WorkFault) → gives source question (Ok (Some a)) source'
       → LacksRecord mid question (record { step = step; answer = a }) why new
-      → Holding (Err why)
+      → AsksSo (Err why)
   lacks_held a why asked h = (
     asks_once question (Ok (Some a)),
     (refl, asked),
@@ -372,7 +379,7 @@ module _ {D S : Type 0} (medium : D → Medium) (gives : Giving S) (old mid new 
         (lacks_record medium c promise stage p question lines_held mid disk' made.0 says a foretold
         step why new made.1 h) in
         subst (λ z. AsksOn medium (Err z) c promise stage (asks_once question (Ok (Some a)))
-        lines_held new disk disk') (sym h.is)
+        (medium disk) (running_on lines_held new (medium disk'))) (sym h.is)
         (store_fails_on medium c promise stage (asks_once question (Ok (Some a))) lines_held new
         disk disk' h.fault
         (subst (λ z. TurnFails c promise stage z (asks_once question (Ok (Some a))) new
@@ -380,7 +387,7 @@ module _ {D S : Type 0} (medium : D → Medium) (gives : Giving S) (old mid new 
   )
 
   untaken_held : (a : Answer) (why : WorkFault) → gives source question (Ok (Some a)) source'
-      → IsNotTaken mid question (record { step = step; answer = a }) why new → Holding (Err why)
+      → IsNotTaken mid question (record { step = step; answer = a }) why new → AsksSo (Err why)
   untaken_held a why asked h = (
     asks_once question (Ok (Some a)),
     (refl, asked),
@@ -398,36 +405,38 @@ module _ {D S : Type 0} (medium : D → Medium) (gives : Giving S) (old mid new 
   )
 
   untold : (a : Answer) (why : WorkFault) → gives source question (Ok (Some a)) source'
-      → TakesNone mid question (record { step = step; answer = a }) why new → Holding (Err why)
+      → TakesNone mid question (record { step = step; answer = a }) why new → AsksSo (Err why)
   untold a why asked (inl misfits) =
-      subst (λ z. Holding (Err z)) (sym misfits.is) (misfit_held a why asked misfits)
+      subst (λ z. AsksSo (Err z)) (sym misfits.is) (misfit_held a why asked misfits)
   untold a why asked (inr (inl lacks)) = lacks_held a why asked lacks
   untold a why asked (inr (inr none)) = untaken_held a why asked none
 
   hears_held : (said : SourceSaid) (result : Result Bool WorkFault)
       → gives source question said source' → HearsBy mid question step said result new
-      → Holding result
-  hears_held (Err e) result asked h = subst Holding (sym h.0) (fault_held e asked h.1)
-  hears_held (Ok None) result asked h = subst Holding (sym h.0) (none_held asked h.1)
+      → AsksSo result
+  hears_held (Err e) result asked h = subst AsksSo (sym h.0) (fault_held e asked h.1)
+  hears_held (Ok None) result asked h = subst AsksSo (sym h.0) (none_held asked h.1)
   hears_held (Ok (Some a)) (Ok is_there) asked h =
-      subst (λ b. Holding (Ok b)) (sym h.0) (taken_held a asked h.1)
+      subst (λ b. AsksSo (Ok b)) (sym h.0) (taken_held a asked h.1)
   hears_held (Ok (Some a)) (Err why) asked h = untold a why asked h
 
   pub asks_holding : (result : Result Bool WorkFault)
-      → Hears gives mid question step result new source source' → Holding result
+      → Hears gives mid question step result new source source' → AsksSo result
   asks_holding result h = hears_held h.said result h.asked h.hears
 
 -- no room was made
 pub asks_none_holding : {D S : Type 0} (medium : D → Medium) (gives : Giving S)
     (old new : RunningWorker) (question : Question) (why : WorkFault) (disk disk' : D) (source : S)
     → IsOfStoreFault why → MakesNoRoom old why new (medium disk) (medium disk')
-    → AsksHolding medium gives old question (Err why) new disk disk' source source
+    → AsksHolding medium gives question (asking_scene old disk source) (Err why)
+    (asking_scene new disk' source)
 asks_none_holding medium gives old new question why disk disk' source by none = (
   [],
   refl,
   subst (λ z. AsksOne (Err z) []) (sym by.1) (store_asks_none by.0),
   λ c promise stage p lines_held asking batch free foretold.
-      subst (λ z. AsksOn medium (Err z) c promise stage [] lines_held new disk disk')
+      subst (λ z. AsksOn medium (Err z) c promise stage [] (medium disk)
+      (running_on lines_held new (medium disk')))
       (sym by.1)
       (store_fails_on medium c promise stage [] lines_held new disk disk' by.0
       (subst (λ z. TurnFails c promise stage z [] new (medium disk) (medium disk')) by.1

@@ -10,7 +10,7 @@ use Rattle.process.specs.rules.Values.{waiting_in}
 use Rattle.sector_disk.specs.rules.Medium.{Medium}
 use Rattle.record_replay.specs.declared.line_list.NumberedLine.{NumberedLine}
 use Rattle.record_replay.specs.rules.Calls.{Giving, Taking, Begun, Exchange, Exchanges, Released}
-use Rattle.record_replay.specs.rules.Calls.{Releases, all_taken}
+use Rattle.record_replay.specs.rules.Calls.{Releases, all_taken, ports}
 use Rattle.record_replay.specs.rules.Waiting.{first_waiting}
 use Rattle.record_replay.proofs.Emitted.{released_whole}
 use Rattle.record_replay.proofs.Following.{leads_join}
@@ -32,19 +32,17 @@ use Rattle.worker.specs.rules.DurableCalls.{CallKeeps, IsReplyOf}
 use Rattle.worker.specs.rules.Scenes.{scene}
 use Rattle.worker.specs.rules.DurableValues.{durable_of}
 use Rattle.worker.specs.rules.OpenWorkers.{IsOpenOn}
-use Rattle.worker.specs.DurableTurns.{Course, to_tell}
+use Rattle.worker.specs.DurableTurns.{Course, to_tell, running_on, telling_scene}
 use Rattle.worker.specs.BatchTurns.{held_as_begun, EndsBatch, LeavesBatch, WorksInBatch, TellsRest}
-use Rattle.worker.specs.BatchTurns.{MayTellRest, HasEnded, StopsInBatch, BeginsBatch}
+use Rattle.worker.specs.BatchTurns.{MayTellRest, HasEnded, StopsAt, StopsInBatch, BeginsBatch}
+use Rattle.worker.specs.BatchTurns.{holding}
 use Rattle.worker.specs.StoreTurns.{HasTurnCause, StoreGoes, StoreStops, StoreRuns}
 use Rattle.worker.proofs.StoreTurnLemmas.{goes_join, goes_stop, stops_join}
 use Rattle.worker.proofs.DurableLemmas.Ends.{not_open}
 use Rattle.worker.proofs.DurableLemmas.Holding.{none_to_tell}
 use Rattle.worker.proofs.DurableLemmas.Working.{call_carries}
-use Rattle.worker.proofs.DurableLemmas.Batching.{BatchSoFar, BatchFailed, BatchOver}
-use Rattle.worker.proofs.DurableLemmas.BatchParts.{StopsAt}
-use Rattle.worker.proofs.DurableLemmas.Batching.{batch_over, stopped_told}
-use Rattle.worker.proofs.DurableLemmas.BatchParts.{comes_of_stops}
-use Rattle.worker.proofs.DurableLemmas.Batching.{stopped_untold}
+use Rattle.worker.proofs.DurableLemmas.Batching.{BatchSoFar, BatchFailed, BatchOver, batch_over}
+use Rattle.worker.proofs.DurableLemmas.Batching.{stopped_told, stopped_untold}
 use Rattle.worker.proofs.DurableLemmas.Queueing.{slices_told, told_whole}
 use Rattle.worker.proofs.DurableLemmas.BatchFaults.{untold_rest}
 use Rattle.worker.proofs.DurableLemmas.InBatch.{nothing_released}
@@ -61,9 +59,9 @@ module _ {D S O : Type 0} (medium : D → Medium) (gives : Giving S) (takes : Ta
         outlet outlet'
     pub runs : StoreRuns result old.store new.store (medium disk) (medium disk')
     pub done : IfOk result (λ now. Slices gives takes (working old.process) fuel now
-        (working new.process) source source' outlet outlet')
-    pub failed : IfErr result (λ why. BatchFails gives takes old.process fuel why new.process source
-        source' outlet outlet')
+        (working new.process) (ports source outlet) (ports source' outlet'))
+    pub failed : IfErr result (λ why. BatchFails gives takes old.process fuel why new.process
+        (ports source outlet) (ports source' outlet'))
 
   -- it has failed
   over_by_fault : (why : WorkFault) (w : RunningWorker) (disk disk' : D) (s t : S) (o q : O)
@@ -81,7 +79,7 @@ module _ {D S O : Type 0} (medium : D → Medium) (gives : Giving S) (takes : Ta
   finished_by_fault : (why : WorkFault) (w : RunningWorker) (disk disk' : D) (s t : S) (o q : O)
       → BatchFailed medium gives takes old fuel most why w disk disk' s t o q
       → StoreStops old.store w.store why (medium disk) (medium disk')
-      → BatchFails gives takes old.process fuel why w.process s t o q
+      → BatchFails gives takes old.process fuel why w.process (ports s o) (ports t q)
       → IsFinished (Err why) w disk disk' s t o q
   finished_by_fault why w disk disk' s t o q failed stopped fails = record {
     over = over_by_fault why w disk disk' s t o q failed;
@@ -99,8 +97,9 @@ module _ {D S O : Type 0} (medium : D → Medium) (gives : Giving S) (takes : Ta
         → StopsInBatch gives old.process fuel result w.process s t kept
         → IfErr result (λ why. (later : D) → HasTurnCause old.store (medium disk) (medium later)
         why)
-        → BatchSoFar medium gives takes old fuel most (StopsAt medium result [] w disk') w disk
-        disk' s t o q → IsFinished result w disk disk' s t o q
+        → BatchSoFar medium gives takes old fuel most
+        (StopsAt medium result (running_on [] w (medium disk'))) w disk disk' s t o q
+        → IsFinished result w disk disk' s t o q
     finished_so (Ok why) other stop cause so_far = record {
       over = batch_over medium gives takes old fuel most (Ok why) w disk disk' s t o q so_far
           stop.none_waits;
@@ -115,13 +114,13 @@ module _ {D S O : Type 0} (medium : D → Medium) (gives : Giving S) (takes : Ta
       done = tt;
       failed = λ guest p shows.
           let k = stop.shown guest p shows in
-          let stopped = k.0 in (
+          let did = k.0 in (
             kept,
-            stopped.fails,
-            told_whole takes (HasUntakenAnswer guest p stopped.fails.exchanges stopped.fails.steps
-                stopped.fails.process) (held_as_begun kept) o q released why
+            did,
+            told_whole takes (HasUntakenAnswer guest p did.exchanges did.steps did.process)
+                (held_as_begun kept) o q released why
                 (λ e. other (ap (λ (z : WorkFault). Err z) e)),
-            k.1,
+            k.2,
           );
     }
 
@@ -131,7 +130,8 @@ module _ {D S O : Type 0} (medium : D → Medium) (gives : Giving S) (takes : Ta
     -- no line may be told
     ended_so : (exchanges : List Exchange) → Exchanges gives takes s o exchanges t q
         → (why : WorkFault) → worked ≡ Err why
-        → EndsBatch gives takes old fuel most why exchanges w (medium disk) (medium mid) s t o q
+        → EndsBatch medium gives takes (Batch fuel most) (scene old disk s o) why exchanges
+        (scene (holding w lines) mid t q)
         → IsFinished worked w disk mid s t o q
     ended_so exchanges exchanged why is h =
         subst (λ z. IsFinished z w disk mid s t o q) (sym is)
@@ -144,17 +144,16 @@ module _ {D S O : Type 0} (medium : D → Medium) (gives : Giving S) (takes : Ta
 
     -- lines may be left
     module _ (exchanges : List Exchange) (exchanged : Exchanges gives takes s o exchanges t q)
-        (h : LeavesBatch medium gives takes old fuel most worked exchanges w lines disk mid s t o q)
+        (h : LeavesBatch medium gives takes (Batch fuel most) (scene old disk s o) worked exchanges
+        (scene (holding w lines) mid t q))
       where
         so_far : BatchSoFar medium gives takes old fuel most
-            (StopsAt medium worked (held_as_begun lines) w mid) w disk mid s t o q
+            (StopsAt medium worked (running_on (held_as_begun lines) w (medium mid)))
+            w disk mid s t o q
         so_far = (
           exchanges,
           exchanged,
-          λ c promise stage p begins foretold.
-              comes_of_stops medium c promise stage worked exchanges (held_as_begun lines) w disk
-              mid
-              (h.1 c promise stage p begins foretold),
+          h.1,
           h.2,
         )
 
@@ -167,13 +166,15 @@ module _ {D S O : Type 0} (medium : D → Medium) (gives : Giving S) (takes : Ta
             (subst (λ z. StopsInBatch gives old.process fuel worked w.process s t z) whole told.2)
             h.5
             (subst (λ z. BatchSoFar medium gives takes old fuel most
-            (StopsAt medium worked (held_as_begun z) w mid) w disk mid s t o q) none so_far)
+            (StopsAt medium worked (running_on (held_as_begun z) w (medium mid)))
+            w disk mid s t o q) none so_far)
 
         left_works : w.store.journal.has_failed ≡ false
         left_works = let goes = h.4 in goes.works works
 
         left_so : (result : Result Now WorkFault)
-            → TellsRest medium takes worked w lines result w' mid disk' q r
+            → TellsRest medium takes worked (telling_scene (holding w lines) mid q) result
+            (telling_scene w' disk' r)
             → IsFinished result w' disk disk' s t o r
         left_so result (inl already) =
             subst (λ z. IsFinished z w' disk disk' s t o r) (sym already.1)
@@ -233,10 +234,12 @@ module _ {D S O : Type 0} (medium : D → Medium) (gives : Giving S) (takes : Ta
 
     finish_by : (exchanges : List Exchange) → Exchanges gives takes s o exchanges t q
         → ((why : WorkFault) × (worked ≡ Err why)
-        × EndsBatch gives takes old fuel most why exchanges w (medium disk) (medium mid) s t o q)
-        ⊎ LeavesBatch medium gives takes old fuel most worked exchanges w lines disk mid
-        s t o q → (result : Result Now WorkFault)
-        → TellsRest medium takes worked w lines result w' mid disk' q r
+        × EndsBatch medium gives takes (Batch fuel most) (scene old disk s o) why exchanges
+        (scene (holding w lines) mid t q))
+        ⊎ LeavesBatch medium gives takes (Batch fuel most) (scene old disk s o) worked exchanges
+        (scene (holding w lines) mid t q) → (result : Result Now WorkFault)
+        → TellsRest medium takes worked (telling_scene (holding w lines) mid q) result
+        (telling_scene w' disk' r)
         → IsFinished result w' disk disk' s t o r
     finish_by exchanges exchanged (inl k) result (inl already) =
         subst (λ z. IsFinished z w' disk disk' s t o r) (sym already.1)
@@ -250,9 +253,11 @@ module _ {D S O : Type 0} (medium : D → Medium) (gives : Giving S) (takes : Ta
         absurd (ended_not k.0 k.1 k.2.0 rest.0)
     finish_by exchanges exchanged (inr h) result rest = left_so exchanges exchanged h result rest
 
-    pub finishes : WorksInBatch medium gives takes old fuel most worked w lines disk mid s t o q
+    pub finishes : WorksInBatch medium gives takes (Batch fuel most) (scene old disk s o) worked
+        (scene (holding w lines) mid t q)
         → (result : Result Now WorkFault)
-        → TellsRest medium takes worked w lines result w' mid disk' q r
+        → TellsRest medium takes worked (telling_scene (holding w lines) mid q) result
+        (telling_scene w' disk' r)
         → IsFinished result w' disk disk' s t o r
     finishes h result rest = finish_by h.0 h.1 h.2 result rest
 
@@ -260,7 +265,8 @@ module _ {D S O : Type 0} (medium : D → Medium) (gives : Giving S) (takes : Ta
 pub rest_abreast : {D O : Type 0} (medium : D → Medium) (takes : Taking O)
     (worked : Result Now WorkFault) (w w' : RunningWorker) (lines : List NumberedLine)
     (mid disk' : D) (q r : O) (why : Now)
-    → TellsRest medium takes worked w lines (Ok why) w' mid disk' q r
+    → TellsRest medium takes worked (telling_scene (holding w lines) mid q) (Ok why)
+    (telling_scene w' disk' r)
     → IfOk worked (λ now. now ≢ Spent → w.is_abreast ≡ true) → why ≢ Spent
     → w'.is_abreast ≡ true
 rest_abreast medium takes worked w w' lines mid disk' q r why (inl already) abreast other =
@@ -290,7 +296,7 @@ begins : (m : Module) (config : Settings) (guest : Guest) (promise : Promise) (s
       guest = guest;
       act = Batch fuel most;
       first = running.process.steps;
-    }) promise stage p fuel most running disk
+    }) promise stage p (Batch fuel most) running disk
 begins m config guest promise stage p acts running replayed fuel most disk open_on next_act =
     let shows = open_on.shows in
     let between = open_on.between in

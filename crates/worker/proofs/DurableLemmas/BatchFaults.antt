@@ -15,7 +15,7 @@ use Rattle.process.specs.rules.Stops.{GivesAnswer, GivesFor}
 use Rattle.sector_disk.specs.rules.Medium.{Medium}
 use Rattle.record_replay.specs.declared.line_list.NumberedLine.{NumberedLine}
 use Rattle.record_replay.specs.rules.Calls.{Giving, Taking, Begun, Exchange, Asks, Releases}
-use Rattle.record_replay.specs.rules.Calls.{all_taken}
+use Rattle.record_replay.specs.rules.Calls.{all_taken, ports}
 use Rattle.record_replay.specs.rules.Waiting.{first_waiting}
 use Rattle.record_replay.proofs.Following.{lines_in_order}
 use Rattle.worker_store.specs.restart_theorem.Lives.{SourceSaid}
@@ -164,7 +164,8 @@ module _ {S O : Type 0} (gives : Giving S) (takes : Taking O) where
         }
 
     abbrev all_kept : (guest : Guest) (p : ProcessState) → ShowsProcess old guest p → new ≡ v
-        → Fails gives keeping (working old) (failing new) guest p s t [] (kept ++ more)
+        → Fails gives keeping (working old) (failing new) guest p (ports s [])
+        (ports t (kept ++ more))
     all_kept guest p shows same = record {
       exchanges = made guest p shows;
       exchanged = told_more gives keeping old v v fuel guest p s t [] kept (gone guest p shows)
@@ -209,7 +210,7 @@ module _ {S O : Type 0} (gives : Giving S) (takes : Taking O) where
         (gone guest p shows).process
 
     pub untold_so : (why : WorkFault) → TellsVainly takes (held_as_begun lines) w why new q r
-        → BatchFails gives takes old fuel why new s t o r
+        → BatchFails gives takes old fuel why new (ports s o) (ports t r)
     untold_so why (inl h) guest p shows =
         let g = gone guest p shows in (
           kept ++ more,
@@ -313,7 +314,7 @@ module _ {S O : Type 0} (gives : Giving S) (takes : Taking O) where
           o q
           × IsBatchCause guest p fuel (calls guest p shows) (led guest p shows).steps
           (led guest p shows).process why)
-          → BatchFails gives takes old fuel why new s u o q
+          → BatchFails gives takes old fuel why new (ports s o) (ports u q)
       fails_with why so guest p shows = (
         kept,
         asks_here gives keeping old w.process fuel first s t [] kept question questioning u
@@ -326,7 +327,7 @@ module _ {S O : Type 0} (gives : Giving S) (takes : Taking O) where
 
       -- it isn't kept
       unkept_so : (from : WorkerStore) (r : Record) (fault : StoreFault) → AppendFails from r fault
-          → BatchFails gives takes old fuel (fault_of_store fault) new s u o q
+          → BatchFails gives takes old fuel (fault_of_store fault) new (ports s o) (ports u q)
       unkept_so from r fault fails = fails_with (fault_of_store fault) (λ guest p shows. (
         told_unkept takes (HasUntakenAnswer guest p (calls guest p shows) (led guest p shows).steps
             (led guest p shows).process) o q told lines released from r fault fails
@@ -340,7 +341,8 @@ module _ {S O : Type 0} (gives : Giving S) (takes : Taking O) where
       untaken_so : (fault : ProcessFault)
           → ◌≢◌ {A = WorkFault} (Work (slice_fault fault)) (Work slice.Source)
           → GivesAnswer w.process a (Err fault) new
-          → BatchFails gives takes old fuel (Work (slice_fault fault)) new s u o q
+          → BatchFails gives takes old fuel (Work (slice_fault fault)) new (ports s o)
+          (ports u q)
       untaken_so fault other given = fails_with (Work (slice_fault fault)) (λ guest p shows. (
         told_untaken takes (HasUntakenAnswer guest p (calls guest p shows)
             (led guest p shows).steps (led guest p shows).process) o q told lines released fault
@@ -354,19 +356,19 @@ module _ {S O : Type 0} (gives : Giving S) (takes : Taking O) where
     heard_so : (mid : RunningWorker) (step : ℕ) (said : SourceSaid) (why : WorkFault)
         → why ≢ Work slice.Source → mid.process ≡ w.process → gives t question said u
         → HearsBy mid question step said (Err why) w'
-        → BatchFails gives takes old fuel why w'.process s u o q
+        → BatchFails gives takes old fuel why w'.process (ports s o) (ports u q)
     heard_so mid step (Err e) why other at asked h =
         absurd (other (same_fault why (Work slice.Source) h.0))
     heard_so mid step (Ok None) why other at asked h = absurd (let no_error = h.0 in cc)
     heard_so mid step (Ok (Some a)) why other at asked (inl h) = absurd (other h.is)
     heard_so mid step (Ok (Some a)) why other at asked (inr (inl h)) =
-        subst (λ z. BatchFails gives takes old fuel z w'.process s u o q) (sym h.is)
-        (unkept_so a asked w'.process (h.same ∙ at) mid.store
+        subst (λ z. BatchFails gives takes old fuel z w'.process (ports s o) (ports u q))
+        (sym h.is) (unkept_so a asked w'.process (h.same ∙ at) mid.store
         (record { step = step; answer = a }) h.fault h.fails)
     heard_so mid step (Ok (Some a)) why other at asked (inr (inr h)) =
         let same = refused_same mid.process a h.fault w'.process at h.given in
-        subst (λ z. BatchFails gives takes old fuel z w'.process s u o q) (sym h.is)
-        (untaken_so a asked w'.process (same ∙ at) h.fault (λ e. other (h.is ∙ e))
+        subst (λ z. BatchFails gives takes old fuel z w'.process (ports s o) (ports u q))
+        (sym h.is) (untaken_so a asked w'.process (same ∙ at) h.fault (λ e. other (h.is ∙ e))
         (subst (λ z. GivesAnswer z a (Err h.fault) w'.process) at h.given))
 
     -- no line is held where room is lacking
@@ -380,13 +382,14 @@ module _ {S O : Type 0} (gives : Giving S) (takes : Taking O) where
 
     pub asked_so : (why : WorkFault) → why ≢ Work slice.Source
         → HoldsNoLine (held_as_begun lines) w → IsAskFault gives w question why w' t u
-        → BatchFails gives takes old fuel why w'.process s u o q
+        → BatchFails gives takes old fuel why w'.process (ports s o) (ports u q)
     asked_so why other free (inl stored) =
         let by = stored.0 in
         let no_outlet : why ≢ Work slice.Outlet = λ e. store_no_outlet by.0 (sym by.1 ∙ e) in
-        subst (λ z. BatchFails gives takes old fuel why z s u o q) (sym stored.1)
-        (subst (λ x. BatchFails gives takes old fuel why w.process s x o q) (sym stored.2)
-        (λ guest p shows.
+        subst (λ z. BatchFails gives takes old fuel why z (ports s o) (ports u q))
+        (sym stored.1)
+        (subst (λ x. BatchFails gives takes old fuel why w.process (ports s o) (ports x q))
+        (sym stored.2) (λ guest p shows.
         let g = led guest p shows in
         let here = up_to_now gives keeping old w.process fuel first s t [] kept questioning.turning
         guest p shows questioning.empty in (
@@ -445,12 +448,12 @@ module _ {S O : Type 0} (gives : Giving S) (takes : Taking O) where
       → w.store.journal.has_failed ≡ false → Releases takes o (held_as_begun told) q
       → (why : WorkFault)
       → TellsVainly takes (held_as_begun lines) w why new q r
-      → BatchFails gives takes old fuel why new s t o r
+      → BatchFails gives takes old fuel why new (ports s o) (ports t r)
   untold_rest old w new fuel s t o q r told lines result stop works released why (inl h) guest p
       shows =
       let k = stop.shown guest p shows in
-      let kept = k.0 in
-      let did = kept.fails in (
+      let did = k.0 in
+      let stopped = k.1 in (
         told ++ lines,
         record {
           exchanges = did.exchanges;
@@ -467,14 +470,13 @@ module _ {S O : Type 0} (gives : Giving S) (takes : Taking O) where
             (told_by_store takes (HasUntakenAnswer guest p did.exchanges did.steps did.process) o q
             told lines released w.store h.0 h.2)),
         subst (λ z. IsBatchCause guest p fuel did.exchanges did.steps did.process z) (sym h.1)
-            (last_cause fuel guest p did.exchanges did.steps did.process w.store h.0 kept.within
-            kept.stops works h.2),
+            (last_cause fuel guest p did.exchanges did.steps did.process w.store h.0 stopped.0
+            stopped.1 works h.2),
       )
   untold_rest old w new fuel s t o q r told lines result stop works released why (inr h) guest p
       shows =
       let k = stop.shown guest p shows in
-      let kept = k.0 in
-      let did = kept.fails in
+      let did = k.0 in
       let only : to_tell (held_as_begun lines) w.process ≡ held_as_begun lines =
       ap (λ z. held_as_begun lines ++ all_taken (first_waiting w.process) z) stop.none_waits
       ∙ append-nil (held_as_begun lines) in (
@@ -493,5 +495,5 @@ module _ {S O : Type 0} (gives : Giving S) (takes : Taking O) where
             told lines released r
             (subst (λ z. RefusesOne takes z q r) only h.2)),
         subst (λ z. IsBatchCause guest p fuel did.exchanges did.steps did.process z) (sym h.0)
-            (kept.within, kept.stops),
+            k.1,
       )

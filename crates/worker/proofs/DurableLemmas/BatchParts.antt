@@ -1,14 +1,13 @@
 -- Parts of a batch of a worker on its disk, and what is so behind them.
 use Rattle.std.proofs.Common.{◌≡◌, ◌+◌, ◌-◌, ◌≤◌, List, [], ◌++◌, length, refl, sym}
 use Rattle.std.proofs.Common.{ap, ◌∙◌, subst, arith, Err, length-append}
-use Rattle.std.specs.Prelude.{Result, ◌≢◌}
+use Rattle.std.specs.Prelude.{◌≢◌}
 use Rattle.std.proofs.lemmas.List.{append-nil, drop_all}
 use Rattle.wasi_abi.specs.declared.answer.Question.{Question}
 use Rattle.process_rules.specs.Processes.{ProcessState}
 use Rattle.process.specs.rules.Values.{HasReleased, ProcessValue, waiting_in}
 use Rattle.sector_disk.specs.rules.Medium.{Medium}
-use Rattle.record_replay.specs.rules.Calls.{Begun, Exchange, Giving}
-use Rattle.record_replay.specs.rules.Calls.{all_taken}
+use Rattle.record_replay.specs.rules.Calls.{Begun, Exchange, Giving, all_taken}
 use Rattle.record_replay.specs.rules.Waiting.{first_waiting}
 use Rattle.worker_store.specs.restart_theorem.Lives.{Reply}
 use Rattle.worker_store.specs.restart_theorem.Courses.{Stage}
@@ -19,19 +18,16 @@ use Rattle.worker_store.proofs.LawLemmas.Pieces.{parts_join}
 use Rattle.worker_store.proofs.LawLemmas.TurnLemmas.{turns_join, parts_leave_begun}
 use Rattle.worker_store.specs.declared.store.WorkerStore.{WorkerStore}
 use Rattle.worker_store.specs.rules.Stores.{failed_store}
-use Rattle.record_replay.specs.declared.slices.now.Now.{Now}
 use Rattle.record_replay.specs.declared.slices.fault.SliceFault.TheVariants as slice
 use Rattle.worker.specs.declared.fault.WorkFault.{WorkFault}
 use Rattle.worker.specs.declared.fault.WorkFault.TheVariants.{Work, Disk, Store, Upgrade}
 use Rattle.worker.specs.declared.running_worker.RunningWorker.{RunningWorker}
 use Rattle.worker.specs.rules.OpenWorkers.{IsOnDisk, IsAbreast}
 use Rattle.worker.specs.DurableTurns.{Course, IsBetweenTurns, IsAskingOn, IsOwingTurn, TurnGoes}
-use Rattle.worker.specs.DurableTurns.{TurnEnds, TurnFails, to_tell}
-use Rattle.worker.specs.DurableTurns.{slice_end}
+use Rattle.worker.specs.DurableTurns.{TurnEnds, TurnFails, to_tell, slice_end, identity_of}
+use Rattle.worker.specs.DurableTurns.{running_on, asking_scene}
 use Rattle.worker.specs.StoreTurns.{StoreStops}
-use Rattle.worker.specs.BatchTurns.{IsTellingTurn, IsToldTurn}
-use Rattle.worker.specs.BatchTurns.{IsStopped, TurnStops, TurnComes}
-use Rattle.worker.specs.BatchTurns.{AsksOn, AsksHolding}
+use Rattle.worker.specs.BatchTurns.{IsTellingTurn, IsToldTurn, TurnComes, AsksOn, AsksHolding}
 use Rattle.worker.proofs.DurableLemmas.OnDisk.{lowered_to}
 use Rattle.worker.proofs.DurableLemmas.Bounds.{bounds_join}
 use Rattle.worker.proofs.DurableLemmas.Ends.{not_open}
@@ -99,12 +95,7 @@ OwesAt lines_held w disk c promise stage =
 abbrev pub AsksAt : Question → List Begun → RunningWorker → Medium → Course → Promise → Stage
     → Type 0
 AsksAt question lines_held w disk c promise stage = (p : ProcessState)
-    × IsAskingOn c promise stage p question promise.events lines_held w disk
-
-abbrev pub StopsAt : {D : Type 0} → (D → Medium) → Result Now WorkFault → List Begun
-    → RunningWorker → D → Course → Promise → Stage → Type 0
-StopsAt medium result lines_held w disk c promise stage = (p : ProcessState) × (reply : Reply)
-    × IsStopped medium c promise stage p result reply lines_held w disk
+    × IsAskingOn c promise stage p question promise.events (running_on lines_held w disk)
 
 -- a turn of a slice is such a part
 pub comes_of_goes : (c : Course) (promise : Promise) (stage : Stage) (exchanges : List Exchange)
@@ -118,21 +109,6 @@ comes_of_goes c promise stage exchanges lines_held w disk disk' turn = record {
   onward = turn.onward;
   bounded = turn.bounded;
   state = (turn.process, turn.running);
-}
-
-pub comes_of_stops : {D : Type 0} (medium : D → Medium) (c : Course) (promise : Promise)
-    (stage : Stage) (result : Result Now WorkFault) (exchanges : List Exchange)
-    (lines_held : List Begun) (w : RunningWorker) (disk disk' : D)
-    → TurnStops medium c promise stage result exchanges lines_held w disk disk'
-    → TurnComes c promise stage exchanges (medium disk) (medium disk')
-    (StopsAt medium result lines_held w disk' c)
-comes_of_stops medium c promise stage result exchanges lines_held w disk disk' turn = record {
-  promise' = turn.promise';
-  stage' = turn.stage';
-  done = turn.done;
-  onward = turn.onward;
-  bounded = turn.bounded;
-  state = (turn.process, turn.reply, turn.stopped);
 }
 
 -- ---- states
@@ -194,7 +170,7 @@ held_now c promise stage p lines_held w w' disk running released same_store same
           ∙ append-nil (to_tell lines_held w.process) ∙ running.queued;
       way = running.way;
       began = running.began;
-      on_disk = subst (λ (k : WorkerStore). IsOnDisk c.code c.config c.guest promise p p.steps
+      on_disk = subst (λ (k : WorkerStore). IsOnDisk (identity_of c) promise p p.steps
           promise.events k disk) (sym same_store) running.on_disk;
       synced = running.synced;
       abreast = subst (λ says. IsAbreast promise stage p says) (sym same_says) running.abreast;
@@ -205,7 +181,8 @@ pub other_fails : {D : Type 0} (medium : D → Medium) (c : Course) (promise : P
     (stage : Stage) (exchanges : List Exchange) (lines_held : List Begun) (w : RunningWorker)
     (disk disk' : D) (why : WorkFault)
     → why ≢ Work slice.Source
-    → AsksOn medium (Err why) c promise stage exchanges lines_held w disk disk'
+    → AsksOn medium (Err why) c promise stage exchanges (medium disk)
+    (running_on lines_held w (medium disk'))
     → TurnFails c promise stage why exchanges w (medium disk) (medium disk')
 other_fails medium c promise stage made held w disk disk' (Work slice.Source) other turn =
     absurd (other refl)
@@ -221,7 +198,8 @@ fails_other : {D : Type 0} (medium : D → Medium) (c : Course) (promise : Promi
     (exchanges : List Exchange) (lines_held : List Begun) (w : RunningWorker) (disk disk' : D)
     (why : WorkFault) → why ≢ Work slice.Source
     → TurnFails c promise stage why exchanges w (medium disk) (medium disk')
-    → AsksOn medium (Err why) c promise stage exchanges lines_held w disk disk'
+    → AsksOn medium (Err why) c promise stage exchanges (medium disk)
+    (running_on lines_held w (medium disk'))
 fails_other medium c promise stage made held w disk disk' (Work slice.Source) other turn =
     absurd (other refl)
 fails_other medium c promise stage made held w disk disk' (Work slice.Outlet) other turn = turn
@@ -260,9 +238,10 @@ fails_anyhow c promise stage why exchanges w after disk disk' turn =
 pub asks_failing : {D S : Type 0} (medium : D → Medium) (gives : Giving S) (old w : RunningWorker)
     (after : WorkerStore) (question : Question) (why : WorkFault) (disk disk' : D)
     (source source' : S) → why ≢ Work slice.Source
-    → AsksHolding medium gives old question (Err why) w disk disk' source source'
-    → AsksHolding medium gives old question (Err why) (with_store w after) disk disk' source
-    source'
+    → AsksHolding medium gives question (asking_scene old disk source) (Err why)
+    (asking_scene w disk' source')
+    → AsksHolding medium gives question (asking_scene old disk source) (Err why)
+    (asking_scene (with_store w after) disk' source')
 asks_failing medium gives old w after question why disk disk' source source' other asks = (
   asks.0,
   asks.1,

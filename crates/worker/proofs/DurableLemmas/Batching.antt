@@ -9,8 +9,7 @@ use Rattle.process.specs.declared.fault.ProcessFault.TheVariants as stop
 use Rattle.process.specs.declared.stop.ProcessEnd.{ProcessEnd}
 use Rattle.process.specs.declared.stop.Stop.TheVariants as stops
 use Rattle.process.specs.rules.Stops.{AdvancesProcess}
-use Rattle.process.specs.rules.Values.{HasReleased, ProcessValue, waiting_in}
-use Rattle.process.specs.rules.Values.{ending_of}
+use Rattle.process.specs.rules.Values.{HasReleased, ProcessValue, waiting_in, ending_of}
 use Rattle.sector_disk.specs.rules.Medium.{Medium, CallsUpTo}
 use Rattle.record_replay.specs.rules.Calls.{Giving, Taking, Begun, Exchange, Exchanges, Releases}
 use Rattle.record_replay.proofs.Following.{exchanges_join}
@@ -32,11 +31,10 @@ use Rattle.worker.specs.declared.running_worker.RunningWorker.{RunningWorker}
 use Rattle.worker.specs.rules.CallCounts.{most_calls, most_saving, CallsForEvents}
 use Rattle.worker.specs.rules.DurableCalls.{HasCauseOf, IsReplyOf}
 use Rattle.worker.specs.StoreTurns.{owed, PaysCalls}
-use Rattle.worker.specs.DurableTurns.{Course}
-use Rattle.worker.specs.DurableTurns.{TurnEnds, TurnFails, told_lines_of, to_tell, HoldsNoLine}
-use Rattle.worker.specs.BatchTurns.{IsTellingTurn, TurnTells, FlushesAll, FlushesNot}
-use Rattle.worker.specs.BatchTurns.{TurnComes, BeginsBatch, PaidSoFar}
-use Rattle.worker.specs.BatchTurns.{AsksHolding}
+use Rattle.worker.specs.DurableTurns.{Course, TurnEnds, TurnFails, told_lines_of, to_tell}
+use Rattle.worker.specs.DurableTurns.{HoldsNoLine, running_on, asking_scene, telling_scene}
+use Rattle.worker.specs.BatchTurns.{IsTellingTurn, TurnTells, FlushesAll, FlushesNot, TurnComes}
+use Rattle.worker.specs.BatchTurns.{BeginsBatch, PaidSoFar, AsksHolding, StopsAt}
 use Rattle.worker.proofs.CallCountLemmas.{turns_then, turns_end, turn_once, turn_free, turn_last}
 use Rattle.worker.proofs.CallCountLemmas.{owed_within}
 use Rattle.worker.proofs.DurableLemmas.OnDisk.{keeps_now}
@@ -49,8 +47,8 @@ use Rattle.worker.proofs.DurableLemmas.Advancing.{with_process, says_abreast, ad
 use Rattle.worker.proofs.DurableLemmas.Advancing.{advance_holds, advance_asks, quiet_on}
 use Rattle.worker.proofs.DurableLemmas.Advancing.{said_abreast, spent_all}
 use Rattle.worker.proofs.DurableLemmas.Working.{told_alone, asked_alone, nothing_alone}
-use Rattle.worker.proofs.DurableLemmas.BatchParts.{RunsAt, OwesAt, AsksAt, StopsAt, comes_after}
-use Rattle.worker.proofs.DurableLemmas.BatchParts.{comes_end, comes_of_goes, comes_of_stops}
+use Rattle.worker.proofs.DurableLemmas.BatchParts.{RunsAt, OwesAt, AsksAt, comes_after, comes_end}
+use Rattle.worker.proofs.DurableLemmas.BatchParts.{comes_of_goes}
 use Rattle.worker.proofs.DurableLemmas.BatchParts.{lowered, none_at, held_now, other_fails}
 
 -- ---- a batch so far
@@ -66,7 +64,8 @@ module _ {D S O : Type 0} (medium : D → Medium) (gives : Giving S) (takes : Ta
   abbrev pub BatchComes : (Course → Promise → Stage → Type 0) → List Exchange → D → D → Type 0
   BatchComes State exchanges disk disk' =
       (c : Course) (promise : Promise) (stage : Stage) (p : ProcessState)
-      → BeginsBatch c promise stage p fuel most old (medium disk) → IsForetold stage exchanges
+      → BeginsBatch c promise stage p (Batch fuel most) old (medium disk)
+      → IsForetold stage exchanges
       → TurnComes c promise stage exchanges (medium disk) (medium disk') (State c)
 
   -- the exchanges so far
@@ -83,7 +82,8 @@ module _ {D S O : Type 0} (medium : D → Medium) (gives : Giving S) (takes : Ta
   BatchFailed why w disk disk' source source' outlet outlet' = (exchanges : List Exchange)
       × Exchanges gives takes source outlet exchanges source' outlet'
       × ((c : Course) (promise : Promise) (stage : Stage) (p : ProcessState)
-      → BeginsBatch c promise stage p fuel most old (medium disk) → IsForetold stage exchanges
+      → BeginsBatch c promise stage p (Batch fuel most) old (medium disk)
+      → IsForetold stage exchanges
       → TurnFails c promise stage why exchanges w (medium disk) (medium disk'))
       × CallsForEvents (length exchanges + 1) (medium disk) (medium disk')
 
@@ -249,7 +249,7 @@ module _ {D S O : Type 0} (medium : D → Medium) (gives : Giving S) (takes : Ta
         ≤ (medium mid).counted + owed n w.store.journal.kept) long pays))
 
     pub batch_tells_not : (why : WorkFault)
-        → FlushesNot takes lines_held w why w' (medium mid) (medium disk') q r
+        → FlushesNot medium takes lines_held (telling_scene w mid q) why (telling_scene w' disk' r)
         → PaysCalls {T = Unit {0}} (Err why) w.store w'.store (medium mid) (medium disk')
         → BatchFailed why w' disk disk' s t o r
     batch_tells_not why flushes pays =
@@ -278,7 +278,8 @@ module _ {D S O : Type 0} (medium : D → Medium) (gives : Giving S) (takes : Ta
       )
 
   stops_tells : (result : Result Now WorkFault) (lines_held : List Begun) (w : RunningWorker)
-      (mid : D) → MayTellAt (StopsAt medium result lines_held w mid) lines_held w mid
+      (mid : D) → MayTellAt (StopsAt medium result (running_on lines_held w (medium mid)))
+      lines_held w mid
   stops_tells result lines_held w mid c promise stage k =
       let stopped = k.2 in
       (k.0, lowered medium c promise stage k.0 lines_held w mid stopped.telling)
@@ -304,7 +305,7 @@ module _ {D S O : Type 0} (medium : D → Medium) (gives : Giving S) (takes : Ta
         ))
 
     pub owing_untold : (why : WorkFault)
-        → FlushesNot takes lines_held w why w' (medium mid) (medium disk') q r
+        → FlushesNot medium takes lines_held (telling_scene w mid q) why (telling_scene w' disk' r)
         → PaysCalls {T = Unit {0}} (Err why) w.store w'.store (medium mid) (medium disk')
         → BatchFailed why w' disk disk' s t o r
     owing_untold =
@@ -347,7 +348,7 @@ module _ {D S O : Type 0} (medium : D → Medium) (gives : Giving S) (takes : Ta
         ))
 
     pub asking_untold : (why : WorkFault)
-        → FlushesNot takes lines_held w why w' (medium mid) (medium disk') q r
+        → FlushesNot medium takes lines_held (telling_scene w mid q) why (telling_scene w' disk' r)
         → PaysCalls {T = Unit {0}} (Err why) w.store w'.store (medium mid) (medium disk')
         → BatchFailed why w' disk disk' s t o r
     asking_untold =
@@ -357,18 +358,19 @@ module _ {D S O : Type 0} (medium : D → Medium) (gives : Giving S) (takes : Ta
   -- behind all turns
   module _ (result : Result Now WorkFault) (lines_held : List Begun) (w w' : RunningWorker)
       (disk mid disk' : D) (s t : S) (o q r : O)
-      (so_far : BatchSoFar (StopsAt medium result lines_held w mid) w disk mid s t o q)
+      (so_far : BatchSoFar (StopsAt medium result (running_on lines_held w (medium mid)))
+      w disk mid s t o q)
       (long : (medium mid).sectors ≡ (medium disk).sectors) where
     pub stopped_told : w'.is_abreast ≡ w.is_abreast
         → Releases takes q (to_tell lines_held w.process) r
         → FlushesAll lines_held w w' (medium mid) (medium disk')
         → PaysCalls {T = Unit {0}} (Ok tt) w.store w'.store (medium mid) (medium disk')
-        → BatchSoFar (StopsAt medium result [] w' disk') w' disk disk' s t o r
+        → BatchSoFar (StopsAt medium result (running_on [] w' (medium disk'))) w' disk disk' s t o r
     unfolding stops_tells
     stopped_told says released flushes pays =
-        batch_tells (StopsAt medium result lines_held w mid) lines_held w w' disk mid disk' s t
-        o q r so_far (stops_tells result lines_held w mid) long
-        (StopsAt medium result [] w' disk') released flushes pays
+        batch_tells (StopsAt medium result (running_on lines_held w (medium mid))) lines_held w w'
+        disk mid disk' s t o q r so_far (stops_tells result lines_held w mid) long
+        (StopsAt medium result (running_on [] w' (medium disk'))) released flushes pays
         (λ c promise stage k tells.
         let stopped = k.2 in (
           k.0,
@@ -384,12 +386,12 @@ module _ {D S O : Type 0} (medium : D → Medium) (gives : Giving S) (takes : Ta
         ))
 
     pub stopped_untold : (why : WorkFault)
-        → FlushesNot takes lines_held w why w' (medium mid) (medium disk') q r
+        → FlushesNot medium takes lines_held (telling_scene w mid q) why (telling_scene w' disk' r)
         → PaysCalls {T = Unit {0}} (Err why) w.store w'.store (medium mid) (medium disk')
         → BatchFailed why w' disk disk' s t o r
     stopped_untold =
-        batch_tells_not (StopsAt medium result lines_held w mid) lines_held w w' disk mid disk' s
-        t o q r so_far (stops_tells result lines_held w mid) long
+        batch_tells_not (StopsAt medium result (running_on lines_held w (medium mid))) lines_held w
+        w' disk mid disk' s t o q r so_far (stops_tells result lines_held w mid) long
 
   -- ---- steps
 
@@ -449,12 +451,13 @@ module _ {D S O : Type 0} (medium : D → Medium) (gives : Giving S) (takes : Ta
         (there.process, there.asking))
 
     pub spent_now : AdvancesProcess w.process fuel_left (Ok stops.Spent) v
-        → BatchSoFar (StopsAt medium (Ok now.Spent) lines_held (with_process w v) mid)
+        → BatchSoFar (StopsAt medium (Ok now.Spent)
+        (running_on lines_held (with_process w v) (medium mid)))
         (with_process w v) disk mid s t o q
     spent_now advances =
         batch_still (RunsAt lines_held w (medium mid))
-        (StopsAt medium (Ok now.Spent) lines_held (with_process w v) mid) w (with_process w v)
-        disk mid s t o q refl so_far
+        (StopsAt medium (Ok now.Spent) (running_on lines_held (with_process w v) (medium mid))) w
+        (with_process w v) disk mid s t o q refl so_far
         (λ c promise stage known k.
         let running = k.1 in
         let stop = advances c.guest k.0 running.shows in
@@ -471,11 +474,13 @@ module _ {D S O : Type 0} (medium : D → Medium) (gives : Giving S) (takes : Ta
 
     pub over_now : (how : ProcessEnd)
         → AdvancesProcess w.process fuel_left (Ok (stops.Ended how)) v
-        → BatchSoFar (StopsAt medium (Ok (now.Ended how)) lines_held
-        (says_abreast (with_process w v)) mid) (says_abreast (with_process w v)) disk mid s t o q
+        → BatchSoFar (StopsAt medium (Ok (now.Ended how))
+        (running_on lines_held (says_abreast (with_process w v)) (medium mid)))
+        (says_abreast (with_process w v)) disk mid s t o q
     over_now how advances =
         batch_still (RunsAt lines_held w (medium mid))
-        (StopsAt medium (Ok (now.Ended how)) lines_held (says_abreast (with_process w v)) mid) w
+        (StopsAt medium (Ok (now.Ended how))
+        (running_on lines_held (says_abreast (with_process w v)) (medium mid))) w
         (says_abreast (with_process w v)) disk mid s t o q refl so_far
         (λ c promise stage known k.
         let running = k.1 in
@@ -491,19 +496,20 @@ module _ {D S O : Type 0} (medium : D → Medium) (gives : Giving S) (takes : Ta
         ))
 
     pub vain_now : (why : ProcessFault) → AdvancesProcess w.process fuel_left (Err why) v
-        → BatchSoFar (StopsAt medium (Err (Work (slice_fault why))) lines_held (with_process w v)
-        mid) (with_process w v) disk mid s t o q
+        → BatchSoFar (StopsAt medium (Err (Work (slice_fault why)))
+        (running_on lines_held (with_process w v) (medium mid))) (with_process w v) disk mid s t o q
     vain_now why advances =
         batch_still (RunsAt lines_held w (medium mid))
-        (StopsAt medium (Err (Work (slice_fault why))) lines_held (with_process w v) mid) w
-        (with_process w v) disk mid s t o q refl so_far
+        (StopsAt medium (Err (Work (slice_fault why)))
+        (running_on lines_held (with_process w v) (medium mid))) w (with_process w v) disk mid s t o
+        q refl so_far
         (λ c promise stage known k. vain_stop c promise stage known k why advances)
       where
         vain_stop : (c : Course) (promise : Promise) (stage : Stage) → IsOfBatch c old fuel most
             → RunsAt lines_held w (medium mid) c promise stage → (why : ProcessFault)
             → AdvancesProcess w.process fuel_left (Err why) v
-            → StopsAt medium (Err (Work (slice_fault why))) lines_held (with_process w v) mid c
-            promise stage
+            → StopsAt medium (Err (Work (slice_fault why)))
+            (running_on lines_held (with_process w v) (medium mid)) c promise stage
         vain_stop c promise stage known k stop.WrongAnswer advances =
             let running = k.1 in absurd (advances c.guest k.0 running.shows)
         vain_stop c promise stage known k stop.Memory advances =
@@ -557,7 +563,8 @@ module _ {D S O : Type 0} (medium : D → Medium) (gives : Giving S) (takes : Ta
         in_batch stage c.act at.acts fuel most at.slice known.act
 
     -- it has answered
-    pub asked_on : AsksHolding medium gives w question (Ok true) w' mid disk' t u
+    pub asked_on : AsksHolding medium gives question (asking_scene w mid t) (Ok true)
+        (asking_scene w' disk' u)
         → BatchSoFar (RunsAt lines_held w' (medium disk')) w' disk disk' s u o q
     asked_on asks =
         batch_on (AsksAt question lines_held w (medium mid)) w w' disk mid disk' s t u o q q so_far
@@ -569,34 +576,36 @@ module _ {D S O : Type 0} (medium : D → Medium) (gives : Giving S) (takes : Ta
         foretold)) (asked_pays asks.0 asks.2)
 
     -- it has none
-    pub asked_none : AsksHolding medium gives w question (Ok false) w' mid disk' t u
-        → BatchSoFar (StopsAt medium (Ok now.Waiting) lines_held w' disk') w' disk disk' s u o q
+    pub asked_none : AsksHolding medium gives question (asking_scene w mid t) (Ok false)
+        (asking_scene w' disk' u)
+        → BatchSoFar (StopsAt medium (Ok now.Waiting) (running_on lines_held w' (medium disk')))
+        w' disk disk' s u o q
     asked_none asks =
         batch_on (AsksAt question lines_held w (medium mid)) w w' disk mid disk' s t u o q q so_far
         asks.0 (asked_alone gives takes question asks.0 t u q asks.1)
-        (StopsAt medium (Ok now.Waiting) lines_held w' disk')
+        (StopsAt medium (Ok now.Waiting) (running_on lines_held w' (medium disk')))
         (λ c promise stage known k foretold.
-        comes_of_stops medium c promise stage (Ok now.Waiting) asks.0 lines_held w' mid disk'
-        (asks.3 c promise stage k.0 lines_held k.1 (in_its_batch c promise stage known k) free
-        foretold)) (asked_pays asks.0 asks.2)
+        asks.3 c promise stage k.0 lines_held k.1 (in_its_batch c promise stage known k) free
+        foretold) (asked_pays asks.0 asks.2)
 
     -- it has failed
-    pub asked_fault : AsksHolding medium gives w question (Err (Work slice.Source)) w' mid disk' t u
-        → BatchSoFar (StopsAt medium (Err (Work slice.Source)) lines_held w' disk') w' disk disk'
-        s u o q
+    pub asked_fault : AsksHolding medium gives question (asking_scene w mid t)
+        (Err (Work slice.Source)) (asking_scene w' disk' u)
+        → BatchSoFar (StopsAt medium (Err (Work slice.Source))
+        (running_on lines_held w' (medium disk')))
+        w' disk disk' s u o q
     asked_fault asks =
         batch_on (AsksAt question lines_held w (medium mid)) w w' disk mid disk' s t u o q q so_far
         asks.0 (asked_alone gives takes question asks.0 t u q asks.1)
-        (StopsAt medium (Err (Work slice.Source)) lines_held w' disk')
+        (StopsAt medium (Err (Work slice.Source)) (running_on lines_held w' (medium disk')))
         (λ c promise stage known k foretold.
-        comes_of_stops medium c promise stage (Err (Work slice.Source)) asks.0 lines_held w' mid
-        disk'
-        (asks.3 c promise stage k.0 lines_held k.1 (in_its_batch c promise stage known k) free
-        foretold)) (asked_pays asks.0 asks.2)
+        asks.3 c promise stage k.0 lines_held k.1 (in_its_batch c promise stage known k) free
+        foretold) (asked_pays asks.0 asks.2)
 
     -- or anything else
     pub asked_vainly : (why : WorkFault) → why ≢ Work slice.Source
-        → AsksHolding medium gives w question (Err why) w' mid disk' t u
+        → AsksHolding medium gives question (asking_scene w mid t) (Err why)
+        (asking_scene w' disk' u)
         → BatchFailed why w' disk disk' s u o q
     asked_vainly why other asks =
         batch_fails (AsksAt question lines_held w (medium mid)) w w' disk mid disk' s t u o q q
@@ -613,14 +622,16 @@ module _ {D S O : Type 0} (medium : D → Medium) (gives : Giving S) (takes : Ta
   BatchOver result w disk disk' source source' outlet outlet' = (exchanges : List Exchange)
       × Exchanges gives takes source outlet exchanges source' outlet'
       × ((c : Course) (promise : Promise) (stage : Stage) (p : ProcessState)
-      → BeginsBatch c promise stage p fuel most old (medium disk) → IsForetold stage exchanges
+      → BeginsBatch c promise stage p (Batch fuel most) old (medium disk)
+      → IsForetold stage exchanges
       → (reply : Reply) × IsReplyOf result reply
       × HasCauseOf result c.guest c.config w.process (medium disk) (medium disk')
       × TurnEnds c promise stage reply exchanges w (medium disk) (medium disk'))
       × CallsForEvents (length exchanges + 1) (medium disk) (medium disk')
 
   pub batch_over : (result : Result Now WorkFault) (w : RunningWorker) (disk disk' : D) (s t : S)
-      (o q : O) → BatchSoFar (StopsAt medium result [] w disk') w disk disk' s t o q
+      (o q : O)
+      → BatchSoFar (StopsAt medium result (running_on [] w (medium disk'))) w disk disk' s t o q
       → waiting_in w.process ≡ [] → BatchOver result w disk disk' s t o q
   batch_over result w disk disk' s t o q so_far none_waits = (
     so_far.0 ++ [],

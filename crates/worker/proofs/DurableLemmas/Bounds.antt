@@ -24,7 +24,7 @@ use Rattle.worker_store.specs.laws.Pieces.{AreDone}
 use Rattle.worker_store.proofs.LawLemmas.Points.{point_stands}
 use Rattle.worker_store.specs.declared.store.WorkerStore.{WorkerStore}
 use Rattle.worker.specs.laws.Bounds.{OpenWorkersKeepBounds, StayingKeepsBounds}
-use Rattle.worker.specs.rules.OpenWorkers.{IsOnDisk}
+use Rattle.worker.specs.rules.OpenWorkers.{IsOnDisk, identity}
 
 -- ---- an image
 
@@ -134,7 +134,7 @@ module _ {D : Type 0} (medium : D → Medium) where
 
   module _ (m : Module) (config : Settings) (guest : Guest) (promise : Promise)
       (p : ProcessState) (step latest : ℕ) (store : WorkerStore) (disk : D)
-      (is : IsOnDisk m config guest promise p step latest store (medium disk)) where
+      (is : IsOnDisk (identity m config guest) promise p step latest store (medium disk)) where
     pub on_disk_within : KeepsBounds latest (medium disk)
     on_disk_within image crashed =
         let stores = is.stores in

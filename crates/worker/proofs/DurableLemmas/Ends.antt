@@ -23,7 +23,7 @@ use Rattle.worker_store.specs.restart_theorem.Promises.{Promise, synced_by, IsEn
 use Rattle.worker_store.specs.restart_theorem.Holds.{KeepsPromise, CarriesPromise, StaysWithin}
 use Rattle.worker_store.specs.restart_theorem.Exchanges.{none}
 use Rattle.worker_store.specs.rules.Savepoints.{Savepoint, places}
-use Rattle.worker_store.specs.laws.Underway.{IsInItsSlice, IsBroken}
+use Rattle.worker_store.specs.laws.Underway.{IsInItsSlice, IsBroken, standstill}
 use Rattle.worker_store.specs.laws.CallEnds.{HasBound}
 use Rattle.worker_store.specs.laws.Pieces.{AreDone}
 use Rattle.worker_store.specs.rules.Carried.{count_at, IsCarried, SyncsAreHeld}
@@ -46,7 +46,8 @@ use Rattle.worker.specs.rules.DurableCalls.{HasCauseAt}
 use Rattle.worker.specs.Savings.{IsSaveFault}
 use Rattle.worker.specs.rules.DurableValues.{durable_of}
 use Rattle.worker.specs.rules.OpenWorkers.{IsOnDisk, IsAbreast, IsOpenOn}
-use Rattle.worker.specs.DurableTurns.{Course, IsRunningOn, TurnEnds, slice_end}
+use Rattle.worker.specs.DurableTurns.{Course, IsRunningOn, TurnEnds, slice_end, identity_of}
+use Rattle.worker.specs.DurableTurns.{running_on}
 use Rattle.worker.proofs.DurableLemmas.OnDisk.{ended_on, lowered_to}
 
 -- before the first exchange
@@ -88,7 +89,7 @@ cause_before (Work other) guest config v old mid new room faults cause = tt
 -- what a save says of the disk
 pub disk_cause : (c : Course) (promise : Promise) (p : ProcessState) (step latest : ℕ)
     (before : WorkerStore) (process v : ProcessValue) (old new : Medium) (fault : DiskFault)
-    → IsOnDisk c.code c.config c.guest promise p step latest before old
+    → IsOnDisk (identity_of c) promise p step latest before old
     → IsSaveFault before process old new (store.Disk fault)
     → HasCauseAt (Disk fault) c.guest c.config v old new
 disk_cause c promise p step latest before process v old new fault is (inl few) =
@@ -215,7 +216,7 @@ module _ {D : Type 0} (medium : D → Medium) (c : Course) where
 -- an error where the process has come to p
 pub failed_end : (c : Course) (promise : Promise) (stage : Stage) (p : ProcessState)
     (w : RunningWorker) (phase : Phase) (held : ℕ) (cause : Cause)
-    → IsBroken c.code c.config c.guest promise stage c.act held p phase
+    → IsBroken c.code c.config c.guest promise stage c.act (standstill held p phase)
     → ShowsProcess w.process c.guest p → w.process.machine.guest ≡ c.code → MayFail phase cause
     → HasBound c.code c.config c.guest promise p cause
     → IsEnding c.code c.config promise stage (record {
@@ -231,8 +232,8 @@ failed_end c promise stage p w phase held cause broken shows module_is may bound
 -- what is under way is where it was
 pub broken_open : (c : Course) (promise : Promise) (stage : Stage) (p : ProcessState)
     (step latest : ℕ) (lines_held : List Begun) (w : RunningWorker) (disk : Medium)
-    → IsRunningOn c promise stage p step latest lines_held w disk
-    → IsBroken c.code c.config c.guest promise stage c.act (length promise.kept) p Open
+    → IsRunningOn c promise stage p step latest (running_on lines_held w disk)
+    → IsBroken c.code c.config c.guest promise stage c.act (standstill (length promise.kept) p Open)
 broken_open c promise stage p step latest lines_held w disk running = record {
   in_slice = running.way.in_slice;
   is = running.way.is_open;
@@ -251,7 +252,7 @@ pub open_again : {D : Type 0} (medium : D → Medium) (c : Course) (promise : Pr
     → stage.line ≡ Some (length p.host.lines) → length p.host.lines ≤ promise.heard
     → promise.passed ≤ length p.host.lines → promise.synced ≤ p.steps
     → latest ≤ promise.events + 1
-    → IsOnDisk c.code c.config c.guest promise p p.steps latest w.store (medium disk)
+    → IsOnDisk (identity_of c) promise p p.steps latest w.store (medium disk)
     → synced_by reply w.process.steps ≤ p.steps → phase_ended reply ≡ Open
     → IsAbreast (slice_end promise reply held w)
     (next_stage stage (Ended c.act reply held (saved_of w.process))) p w.is_abreast

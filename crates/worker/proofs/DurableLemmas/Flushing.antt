@@ -38,9 +38,9 @@ use Rattle.worker.specs.declared.running_worker.RunningWorker.{RunningWorker}
 use Rattle.worker.specs.rules.WorkFaults.{fault_of_store}
 use Rattle.worker.specs.rules.OpenWorkers.{IsOnDisk, IsAbreast}
 use Rattle.worker.specs.rules.DurableCalls.{ComesOf, HasCauseAt}
-use Rattle.worker.specs.DurableTurns.{Course, to_tell}
+use Rattle.worker.specs.DurableTurns.{Course, to_tell, TurnFails, slice_end, told_lines_of}
+use Rattle.worker.specs.DurableTurns.{FlushesTurn, identity_of, telling_scene}
 use Rattle.worker.specs.BatchTurns.{FlushesAll, FlushesNot, IsTellingTurn, RefusesOne, TurnTells}
-use Rattle.worker.specs.DurableTurns.{TurnFails, slice_end, told_lines_of, FlushesTurn}
 use Rattle.worker.proofs.AbreastLemmas.{abreast_on, told_changes_none}
 use Rattle.worker.proofs.SavingLemmas.{barrier_fault}
 use Rattle.worker.proofs.DurableLemmas.OnDisk.{reached_now, fewer_syncs}
@@ -56,7 +56,7 @@ use Rattle.worker.proofs.DurableLemmas.Ends.{carried_on, not_open, disk_cause}
 -- a barrier of an open worker fails by the disk alone
 barrier_comes : (c : Course) (promise : Promise) (p : ProcessState) (step latest : ℕ)
     (before : WorkerStore) (process : ProcessValue) (old new : Medium) (fault : StoreFault)
-    → IsOnDisk c.code c.config c.guest promise p step latest before old
+    → IsOnDisk (identity_of c) promise p step latest before old
     → BarrierFails before old new fault → ComesOf (fault_of_store fault) OfDisk
 barrier_comes c promise p step latest before process old new (store.Disk fault) is fails = refl
 barrier_comes c promise p step latest before process old new store.Full is fails =
@@ -75,7 +75,7 @@ barrier_comes c promise p step latest before process old new (store.Layout fault
 -- and that has a cause
 barrier_cause : (c : Course) (promise : Promise) (p : ProcessState) (step latest : ℕ)
     (before : WorkerStore) (process : ProcessValue) (old new : Medium) (fault : StoreFault)
-    → IsOnDisk c.code c.config c.guest promise p step latest before old
+    → IsOnDisk (identity_of c) promise p step latest before old
     → BarrierFails before old new fault
     → HasCauseAt (fault_of_store fault) c.guest c.config process old new
 barrier_cause c promise p step latest before process old new (store.Disk fault) is fails =
@@ -200,7 +200,7 @@ module _ {D : Type 0} (medium : D → Medium) (c : Course) (promise : Promise) (
           disk' lines_carried))
 
       on_disk_told : promise.events ≤ promise'.events
-          → IsOnDisk c.code c.config c.guest promise' p p.steps promise'.events after
+          → IsOnDisk (identity_of c) promise' p p.steps promise'.events after
           (medium disk')
       on_disk_told more =
           let is = owing.on_disk in
@@ -259,7 +259,7 @@ module _ {D : Type 0} (medium : D → Medium) (c : Course) (promise : Promise) (
               queued = none_to_tell w'.process p.host.lines none_left;
               may = told.may;
               began = leaves.step ∙ owing.began;
-              on_disk = subst (λ s. IsOnDisk c.code c.config c.guest made.promise' p p.steps
+              on_disk = subst (λ s. IsOnDisk (identity_of c) made.promise' p p.steps
                   made.promise'.events s (medium disk')) (sym same_store)
                   (on_disk_told made.promise' made.adds adds.events);
               synced = same_below made.promise'.synced promise.synced p.steps adds.synced
@@ -334,8 +334,8 @@ module _ {D O : Type 0} (medium : D → Medium) (takes : Taking O) (w : RunningW
   module _ (lines_held : List Begun) where
     pub flushes_not : (fault : StoreFault) (outlet : O)
         → BarrierFails w.store (medium disk) (medium disk') fault
-        → FlushesNot takes lines_held w (fault_of_store fault) (with_store w after) (medium disk)
-        (medium disk') outlet outlet
+        → FlushesNot medium takes lines_held (telling_scene w disk outlet) (fault_of_store fault)
+        (telling_scene (with_store w after) disk' outlet)
     flushes_not fault outlet fails = (
       [],
       refl,
@@ -354,8 +354,8 @@ module _ {D O : Type 0} (medium : D → Medium) (takes : Taking O) (w : RunningW
 
       pub refuses_queue : (outlet outlet' : O) → w'.process ≡ w.process
           → RefusesOne takes (to_tell lines_held w.process) outlet outlet'
-          → FlushesNot takes lines_held w (Work slice.Outlet) w' (medium disk) (medium disk') outlet
-          outlet'
+          → FlushesNot medium takes lines_held (telling_scene w disk outlet) (Work slice.Outlet)
+          (telling_scene w' disk' outlet')
       refuses_queue outlet outlet' same h = (
         h.0 ++ (record h.1 { said = Err h.3 } ∷ []),
         h.5,

@@ -29,13 +29,12 @@ use Rattle.worker_store.specs.restart_theorem.Lives.{Fails, Waits, Cause, Source
 use Rattle.worker_store.specs.restart_theorem.Lives.{kept_of_said, OfSource, OfAnswer, OfMemory}
 use Rattle.worker_store.specs.restart_theorem.Lives.{OfBounds}
 use Rattle.worker_store.specs.restart_theorem.Courses.{Stage, Phase, Open, Broken, NoneThere}
-use Rattle.worker_store.specs.restart_theorem.Courses.{MayFail, next_stage}
-use Rattle.worker_store.specs.restart_theorem.Courses.{first_said}
+use Rattle.worker_store.specs.restart_theorem.Courses.{MayFail, next_stage, first_said}
 use Rattle.worker_store.specs.restart_theorem.Promises.{Promise, after, IsFitting, IsInquiring}
 use Rattle.worker_store.specs.restart_theorem.Holds.{StaysWithin}
 use Rattle.worker_store.specs.restart_theorem.Exchanges.{none as no_exchange, asked}
 use Rattle.worker_store.specs.laws.Acts.{most_held}
-use Rattle.worker_store.specs.laws.Underway.{IsUnderWay, IsBroken, IsAtQuestion}
+use Rattle.worker_store.specs.laws.Underway.{IsUnderWay, IsBroken, IsAtQuestion, standstill}
 use Rattle.worker_store.specs.laws.CallEnds.{HasBound}
 use Rattle.worker_store.specs.rules.BetweenCalls.{IsForetold}
 use Rattle.worker_store.specs.laws.Pieces.{AreDone}
@@ -46,14 +45,11 @@ use Rattle.worker_store.proofs.LawLemmas.AtHand.{shown_is_saved, shown_is_number
 use Rattle.worker_store.proofs.LawLemmas.CallEnds.{waiting_slices_end}
 use Rattle.worker_store.proofs.LawLemmas.Carrying.{carried_keeps}
 use Rattle.worker_store.proofs.LawLemmas.Raising.{asked_carries, append_carries}
-use Rattle.worker_store.proofs.LawLemmas.Raising.{answer_is_on_record}
-use Rattle.worker_store.proofs.LawLemmas.Raising.{answered_syncs_are_held}
+use Rattle.worker_store.proofs.LawLemmas.Raising.{answer_is_on_record, answered_syncs_are_held}
 use Rattle.worker_store.proofs.LawLemmas.TurnLemmas.{asked_still_holds, parts_leave_begun}
-use Rattle.worker_store.proofs.LawLemmas.TurnLemmas.{rests_go_on}
-use Rattle.worker_store.proofs.LawLemmas.TurnLemmas.{syncs_of_more}
+use Rattle.worker_store.proofs.LawLemmas.TurnLemmas.{rests_go_on, syncs_of_more}
 use Rattle.worker_store.proofs.LawLemmas.Underway.{questions_are_asked, answers_go_on}
-use Rattle.worker_store.proofs.LawLemmas.Underway.{answers_are_kept}
-use Rattle.worker_store.proofs.LawLemmas.Underway.{other_answers_break}
+use Rattle.worker_store.proofs.LawLemmas.Underway.{answers_are_kept, other_answers_break}
 use Rattle.worker_store.specs.declared.fault.StoreFault.{StoreFault}
 use Rattle.worker_store.specs.declared.fault.StoreFault.TheVariants as store
 use Rattle.worker_store.specs.rules.Stores.{IsStoreOf}
@@ -66,9 +62,9 @@ use Rattle.worker.specs.rules.WorkFaults.{fault_of_store}
 use Rattle.record_replay.specs.rules.Refusals.{slice_fault}
 use Rattle.worker.specs.rules.DurableCalls.{ComesOf, NeedsMemory, HasCauseAt}
 use Rattle.worker.specs.rules.OpenWorkers.{IsOnDisk}
-use Rattle.worker.specs.DurableTurns.{Course, IsAskingOn, HasRoom, TurnGoes}
-use Rattle.worker.specs.DurableTurns.{TurnEnds, TurnFails, asks_once, TakesOnRecord, LacksRecord}
-use Rattle.worker.specs.DurableTurns.{IsNotTaken, IsMisfit}
+use Rattle.worker.specs.DurableTurns.{Course, IsAskingOn, HasRoom, TurnGoes, TurnEnds, TurnFails}
+use Rattle.worker.specs.DurableTurns.{asks_once, TakesOnRecord, LacksRecord, IsNotTaken, IsMisfit}
+use Rattle.worker.specs.DurableTurns.{identity_of, running_on}
 use Rattle.worker.proofs.AbreastLemmas.{lines_of_runs}
 use Rattle.worker.proofs.ShortAnswers.{short_payload}
 use Rattle.worker.proofs.DurableLemmas.OnDisk.{IsReachedBy, reached_now, valid_module}
@@ -94,7 +90,8 @@ too_long v payload few long = omega (arith, few, long)
 module _ {D : Type 0} (medium : D → Medium) (c : Course) (promise : Promise) (stage : Stage)
     (p : ProcessState) (question : Question) (lines_held : List Begun) (w : RunningWorker)
     (disk : D)
-    (asking : IsAskingOn c promise stage p question (promise.events + 1) lines_held w (medium disk))
+    (asking : IsAskingOn c promise stage p question (promise.events + 1)
+    (running_on lines_held w (medium disk)))
     (says : w.is_abreast ≡ true) where
   pub all_told : w.process.host.released ≡ length p.host.lines
   all_told = let running = asking.running in
@@ -227,7 +224,7 @@ module _ {D : Type 0} (medium : D → Medium) (c : Course) (promise : Promise) (
       -- the slice fails
       fails_once : (phase : Phase) (cause : Cause)
           → IsBroken c.code c.config c.guest (promise_once promise p question said fits)
-          (stage_once stage p question said fits) c.act (length promise.kept) p phase
+          (stage_once stage p question said fits) c.act (standstill (length promise.kept) p phase)
           → MayFail phase cause
           → HasBound c.code c.config c.guest (promise_once promise p question said fits) p cause
           → TurnEnds c promise stage (Fails cause) (asks_once question said) w' (medium disk)
@@ -265,13 +262,14 @@ module _ {D : Type 0} (medium : D → Medium) (c : Course) (promise : Promise) (
       let none_more : more.kept ≡ promise.kept = append-nil promise.kept in
       let others = other_answers_break c.code c.config c.guest promise stage c.act p
       question at_question in
-      let broken : IsBroken c.code c.config c.guest more inside c.act (length more.kept) p
-      (NoneThere p.steps) =
-      subst (λ n. IsBroken c.code c.config c.guest more inside c.act n p (NoneThere p.steps))
+      let broken : IsBroken c.code c.config c.guest more inside c.act
+      (standstill (length more.kept) p (NoneThere p.steps)) =
+      subst (λ n. IsBroken c.code c.config c.guest more inside c.act
+      (standstill n p (NoneThere p.steps)))
       (ap (λ l. length l) (sym none_more)) (others.none_there false) in
       let told : w.process.steps ≡ p.steps = (let shows = running.shows in shows.steps) in
       let few : promise.synced ≤ p.steps = running.synced in
-      let on_disk : IsOnDisk c.code c.config c.guest more p p.steps (promise.events + 1) w.store
+      let on_disk : IsOnDisk (identity_of c) more p p.steps (promise.events + 1) w.store
       (medium disk) = record {
         point = is.point;
         same = is.same;
@@ -466,7 +464,7 @@ module _ {D : Type 0} (medium : D → Medium) (c : Course) (promise : Promise) (
           answer_is_on_record c.code c.config promise is.point is.records is.pending p.steps q.steps
           question a is.on_record
 
-      on_disk_next : IsOnDisk c.code c.config c.guest more_promise q q.steps more_promise.events
+      on_disk_next : IsOnDisk (identity_of c) more_promise q q.steps more_promise.events
           w'.store (medium disk)
       on_disk_next =
           let running = asking.running in

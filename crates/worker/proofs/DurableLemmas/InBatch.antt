@@ -1,7 +1,6 @@
 -- What holds between two turns of a batch of a worker on its disk.
-use Rattle.std.proofs.Common.{◌≡◌, ℕ, ◌+◌, ◌-◌, ◌<◌, ◌≤◌, List, [], ◌++◌, length, refl, sym}
-use Rattle.std.proofs.Common.{ap, ◌∙◌, subst, arith, inl, inr, ◌⊎◌, true, false, Ok}
-use Rattle.std.proofs.Common.{Err, append_assoc}
+use Rattle.std.proofs.Common.{◌≡◌, ℕ, ◌+◌, ◌-◌, ◌<◌, ◌≤◌, List, [], ◌++◌, length, refl, sym, ap}
+use Rattle.std.proofs.Common.{◌∙◌, subst, arith, inl, inr, ◌⊎◌, true, false, Ok, Err, append_assoc}
 use Rattle.std.specs.Prelude.{Result, IfErr, ◌≢◌}
 use Rattle.std.proofs.lemmas.List.{append-nil, drop_all, map-append}
 use Rattle.wasi_abi.specs.declared.answer.Question.{Question}
@@ -15,6 +14,7 @@ use Rattle.process.specs.rules.Stops.{AdvancesProcess}
 use Rattle.sector_disk.specs.rules.Medium.{Medium, CallsUpTo}
 use Rattle.record_replay.specs.declared.line_list.NumberedLine.{NumberedLine}
 use Rattle.record_replay.specs.rules.Calls.{Giving, Taking, Begun, Released, Releases, all_taken}
+use Rattle.record_replay.specs.rules.Calls.{ports}
 use Rattle.record_replay.specs.rules.Waiting.{first_waiting, ReleasesAll}
 use Rattle.record_replay.proofs.Following.{leads_join}
 use Rattle.record_replay.specs.declared.slices.now.Now.{Now}
@@ -25,26 +25,28 @@ use Rattle.record_replay.specs.Turns.{AsksOnce}
 use Rattle.record_replay.proofs.Ending.{measure, Turning, turning_none, owes, owes_less, asks}
 use Rattle.record_replay.proofs.Ending.{asks_counts, released_all, waiting, given, stays_waiting}
 use Rattle.record_replay.proofs.Ending.{given_less, Questioning, cannot_advance, spent, over}
+use Rattle.worker_store.specs.restart_theorem.Lives.{Batch}
 use Rattle.worker.specs.declared.fault.WorkFault.{WorkFault}
 use Rattle.worker.specs.declared.fault.WorkFault.TheVariants.{Work}
 use Rattle.worker.specs.declared.running_worker.RunningWorker.{RunningWorker}
 use Rattle.worker.specs.rules.Batches.{keeping, taking, BatchFails}
 use Rattle.worker.specs.rules.CallCounts.{most_saving}
 use Rattle.worker.specs.rules.DurableFailures.{SlicesOnDiskInVain}
-use Rattle.worker.specs.DurableTurns.{to_tell, HoldsNoLine}
+use Rattle.worker.specs.rules.Scenes.{SceneOf, scene}
+use Rattle.worker.specs.DurableTurns.{to_tell, HoldsNoLine, running_on, asking_scene, telling_scene}
 use Rattle.worker.specs.BatchTurns.{held_as_begun, HasEnded, HoldsLines, TellsQueue, FailsQueue}
-use Rattle.worker.specs.BatchTurns.{HoldsOrTells, FreesOrTells, StopsInBatch}
-use Rattle.worker.specs.BatchTurns.{WorksInBatch, AsksHolding, AsksThenFails}
+use Rattle.worker.specs.BatchTurns.{HoldsOrTells, FreesOrTells, StopsInBatch, Holding}
+use Rattle.worker.specs.BatchTurns.{WorksInBatch, AsksHolding, AsksThenFails, StopsAt, holding}
 use Rattle.worker.specs.StoreTurns.{StoreGoes, StoreStops, HasTurnCause, LeavesStore}
 use Rattle.worker.proofs.StoreTurnLemmas.{goes_none, goes_join, stops_join, process_cause}
 use Rattle.worker.proofs.DurableLemmas.InVain.{as_on_disk, asked_vainly as heard_vainly}
 use Rattle.worker.proofs.DurableLemmas.Advancing.{with_process, says_abreast}
 use Rattle.worker.proofs.DurableLemmas.Batching.{BatchSoFar, BatchFailed}
-use Rattle.worker.proofs.DurableLemmas.BatchParts.{RunsAt, AsksAt, StopsAt}
 use Rattle.worker.proofs.DurableLemmas.Batching.{batch_begins, owing_now, holding_now, asking_now}
 use Rattle.worker.proofs.DurableLemmas.Batching.{spent_now, over_now, vain_now, owing_told}
 use Rattle.worker.proofs.DurableLemmas.Batching.{owing_untold, asking_told, asking_untold, asked_on}
 use Rattle.worker.proofs.DurableLemmas.Batching.{asked_none, asked_fault, asked_vainly}
+use Rattle.worker.proofs.DurableLemmas.BatchParts.{RunsAt, AsksAt}
 use Rattle.worker.proofs.DurableLemmas.Queueing.{kept_behind, kept_taken, keep_all, taken_all}
 use Rattle.worker.proofs.DurableLemmas.Queueing.{length_held, numbered_all, slices_stop}
 use Rattle.worker.proofs.DurableLemmas.Queueing.{source_stops, memory_stops_it, numbers_stop_it}
@@ -131,31 +133,20 @@ module _ {D S O : Type 0} (medium : D → Medium) (gives : Giving S) (takes : Ta
       (told kept lines : List NumberedLine) (disk mid : D) (s t : S) (o q : O)
       → ◌≢◌ {A = Result Now WorkFault} result (Err (Work slice.Outlet))
       → BatchSoFar medium gives takes old fuel most
-      (StopsAt medium result (held_as_begun lines) w mid) w disk mid s t o q → kept ≡ told ++ lines
-      → Releases takes o (held_as_begun told) q
+      (StopsAt medium result (running_on (held_as_begun lines) w (medium mid))) w disk mid s t o q
+      → kept ≡ told ++ lines → Releases takes o (held_as_begun told) q
       → StopsInBatch gives old.process fuel result w.process s t kept
       → StoreGoes old.store w.store (medium disk) (medium mid)
       → IfErr result (λ why. (later : D) → HasTurnCause old.store (medium disk) (medium later) why)
-      → WorksInBatch medium gives takes old fuel most result w lines disk mid s t o q
+      → WorksInBatch medium gives takes (Batch fuel most) (scene old disk s o) result
+      (scene (holding w lines) mid t q)
   leaves_so old w fuel most result told kept lines disk mid s t o q other so_far kept_is released
       stop goes cause = (
         so_far.0,
         so_far.1,
         inr (
           other,
-          λ c promise stage p begins foretold.
-              let comes = so_far.2 c promise stage p begins foretold in
-              let state = comes.state in
-              record {
-                promise' = comes.promise';
-                stage' = comes.stage';
-                process = state.0;
-                reply = state.1;
-                done = comes.done;
-                onward = comes.onward;
-                bounded = comes.bounded;
-                stopped = state.2;
-              },
+          so_far.2,
           so_far.3,
           (
             told,
@@ -170,9 +161,10 @@ module _ {D S O : Type 0} (medium : D → Medium) (gives : Giving S) (takes : Ta
   fails_so : (old w : RunningWorker) (fuel most : ℕ) (why : WorkFault) (lines : List NumberedLine)
       (disk mid : D) (s t : S) (o q : O) → HasEnded why w
       → BatchFailed medium gives takes old fuel most why w disk mid s t o q
-      → BatchFails gives takes old.process fuel why w.process s t o q
+      → BatchFails gives takes old.process fuel why w.process (ports s o) (ports t q)
       → StoreStops old.store w.store why (medium disk) (medium mid)
-      → WorksInBatch medium gives takes old fuel most (Err why) w lines disk mid s t o q
+      → WorksInBatch medium gives takes (Batch fuel most) (scene old disk s o) (Err why)
+      (scene (holding w lines) mid t q)
   fails_so old w fuel most why lines disk mid s t o q ended failed fails stopped =
       (failed.0, failed.1, inl (why, refl, (ended, failed.2, failed.3, fails, stopped)))
 
@@ -190,8 +182,8 @@ module _ {D S O : Type 0} (medium : D → Medium) (gives : Giving S) (takes : Ta
         fuel_left_is ∙ ap (λ n. fuel - (w.process.steps - n)) turning.first_is
 
     pub spent_in : AdvancesProcess w.process fuel_left (Ok stops.Spent) v
-        → WorksInBatch medium gives takes old fuel most (Ok now.Spent) (with_process w v) lines disk
-        mid s t o q
+        → WorksInBatch medium gives takes (Batch fuel most) (scene old disk s o) (Ok now.Spent)
+        (scene (holding (with_process w v) lines) mid t q)
     spent_in advances =
         leaves_so old (with_process w v) fuel most (Ok now.Spent) i.told i.kept lines disk mid s t
         o q (ok_is_none now.Spent)
@@ -204,8 +196,8 @@ module _ {D S O : Type 0} (medium : D → Medium) (gives : Giving S) (takes : Ta
 
     pub over_in : (how : ProcessEnd)
         → AdvancesProcess w.process fuel_left (Ok (stops.Ended how)) v
-        → WorksInBatch medium gives takes old fuel most (Ok (now.Ended how))
-        (says_abreast (with_process w v)) lines disk mid s t o q
+        → WorksInBatch medium gives takes (Batch fuel most) (scene old disk s o)
+        (Ok (now.Ended how)) (scene (holding (says_abreast (with_process w v)) lines) mid t q)
     over_in how advances =
         leaves_so old (says_abreast (with_process w v)) fuel most (Ok (now.Ended how)) i.told i.kept
         lines disk mid s t o q (ok_is_none (now.Ended how))
@@ -242,9 +234,8 @@ module _ {D S O : Type 0} (medium : D → Medium) (gives : Giving S) (takes : Ta
         i.turning fuel_left_is same stop.StepsSpent advances))
 
     pub vain_in : (why : ProcessFault) → AdvancesProcess w.process fuel_left (Err why) v
-        → WorksInBatch medium gives takes old fuel most (Err (Work (slice_fault why)))
-        (with_process w v)
-        lines disk mid s t o q
+        → WorksInBatch medium gives takes (Batch fuel most) (scene old disk s o)
+        (Err (Work (slice_fault why))) (scene (holding (with_process w v) lines) mid t q)
     vain_in why advances =
         leaves_so old (with_process w v) fuel most (Err (Work (slice_fault why))) i.told i.kept
         lines disk mid s t o q (vain_not why)
@@ -264,7 +255,8 @@ module _ {D S O : Type 0} (medium : D → Medium) (gives : Giving S) (takes : Ta
           fuel_left_is same advances
 
       -- lines are held
-      held_on : (lines' : List NumberedLine) → HoldsLines most (with_process w v) lines w' lines'
+      held_on : (lines' : List NumberedLine) → HoldsLines most (holding (with_process w v) lines)
+          (holding w' lines')
           → InBatch old w' fuel most first lines' disk mid s t o q
       held_on lines' h =
           let holds = h.holds in
@@ -298,7 +290,8 @@ module _ {D S O : Type 0} (medium : D → Medium) (gives : Giving S) (takes : Ta
       module _ (disk' : D) (r : O) where
         -- they are told
         told_on : (lines' : List NumberedLine)
-            → TellsQueue takes (with_process w v) lines w' lines' (medium mid) (medium disk') q r
+            → TellsQueue medium takes (telling_scene (holding (with_process w v) lines) mid q)
+            (telling_scene (holding w' lines') disk' r)
             → LeavesStore {T = Unit {0}} (Ok tt) w.store w'.store (medium mid) (medium disk')
             → InBatch old w' fuel most first lines' disk disk' s t o r
         told_on lines' h leaves =
@@ -344,7 +337,9 @@ module _ {D S O : Type 0} (medium : D → Medium) (gives : Giving S) (takes : Ta
             })
 
         pub owed_in : (lines' : List NumberedLine)
-            → HoldsOrTells medium takes most (with_process w v) lines w' lines' mid disk' q r
+            → HoldsOrTells medium takes most
+            (telling_scene (holding (with_process w v) lines) mid q)
+            (telling_scene (holding w' lines') disk' r)
             → LeavesStore {T = Unit {0}} (Ok tt) w.store w'.store (medium mid) (medium disk')
             → InBatch old w' fuel most first lines' disk disk' s t o r
         owed_in lines' (inl h) leaves =
@@ -354,7 +349,9 @@ module _ {D S O : Type 0} (medium : D → Medium) (gives : Giving S) (takes : Ta
         owed_in lines' (inr h) leaves = told_on lines' h leaves
 
         pub owed_lower : (lines' : List NumberedLine)
-            → HoldsOrTells medium takes most (with_process w v) lines w' lines' mid disk' q r
+            → HoldsOrTells medium takes most
+            (telling_scene (holding (with_process w v) lines) mid q)
+            (telling_scene (holding w' lines') disk' r)
             → measure fuel first w'.process < measure fuel first w.process
         owed_lower lines' (inl h) =
             let holds = h.0.holds in
@@ -371,9 +368,11 @@ module _ {D S O : Type 0} (medium : D → Medium) (gives : Giving S) (takes : Ta
 
         -- they aren't
         pub unowed_in : (lines' : List NumberedLine) (why : WorkFault)
-            → FailsQueue takes (with_process w v) lines why w' (medium mid) (medium disk') q r
+            → FailsQueue medium takes (telling_scene (holding (with_process w v) lines) mid q) why
+            (telling_scene w' disk' r)
             → LeavesStore {T = Unit {0}} (Err why) w.store w'.store (medium mid) (medium disk')
-            → WorksInBatch medium gives takes old fuel most (Err why) w' lines' disk disk' s t o r
+            → WorksInBatch medium gives takes (Batch fuel most) (scene old disk s o) (Err why)
+            (scene (holding w' lines') disk' t r)
         unowed_in lines' why h leaves =
             fails_so old w' fuel most why lines' disk disk' s t o r h.0
             (owing_untold medium gives takes old fuel most (held_as_begun lines) (with_process w v)
@@ -449,17 +448,19 @@ module _ {D S O : Type 0} (medium : D → Medium) (gives : Giving S) (takes : Ta
       fuel_left_is same question advances
 
   pub freed_steps : (w w' : RunningWorker) (lines lines' : List NumberedLine) (mid disk' : D)
-      (q r : O) → FreesOrTells medium takes w lines w' lines' mid disk' q r
+      (q r : O) → FreesOrTells medium takes (telling_scene (holding w lines) mid q)
+      (telling_scene (holding w' lines') disk' r)
       → w'.process.steps ≡ w.process.steps
   freed_steps w w' lines lines' mid disk' q r (inl h) =
-      ap (λ (k : RunningWorker). k.process.steps) h.1
+      ap (λ (k : SceneOf Holding D (Unit {0}) O). k.worker.running.process.steps) h.1
   freed_steps w w' lines lines' mid disk' q r (inr h) =
       let behind = h.1.2 in released_steps w.process w'.process behind.released
 
   module _ (old w w' : RunningWorker) (fuel most first : ℕ) (question : Question)
       (lines lines' : List NumberedLine) (disk mid disk' : D) (s t : S) (o q r : O)
       (i : AtQuestion old w fuel most first question lines disk mid s t o q) where
-    asked_told : TellsQueue takes w lines w' lines' (medium mid) (medium disk') q r
+    asked_told : TellsQueue medium takes (telling_scene (holding w lines) mid q)
+        (telling_scene (holding w' lines') disk' r)
         → LeavesStore {T = Unit {0}} (Ok tt) w.store w'.store (medium mid) (medium disk')
         → AtQuestion old w' fuel most first question lines' disk disk' s t o r
     asked_told h leaves =
@@ -499,29 +500,29 @@ module _ {D S O : Type 0} (medium : D → Medium) (gives : Giving S) (takes : Ta
         })
 
     -- lines were told before it, or it is free to be asked
-    pub freed_in : FreesOrTells medium takes w lines w' lines' mid disk' q r
+    pub freed_in : FreesOrTells medium takes (telling_scene (holding w lines) mid q)
+        (telling_scene (holding w' lines') disk' r)
         → LeavesStore {T = Unit {0}} (Ok tt) w.store w'.store (medium mid) (medium disk')
         → AtQuestion old w' fuel most first question lines' disk disk' s t o r
     freed_in (inl h) leaves =
-        subst (λ z. AtQuestion old w' fuel most first question lines' disk disk' s t o z)
-        (sym h.4)
-        (subst (λ d. AtQuestion old w' fuel most first question lines' disk d s t o q) (sym h.3)
-        (subst (λ l. AtQuestion old w' fuel most first question l disk mid s t o q) (sym h.2)
-        (subst (λ (k : RunningWorker). AtQuestion old k fuel most first question lines disk mid s t
-        o q) (sym h.1) i)))
+        subst (λ (k : SceneOf Holding D (Unit {0}) O). AtQuestion old k.worker.running fuel most
+        first question k.worker.lines disk k.disk s t o k.outlet) (sym h.1) i
     freed_in (inr h) leaves = asked_told h leaves
 
-    pub free_in : FreesOrTells medium takes w lines w' lines' mid disk' q r
+    pub free_in : FreesOrTells medium takes (telling_scene (holding w lines) mid q)
+        (telling_scene (holding w' lines') disk' r)
         → HoldsNoLine (held_as_begun lines') w'
     free_in (inl h) =
-        subst (λ l. HoldsNoLine (held_as_begun l) w') (sym h.2)
-        (subst (λ (k : RunningWorker). HoldsNoLine (held_as_begun lines) k) (sym h.1) h.0)
+        subst (λ (k : SceneOf Holding D (Unit {0}) O). HoldsNoLine (held_as_begun k.worker.lines)
+        k.worker.running) (sym h.1) h.0
     free_in (inr h) = inl (ap (λ z. held_as_begun z) h.0)
 
     pub unfreed_in : (why : WorkFault)
-        → FailsQueue takes w lines why w' (medium mid) (medium disk') q r
+        → FailsQueue medium takes (telling_scene (holding w lines) mid q) why
+        (telling_scene w' disk' r)
         → LeavesStore {T = Unit {0}} (Err why) w.store w'.store (medium mid) (medium disk')
-        → WorksInBatch medium gives takes old fuel most (Err why) w' lines' disk disk' s t o r
+        → WorksInBatch medium gives takes (Batch fuel most) (scene old disk s o) (Err why)
+        (scene (holding w' lines') disk' t r)
     unfreed_in why h leaves =
         let questioning = i.questioning in
         fails_so old w' fuel most why lines' disk disk' s t o r h.0
@@ -539,7 +540,8 @@ module _ {D S O : Type 0} (medium : D → Medium) (gives : Giving S) (takes : Ta
       (few : CallsUpTo (most_saving (medium mid).sectors) (medium mid) (medium disk')) where
     pub answered_in : AsksOnce gives question w.process (Ok true) w'.process t u
         → w'.process.host.released ≡ w.process.host.released
-        → AsksHolding medium gives w question (Ok true) w' mid disk' t u
+        → AsksHolding medium gives question (asking_scene w mid t) (Ok true)
+        (asking_scene w' disk' u)
         → StoreGoes w.store w'.store (medium mid) (medium disk')
         → w'.store.geometry ≡ w.store.geometry
         → (medium disk').sectors ≡ (medium mid).sectors
@@ -570,9 +572,11 @@ module _ {D S O : Type 0} (medium : D → Medium) (gives : Giving S) (takes : Ta
         question i.questioning once v before
 
     pub waits_in : AsksOnce gives question w.process (Ok false) w'.process t u
-        → AsksHolding medium gives w question (Ok false) w' mid disk' t u
+        → AsksHolding medium gives question (asking_scene w mid t) (Ok false)
+        (asking_scene w' disk' u)
         → StoreGoes w.store w'.store (medium mid) (medium disk')
-        → WorksInBatch medium gives takes old fuel most (Ok now.Waiting) w' lines disk disk' s u o q
+        → WorksInBatch medium gives takes (Batch fuel most) (scene old disk s o) (Ok now.Waiting)
+        (scene (holding w' lines) disk' u q)
     waits_in once asked goes =
         leaves_so old w' fuel most (Ok now.Waiting) i.told i.kept lines disk disk' s u o q
         (ok_is_none now.Waiting)
@@ -593,12 +597,13 @@ module _ {D S O : Type 0} (medium : D → Medium) (gives : Giving S) (takes : Ta
         i.kept question i.questioning once)) is
 
     -- it has failed by its source
-    source_in : AsksHolding medium gives w question (Err (Work slice.Source)) w' mid disk' t u
+    source_in : AsksHolding medium gives question (asking_scene w mid t) (Err (Work slice.Source))
+        (asking_scene w' disk' u)
         → AsksThenFails gives w question (Work slice.Source) w' t u
         → waiting_in w'.process ≡ []
         → StoreGoes w.store w'.store (medium mid) (medium disk')
-        → WorksInBatch medium gives takes old fuel most (Err (Work slice.Source)) w' lines disk
-        disk' s u o q
+        → WorksInBatch medium gives takes (Batch fuel most) (scene old disk s o)
+        (Err (Work slice.Source)) (scene (holding w' lines) disk' u q)
     source_in asked vain none_waits goes =
         leaves_so old w' fuel most (Err (Work slice.Source)) i.told i.kept lines disk disk' s u o q
         source_not
@@ -606,8 +611,8 @@ module _ {D S O : Type 0} (medium : D → Medium) (gives : Giving S) (takes : Ta
         disk'
         s t u o q i.so_far free i.sectors few asked) i.kept_is i.released
         (source_stops gives old.process w'.process fuel s u i.kept none_waits
-        (subst (λ z. SlicesOnDiskInVain gives keeping old.process fuel (Work slice.Source) z s u []
-        i.kept) (sym vain.1)
+        (subst (λ z. SlicesOnDiskInVain gives keeping old.process fuel (Work slice.Source) z
+        (ports s []) (ports u i.kept)) (sym vain.1)
         (heard_vainly gives keeping old.process w.process fuel first s t [] i.kept question
         i.questioning w vain.0 (Work slice.Source) u refl vain.2)))
         (goes_join old.store w.store (medium disk) (medium mid) i.goes w'.store (medium disk') goes)
@@ -615,17 +620,19 @@ module _ {D S O : Type 0} (medium : D → Medium) (gives : Giving S) (takes : Ta
 
     -- or otherwise
     other_in : (why : WorkFault) → why ≢ Work slice.Source → HasEnded why w'
-        → AsksHolding medium gives w question (Err why) w' mid disk' t u
+        → AsksHolding medium gives question (asking_scene w mid t) (Err why)
+        (asking_scene w' disk' u)
         → AsksThenFails gives w question why w' t u
         → StoreStops w.store w'.store why (medium mid) (medium disk')
-        → WorksInBatch medium gives takes old fuel most (Err why) w' lines disk disk' s u
-        o q
+        → WorksInBatch medium gives takes (Batch fuel most) (scene old disk s o) (Err why)
+        (scene (holding w' lines) disk' u q)
     other_in why other ended asked vain stopped =
         fails_so old w' fuel most why lines disk disk' s u o q ended
         (asked_vainly medium gives takes old fuel most question (held_as_begun lines) w w' disk mid
         disk'
         s t u o q i.so_far free i.sectors few why other asked)
-        (subst (λ z. BatchFails gives takes old.process fuel why z s u o q) (sym vain.1)
+        (subst (λ z. BatchFails gives takes old.process fuel why z (ports s o) (ports u q))
+        (sym vain.1)
         (asked_so gives takes old.process w vain.0 fuel first s t u o q question i.told i.kept lines
         i.kept_is i.questioning i.released why other free vain.2))
         (stops_join old.store w.store (medium disk) (medium mid) i.goes w'.store why
@@ -633,17 +640,19 @@ module _ {D S O : Type 0} (medium : D → Medium) (gives : Giving S) (takes : Ta
 
     pub unasked_in : (why : WorkFault) → (why ≡ Work slice.Source)
         ⊎ ((why ≢ Work slice.Source) × HasEnded why w')
-        → AsksHolding medium gives w question (Err why) w' mid disk' t u
+        → AsksHolding medium gives question (asking_scene w mid t) (Err why)
+        (asking_scene w' disk' u)
         → AsksThenFails gives w question why w' t u
         → (why ≡ Work slice.Source → StoreGoes w.store w'.store (medium mid) (medium disk'))
         → StoreStops w.store w'.store why (medium mid) (medium disk')
-        → WorksInBatch medium gives takes old fuel most (Err why) w' lines disk disk' s u
-        o q
+        → WorksInBatch medium gives takes (Batch fuel most) (scene old disk s o) (Err why)
+        (scene (holding w' lines) disk' u q)
     unasked_in why (inl is) asked vain goes stopped =
-        subst (λ z. WorksInBatch medium gives takes old fuel most (Err z) w' lines disk disk' s u o
-        q) (sym is)
+        subst (λ z. WorksInBatch medium gives takes (Batch fuel most) (scene old disk s o) (Err z)
+        (scene (holding w' lines) disk' u q)) (sym is)
         (source_in
-        (subst (λ z. AsksHolding medium gives w question (Err z) w' mid disk' t u) is
+        (subst (λ z. AsksHolding medium gives question (asking_scene w mid t) (Err z)
+        (asking_scene w' disk' u)) is
         asked) (subst (λ z. AsksThenFails gives w question z w' t u) is vain)
         (ap waiting_in vain.1
         ∙ still_empty gives takes old.process w vain.0 fuel first s t u o q question i.told i.kept

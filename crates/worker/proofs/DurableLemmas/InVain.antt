@@ -17,7 +17,7 @@ use Rattle.process.specs.rules.Stops.{GivesAnswer}
 use Rattle.sector_disk.specs.declared.fault.DiskFault.{DiskFault}
 use Rattle.sector_disk.specs.rules.Medium.{Medium}
 use Rattle.disk_layout.specs.rules.Journal.{Record}
-use Rattle.record_replay.specs.rules.Calls.{Giving, Taking, Ask, Exchange, Asks}
+use Rattle.record_replay.specs.rules.Calls.{Giving, Taking, Ask, Exchange, Asks, ports}
 use Rattle.worker_store.specs.restart_theorem.Lives.{SourceSaid}
 use Rattle.worker_store.specs.declared.fault.StoreFault.{StoreFault}
 use Rattle.worker_store.specs.declared.fault.StoreFault.TheVariants as store
@@ -35,8 +35,7 @@ use Rattle.worker.specs.declared.fault.WorkFault.TheVariants.{Work}
 use Rattle.worker.specs.declared.running_worker.RunningWorker.{RunningWorker}
 use Rattle.worker.specs.rules.WorkFaults.{fault_of_store}
 use Rattle.worker.specs.rules.DurableFailures.{StopsAtDisk, StopsAtStore, StopsAtQuestion}
-use Rattle.worker.specs.rules.DurableFailures.{StopsForMemory, IsDiskCause}
-use Rattle.worker.specs.rules.DurableFailures.{SlicesOnDiskInVain}
+use Rattle.worker.specs.rules.DurableFailures.{StopsForMemory, IsDiskCause, SlicesOnDiskInVain}
 use Rattle.worker.specs.DurableTurns.{IsFlushFault, IsAskFault, Hears}
 use Rattle.worker.specs.DurableTurns.{HearsBy, IsMisfit, LacksRecord, IsNotTaken}
 
@@ -82,8 +81,10 @@ module _ (guest : Guest) (p : ProcessState) (fuel : ℕ) (exchanges : List Excha
 module _ {S O : Type 0} (gives : Giving S) (takes : Taking O) where
   -- what fails as without a disk
   pub as_on_disk : (old new : ProcessValue) (fuel : ℕ) (why : ProcessFault) (s u : S) (o q : O)
-      → SlicesInVain gives takes (working old) fuel (slice_fault why) (failing new) s u o q
-      → SlicesOnDiskInVain gives takes old fuel (Work (slice_fault why)) new s u o q
+      → SlicesInVain gives takes (working old) fuel (slice_fault why) (failing new) (ports s o)
+      (ports u q)
+      → SlicesOnDiskInVain gives takes old fuel (Work (slice_fault why)) new (ports s o)
+      (ports u q)
   as_on_disk old new fuel stop.WrongAnswer s u o q h guest p shows = h.2 guest p shows
   as_on_disk old new fuel stop.StepsSpent s u o q h guest p shows = h.2 guest p shows
   as_on_disk old new fuel stop.Memory s u o q h guest p shows =
@@ -125,7 +126,7 @@ module _ {S O : Type 0} (gives : Giving S) (takes : Taking O) where
 
     -- it is as it was
     abbrev pub stays_at : (guest : Guest) (p : ProcessState) → ShowsProcess old guest p
-        → Fails gives takes (working old) (failing v) guest p s t o q
+        → Fails gives takes (working old) (failing v) guest p (ports s o) (ports t q)
     stays_at guest p shows = record {
       exchanges = (gone guest p shows).exchanges;
       exchanged = (gone guest p shows).exchanged;
@@ -136,7 +137,8 @@ module _ {S O : Type 0} (gives : Giving S) (takes : Taking O) where
     }
 
     stored_vainly : (fault : StoreFault) → fault ≢ store.Memory → fault ≢ store.TooBig
-        → SlicesOnDiskInVain gives takes old fuel (fault_of_store fault) v s t o q
+        → SlicesOnDiskInVain gives takes old fuel (fault_of_store fault) v (ports s o)
+        (ports t q)
     stored_vainly fault none fits guest p shows =
         let g = gone guest p shows in (
           stays_at guest p shows,
@@ -147,18 +149,23 @@ module _ {S O : Type 0} (gives : Giving S) (takes : Taking O) where
 
     pub flushed_vainly : (why : WorkFault) (new : ProcessValue) (r : O)
         → IsFlushFault takes v why new q r
-        → SlicesOnDiskInVain gives takes old fuel why new s t o r
+        → SlicesOnDiskInVain gives takes old fuel why new (ports s o) (ports t r)
     flushed_vainly why new r (inl stored) =
-        subst (λ z. SlicesOnDiskInVain gives takes old fuel why z s t o r) (sym stored.4)
-        (subst (λ z. SlicesOnDiskInVain gives takes old fuel why v s t o z) (sym stored.5)
-        (subst (λ z. SlicesOnDiskInVain gives takes old fuel z v s t o q) (sym stored.1)
-        (stored_vainly stored.0 stored.2 stored.3)))
+        subst (λ z. SlicesOnDiskInVain gives takes old fuel why z (ports s o) (ports t r))
+        (sym stored.4)
+        (subst (λ z. SlicesOnDiskInVain gives takes old fuel why v (ports s o) (ports t z))
+        (sym stored.5)
+        (subst (λ z. SlicesOnDiskInVain gives takes old fuel z v (ports s o) (ports t q))
+        (sym stored.1) (stored_vainly stored.0 stored.2 stored.3)))
     flushed_vainly why new r (inr refused) =
-        subst (λ z. SlicesOnDiskInVain gives takes old fuel z new s t o r) (sym refused.0)
+        subst (λ z. SlicesOnDiskInVain gives takes old fuel z new (ports s o) (ports t r))
+        (sym refused.0)
         (told_vainly (released_some gives takes old v new fuel first s t o q r turning refused.1))
       where
-        told_vainly : SlicesInVain gives takes (working old) fuel slice.Outlet (failing new) s t o r
-            → SlicesOnDiskInVain gives takes old fuel (Work slice.Outlet) new s t o r
+        told_vainly : SlicesInVain gives takes (working old) fuel slice.Outlet (failing new)
+            (ports s o) (ports t r)
+            → SlicesOnDiskInVain gives takes old fuel (Work slice.Outlet) new (ports s o)
+            (ports t r)
         told_vainly h guest p shows = h.2 guest p shows
 
   -- ---- what is asked
@@ -186,7 +193,8 @@ module _ {S O : Type 0} (gives : Giving S) (takes : Taking O) where
 
     -- the source isn't asked
     room_vainly : (fault : StoreFault)
-        → SlicesOnDiskInVain gives takes old fuel (fault_of_store fault) v s t o q
+        → SlicesOnDiskInVain gives takes old fuel (fault_of_store fault) v (ports s o)
+        (ports t q)
     room_vainly fault guest p shows =
         let g = so_far guest p shows in
         let up = up_to_now old v fuel first s t o q questioning.turning guest p shows
@@ -210,7 +218,7 @@ module _ {S O : Type 0} (gives : Giving S) (takes : Taking O) where
       this_ask = record { question = question; said = said }
 
       abbrev pub asks_here : (guest : Guest) (p : ProcessState) → ShowsProcess old guest p
-          → Fails gives takes (working old) (failing new) guest p s u o q
+          → Fails gives takes (working old) (failing new) guest p (ports s o) (ports u q)
       asks_here guest p shows = record {
         exchanges = (so_far guest p shows).exchanges ++ (Asks this_ask ∷ []);
         exchanged = asked_more gives takes old v v fuel guest p s t o q (so_far guest p shows) u
@@ -228,7 +236,8 @@ module _ {S O : Type 0} (gives : Giving S) (takes : Taking O) where
 
       bad_vainly : ((guest : Guest) (p : ProcessState) (shows : ShowsProcess old guest p)
           → IsBadAnswer (text_limit (so_far guest p shows).process.host.version) question said)
-          → SlicesOnDiskInVain gives takes old fuel (Work slice.Source) new s u o q
+          → SlicesOnDiskInVain gives takes old fuel (Work slice.Source) new (ports s o)
+          (ports u q)
       bad_vainly bad guest p shows = (
         asks_here guest p shows,
         (
@@ -261,7 +270,8 @@ module _ {S O : Type 0} (gives : Giving S) (takes : Taking O) where
       -- its answer isn't kept
       kept_vainly : (a : Answer) → said ≡ Ok (Some a) → (from : WorkerStore) (r : Record)
           (fault : StoreFault) → AppendFails from r fault
-          → SlicesOnDiskInVain gives takes old fuel (fault_of_store fault) new s u o q
+          → SlicesOnDiskInVain gives takes old fuel (fault_of_store fault) new (ports s o)
+          (ports u q)
       kept_vainly a is from r fault fails guest p shows =
           let g = so_far guest p shows in
           let calls : List Exchange = g.exchanges ++ (Asks this_ask ∷ []) in
@@ -287,28 +297,29 @@ module _ {S O : Type 0} (gives : Giving S) (takes : Taking O) where
 
       misfit_vainly : (a : Answer) → gives t question (Ok (Some a)) u
           → IsMisfit mid question (record { step = step; answer = a }) why new
-          → SlicesOnDiskInVain gives takes old fuel why new.process s u o q
+          → SlicesOnDiskInVain gives takes old fuel why new.process (ports s o) (ports u q)
       misfit_vainly a asked h =
-          subst (λ z. SlicesOnDiskInVain gives takes old fuel z new.process s u o q) (sym h.is)
-          (bad_vainly u (Ok (Some a)) asked new.process
+          subst (λ z. SlicesOnDiskInVain gives takes old fuel z new.process (ports s o)
+          (ports u q)) (sym h.is) (bad_vainly u (Ok (Some a)) asked new.process
           (ap (λ (w : RunningWorker). w.process) h.same ∙ same)
           (λ guest p shows fits. h.misfits (subst (λ n. Fits n question a)
           (same_limit guest p shows) fits)))
 
       unkept_vainly : (a : Answer) → gives t question (Ok (Some a)) u
           → LacksRecord mid question (record { step = step; answer = a }) why new
-          → SlicesOnDiskInVain gives takes old fuel why new.process s u o q
+          → SlicesOnDiskInVain gives takes old fuel why new.process (ports s o) (ports u q)
       unkept_vainly a asked h =
-          subst (λ z. SlicesOnDiskInVain gives takes old fuel z new.process s u o q) (sym h.is)
+          subst (λ z. SlicesOnDiskInVain gives takes old fuel z new.process (ports s o)
+          (ports u q)) (sym h.is)
           (kept_vainly u (Ok (Some a)) asked new.process (h.same ∙ same) a refl
           mid.store (record { step = step; answer = a }) h.fault h.fails)
 
       untaken_vainly : (a : Answer) → gives t question (Ok (Some a)) u
           → IsNotTaken mid question (record { step = step; answer = a }) why new
-          → SlicesOnDiskInVain gives takes old fuel why new.process s u o q
+          → SlicesOnDiskInVain gives takes old fuel why new.process (ports s o) (ports u q)
       untaken_vainly a asked h =
-          subst (λ z. SlicesOnDiskInVain gives takes old fuel z new.process s u o q) (sym h.is)
-          (as_on_disk old new.process fuel h.fault s u o q
+          subst (λ z. SlicesOnDiskInVain gives takes old fuel z new.process (ports s o)
+          (ports u q)) (sym h.is) (as_on_disk old new.process fuel h.fault s u o q
           (vainly gives takes old v new.process fuel first s t u o q question questioning
           (slice_fault h.fault) (record {
             said = Ok (Some a);
@@ -322,10 +333,10 @@ module _ {S O : Type 0} (gives : Giving S) (takes : Taking O) where
 
       heard_vainly : (said : SourceSaid) → gives t question said u
           → HearsBy mid question step said (Err why) new
-          → SlicesOnDiskInVain gives takes old fuel why new.process s u o q
+          → SlicesOnDiskInVain gives takes old fuel why new.process (ports s o) (ports u q)
       heard_vainly (Err e) asked h =
-          subst (λ z. SlicesOnDiskInVain gives takes old fuel z new.process s u o q)
-          (sym (same_fault why (Work slice.Source) h.0))
+          subst (λ z. SlicesOnDiskInVain gives takes old fuel z new.process (ports s o)
+          (ports u q)) (sym (same_fault why (Work slice.Source) h.0))
           (bad_vainly u (Err e) asked new.process (ap (λ (w : RunningWorker). w.process) h.1 ∙ same)
           (λ guest p shows. tt))
       heard_vainly (Ok None) asked h = absurd (let no_error = h.0 in cc)
@@ -343,14 +354,15 @@ module _ {S O : Type 0} (gives : Giving S) (takes : Taking O) where
 
     pub asked_vainly : (from new : RunningWorker) (why : WorkFault) (u : S) → from.process ≡ v
         → IsAskFault gives from question why new t u
-        → SlicesOnDiskInVain gives takes old fuel why new.process s u o q
+        → SlicesOnDiskInVain gives takes old fuel why new.process (ports s o) (ports u q)
     asked_vainly from new why u at (inl stored) =
         let by = stored.0 in
-        subst (λ z. SlicesOnDiskInVain gives takes old fuel why z s u o q)
+        subst (λ z. SlicesOnDiskInVain gives takes old fuel why z (ports s o) (ports u q))
         (sym (stored.1 ∙ at))
-        (subst (λ z. SlicesOnDiskInVain gives takes old fuel why v s z o q) (sym stored.2)
-        (subst (λ z. SlicesOnDiskInVain gives takes old fuel z v s t o q) (sym by.1)
-        (room_vainly by.0)))
+        (subst (λ z. SlicesOnDiskInVain gives takes old fuel why v (ports s o) (ports z q))
+        (sym stored.2)
+        (subst (λ z. SlicesOnDiskInVain gives takes old fuel z v (ports s o) (ports t q))
+        (sym by.1) (room_vainly by.0)))
     asked_vainly from new why u at (inr heard) =
         let hears = heard.3 in
         heard_vainly heard.0 new heard.1 u why (heard.2 ∙ at) hears.said hears.asked hears.hears

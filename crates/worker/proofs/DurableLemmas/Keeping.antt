@@ -1,7 +1,6 @@
 -- An answer that is kept on record, and taken, or not.
-use Rattle.std.proofs.Common.{◌≡◌, ℕ, length, refl, sym, inl, inr, Bool, true}
-use Rattle.std.proofs.Common.{false}
-use Rattle.std.proofs.Common.{Ok, Err, ◌≤◌, subst}
+use Rattle.std.proofs.Common.{◌≡◌, ℕ, length, refl, sym, inl, inr, Bool, true, false, Ok, Err, ◌≤◌}
+use Rattle.std.proofs.Common.{subst}
 use Rattle.std.specs.Prelude.{◌↔◌, IsTrue}
 use Rattle.wasi_abi.specs.declared.answer.Question.{Question}
 use Rattle.wasi_abi.specs.rules.Answers.{Fits}

@@ -1,6 +1,5 @@
 -- What is known of a worker whose disk holds what is promised.
-use Rattle.std.proofs.Common.{◌≡◌, ℕ, ◌+◌, ◌≤◌, List, [], ◌++◌, sym, ◌∙◌}
-use Rattle.std.proofs.Common.{subst, arith}
+use Rattle.std.proofs.Common.{◌≡◌, ℕ, ◌+◌, ◌≤◌, List, [], ◌++◌, sym, ◌∙◌, subst, arith}
 use Rattle.wasm_syntax.specs.declared.module.Module.{Module}
 use Rattle.wasm_rules.specs.Validity.{IsValid}
 use Rattle.wasi_abi.specs.rules.Configs.{Settings}
@@ -23,7 +22,7 @@ use Rattle.worker_store.proofs.LawLemmas.Raising.{carried_is_reached, quiet_sync
 use Rattle.worker_store.proofs.LawLemmas.Raising.{ended_carries}
 use Rattle.worker_store.specs.declared.store.WorkerStore.{WorkerStore}
 use Rattle.worker.specs.laws.Bounds.{OpenWorkersHaveOneVersion}
-use Rattle.worker.specs.rules.OpenWorkers.{IsOnDisk}
+use Rattle.worker.specs.rules.OpenWorkers.{IsOnDisk, identity}
 
 -- all kept answers lead there
 pub record IsReachedBy (m : Module) (config : Settings) (guest : Guest) (promise : Promise)
@@ -43,7 +42,7 @@ fewer_syncs m config promise held step earlier le syncs k a below behind =
 
 module _ {D : Type 0} (medium : D → Medium) (m : Module) (config : Settings) (guest : Guest)
     (promise : Promise) (p : ProcessState) (step latest : ℕ) (store : WorkerStore) (disk : D)
-    (is : IsOnDisk m config guest promise p step latest store (medium disk)) where
+    (is : IsOnDisk (identity m config guest) promise p step latest store (medium disk)) where
   pub valid_module : IsValid m
   valid_module = is.point.accepted.valid
 
@@ -63,7 +62,7 @@ module _ {D : Type 0} (medium : D → Medium) (m : Module) (config : Settings) (
 
   -- less is asked of it
   pub lowered_to : (earlier later : ℕ) → earlier ≤ step → latest ≤ later
-      → IsOnDisk m config guest promise p earlier later store (medium disk)
+      → IsOnDisk (identity m config guest) promise p earlier later store (medium disk)
   lowered_to earlier later le more = record {
     point = is.point;
     same = is.same;
@@ -83,7 +82,7 @@ module _ {D : Type 0} (medium : D → Medium) (m : Module) (config : Settings) (
   -- steps without answers
   pub stepped_to : (q : ProcessState) (k next : ℕ) → Runs guest p [] k q
       → SyncsAreHeld m config promise.kept (count_at is.point is.records) next
-      → IsOnDisk m config guest promise q next latest store (medium disk)
+      → IsOnDisk (identity m config guest) promise q next latest store (medium disk)
   stepped_to q k next runs syncs = record {
     point = is.point;
     same = is.same;
@@ -113,8 +112,9 @@ module _ {D : Type 0} (medium : D → Medium) (m : Module) (config : Settings) (
   pub ended_on : (act : Act) (reply : Reply) (held : ℕ) (shown : Saved)
       → kept_by_end act shown promise.kept ≡ promise.kept
       → ((count : ℕ) → saved_by act reply count ≡ 0) → synced_by reply shown.steps ≤ step
-      → IsOnDisk m config guest (after promise (Ended act reply held shown)) p step latest store
-      (medium disk)
+      → IsOnDisk (identity m config guest) (after promise (Ended act reply held shown)) p step
+      latest
+      store (medium disk)
   ended_on act reply held shown kept saves_none below = record {
     point = is.point;
     same = is.same;
@@ -139,7 +139,7 @@ module _ {D : Type 0} (medium : D → Medium) (m : Module) (config : Settings) (
 
 module _ (m : Module) (config : Settings) (guest : Guest) (promise : Promise) (p : ProcessState)
     (step latest : ℕ) (store : WorkerStore) (disk : Medium)
-    (is : IsOnDisk m config guest promise p step latest store disk) where
+    (is : IsOnDisk (identity m config guest) promise p step latest store disk) where
   -- process, journal and savepoint are of one version
   pub version_now : p.host.version ≡ is.point.saved.version
   version_now =

@@ -19,7 +19,7 @@ use Rattle.record_replay.specs.declared.line_list.NumberedLine.{NumberedLine}
 use Rattle.record_replay.specs.rules.Calls.{Giving, Taking, Ask, Begun, Exchange, Asks, Exchanges}
 use Rattle.record_replay.specs.rules.Calls.{Released, Releases, all_taken, asks_of, releases_of}
 use Rattle.record_replay.specs.rules.Lists.{KeepsLine, numbered}
-use Rattle.record_replay.specs.rules.Calls.{last_refused}
+use Rattle.record_replay.specs.rules.Calls.{last_refused, ports}
 use Rattle.record_replay.specs.rules.Waiting.{first_waiting, ReleasesAll, ReleasesSome}
 use Rattle.record_replay.proofs.Following.{leads_join, leads_on, releases_of-append}
 use Rattle.process_rules.specs.Runs.{Runs}
@@ -45,7 +45,7 @@ use Rattle.worker.specs.rules.DurableFailures.{IsDiskCause, SlicesOnDiskInVain}
 use Rattle.worker.specs.rules.WorkFaults.{fault_of_store}
 use Rattle.worker.specs.declared.running_worker.RunningWorker.{RunningWorker}
 use Rattle.worker.specs.BatchTurns.{held_as_begun, HoldsLines, RefusesOne, StopsInBatch}
-use Rattle.worker.specs.BatchTurns.{IsBarrierFault}
+use Rattle.worker.specs.BatchTurns.{IsBarrierFault, holding}
 use Rattle.worker.proofs.DurableLemmas.Holding.{length_taken}
 
 -- ---- lists of lines
@@ -153,7 +153,7 @@ pub holds_so : (most : ℕ) (old : RunningWorker) (process : ProcessValue)
     (lines lines' : List NumberedLine) → waiting_in old.process ≢ [] → old.process.ended ≡ None
     → length (waiting_in old.process) + length lines ≤ most - 1
     → ReleasesAll keeping old.process process lines lines'
-    → HoldsLines most old lines (record old { process = process }) lines'
+    → HoldsLines most (holding old lines) (holding (record old { process = process }) lines')
 holds_so most old process lines lines' some unended few all = record {
   some = some;
   unended = unended;
@@ -176,15 +176,6 @@ module _ (v w : ProcessValue) (a b : List NumberedLine) (said : Result (Unit {0}
       by (Ok done) all some = kept_front a b (all_taken (first_waiting v) (waiting_in v)) all.told
       by (Err fault) all some =
           kept_front a b (last_refused (first_waiting v) some.told some.line) some.refused
-
-  pub unheld_by : (said_ok : Bool) → said_ok ≡ is_ok said → said_ok ≡ false → w ≡ v
-  unheld_by said_ok is none = by said all some said_ok is none
-    where
-      by : (said : Result (Unit {0}) OutletFault) → OnOk said (ReleasesAll keeping v w a b)
-          → OnErr said (ReleasesSome keeping v w a b) → (said_ok : Bool) → said_ok ≡ is_ok said
-          → said_ok ≡ false → w ≡ v
-      by (Ok done) all some said_ok is none = absurd (cc)
-      by (Err fault) all some said_ok is none = some.same
 
   pub all_held : (said_ok : Bool) → said_ok ≡ is_ok said → said_ok ≡ true
       → ReleasesAll keeping v w a b
@@ -265,9 +256,9 @@ module _ {S O : Type 0} (gives : Giving S) (takes : Taking O) where
   -- a slice whose lines go to a list is one whose lines go to such an outlet
   pub slices_told : (old new : ProcessValue) (fuel : ℕ) (why : Now) (s u : S) (o q : O)
       (kept : List NumberedLine)
-      → Slices gives keeping (working old) fuel why (working new) s u [] kept
+      → Slices gives keeping (working old) fuel why (working new) (ports s []) (ports u kept)
       → Releases takes o (held_as_begun kept) q
-      → Slices gives takes (working old) fuel why (working new) s u o q
+      → Slices gives takes (working old) fuel why (working new) (ports s o) (ports u q)
   slices_told old new fuel why s u o q kept h released = record {
     had_not_failed = h.had_not_failed;
     has_not_failed = h.has_not_failed;
@@ -366,28 +357,24 @@ module _ {S : Type 0} (gives : Giving S) (old new : ProcessValue) (fuel : ℕ) (
     (kept : List NumberedLine) where
   -- in order
   pub slices_stop : (why : Now)
-      → Slices gives keeping (working old) fuel why (working new) s u [] kept
+      → Slices gives keeping (working old) fuel why (working new) (ports s []) (ports u kept)
       → StopsInBatch gives old fuel (Ok why) new s u kept
   slices_stop why h = record {
     none_waits = h.none_waits;
     done = h;
     shown = λ guest p shows.
         let k = h.shown guest p shows in
-        let works = k.0 in
-        let stop = stopped_now fuel guest p works.exchanges works.steps works.process why
-        works.wanted works.leads k.1 in (
+        let works = k.0 in (
           record {
-            fails = record {
-              exchanges = works.exchanges;
-              exchanged = works.exchanged;
-              wanted = works.wanted;
-              steps = works.steps;
-              process = works.process;
-              shows = works.shows;
-            };
-            within = stop.0;
-            stops = stop.1;
+            exchanges = works.exchanges;
+            exchanged = works.exchanged;
+            wanted = works.wanted;
+            steps = works.steps;
+            process = works.process;
+            shows = works.shows;
           },
+          stopped_now fuel guest p works.exchanges works.steps works.process why works.wanted
+              works.leads k.1,
           tt,
         );
   }
@@ -420,7 +407,7 @@ module _ {S : Type 0} (gives : Giving S) (old new : ProcessValue) (fuel : ℕ) (
       (omega (arith, less), stops_up_to guest p made n q cause.2 cause.3)
 
   abbrev Vain : WorkFault → Type 0
-  Vain why = SlicesOnDiskInVain gives keeping old fuel why new s u [] kept
+  Vain why = SlicesOnDiskInVain gives keeping old fuel why new (ports s []) (ports u kept)
 
   module _ (none_waits : waiting_in new ≡ []) where
     pub source_stops : Vain (Work slice.Source)
@@ -430,9 +417,9 @@ module _ {S : Type 0} (gives : Giving S) (old new : ProcessValue) (fuel : ℕ) (
       done = tt;
       shown = λ guest p shows.
           let k = h guest p shows in
-          let did = k.0 in
-          let stop = source_stopped guest p did.exchanges did.steps did.process did.wanted k.1 in (
-            record { fails = did; within = stop.0; stops = stop.1 },
+          let did = k.0 in (
+            did,
+            source_stopped guest p did.exchanges did.steps did.process did.wanted k.1,
             k.1,
           );
     }
@@ -445,10 +432,7 @@ module _ {S : Type 0} (gives : Giving S) (old new : ProcessValue) (fuel : ℕ) (
       shown = λ guest p shows.
           let k = h guest p shows in
           let did = k.0 in
-          let stop = memory_stopped guest p did.exchanges did.steps did.process k.1 in (
-            record { fails = did; within = stop.0; stops = stop.1 },
-            k.1,
-          );
+          (did, memory_stopped guest p did.exchanges did.steps did.process k.1, k.1);
     }
 
     pub numbers_stop_it : Vain (Work (slice.Refused refusal.StepsSpent))
@@ -459,10 +443,7 @@ module _ {S : Type 0} (gives : Giving S) (old new : ProcessValue) (fuel : ℕ) (
       shown = λ guest p shows.
           let k = h guest p shows in
           let did = k.0 in
-          let stop = numbers_stopped guest p did.exchanges did.steps did.process k.1 in (
-            record { fails = did; within = stop.0; stops = stop.1 },
-            k.1,
-          );
+          (did, numbers_stopped guest p did.exchanges did.steps did.process k.1, k.1);
     }
 
 -- ---- how much was told

@@ -25,9 +25,8 @@ use Rattle.worker_store.specs.rules.Savepoints.{Savepoint}
 use Rattle.worker_store.specs.laws.CallEnds.{HasBound}
 use Rattle.worker_store.specs.rules.Carried.{count_at, AreOnRecord}
 use Rattle.worker_store.specs.laws.Turns.{GoesOnFrom}
-use Rattle.worker_store.proofs.LawLemmas.Raising.{up_to_all}
+use Rattle.worker_store.proofs.LawLemmas.Raising.{up_to_all, all_syncs_are_held, ended_carries}
 use Rattle.worker_store.proofs.LawLemmas.Carrying.{begins_carried}
-use Rattle.worker_store.proofs.LawLemmas.Raising.{all_syncs_are_held, ended_carries}
 use Rattle.worker_store.proofs.LawLemmas.Saving.{next_held, save_carries, ends_promise_no_less}
 use Rattle.worker_store.proofs.LawLemmas.TurnLemmas.{same_no_more}
 use Rattle.worker_store.specs.declared.fault.StoreFault.{StoreFault}
@@ -41,9 +40,8 @@ use Rattle.worker.specs.rules.WorkFaults.{fault_of_store}
 use Rattle.worker.specs.rules.DurableCalls.{ComesOf, HasCauseAt}
 use Rattle.worker.specs.rules.OpenWorkers.{IsOnDisk}
 use Rattle.worker.specs.Savings.{LeavesFrontOrNext, IsSaveFault, SaveFails}
-use Rattle.worker.specs.DurableTurns.{Course, IsAskingOn, HasRoom, MakesRoom}
-use Rattle.worker.specs.DurableTurns.{HoldsNoLine, MakesNoRoom}
-use Rattle.worker.specs.DurableTurns.{TurnFails, slice_end}
+use Rattle.worker.specs.DurableTurns.{Course, IsAskingOn, HasRoom, MakesRoom, HoldsNoLine}
+use Rattle.worker.specs.DurableTurns.{MakesNoRoom, TurnFails, slice_end, identity_of, running_on}
 use Rattle.worker.proofs.SavingActLemmas.{CanSave, can_save, all_first}
 use Rattle.worker.proofs.DurableLemmas.OnDisk.{keeps_now, fewer_syncs, lowered_to, room_now}
 use Rattle.worker.proofs.DurableLemmas.Bounds.{on_disk_still, saves_within}
@@ -120,7 +118,8 @@ module _ {D : Type 0} (medium : D → Medium) (w : RunningWorker) (after : Worke
     (disk disk' : D) (fit : ProcessImagesFitAreas) (numbered : IsProcess w.process)
     (leaves : LeavesFrontOrNext w.store w.process (medium disk) (medium disk')) where
   module _ (c : Course) (promise : Promise) (stage : Stage) (p : ProcessState) (question : Question)
-      (asking : IsAskingOn c promise stage p question promise.events [] w (medium disk)) where
+      (asking : IsAskingOn c promise stage p question promise.events
+      (running_on [] w (medium disk))) where
     ready : CanSave c.code c.config c.guest promise p p.steps promise.events w.store (medium disk)
         asking.running.on_disk [] p w.process
     ready =
@@ -266,7 +265,7 @@ module _ {D : Type 0} (medium : D → Medium) (w : RunningWorker) (after : Worke
           (leaves c.code c.config is.point ready.next is.records is.pending is.last is.now is.stores
           next_is.comes next_is.saved))
 
-      saved_on : IsOnDisk c.code c.config c.guest promise p p.steps (promise.events + 1) after
+      saved_on : IsOnDisk (identity_of c) promise p p.steps (promise.events + 1) after
           (medium disk')
       saved_on =
           let running = asking.running in
@@ -333,20 +332,21 @@ module _ {D : Type 0} (medium : D → Medium) (w : RunningWorker) (after : Worke
       → MakesNoRoom w (fault_of_store fault) (with_store w after) (medium disk) (medium disk')
   makes_no_room fault fails full c promise stage p question lines_held asking free =
       save_in_vain c promise stage p question
-      (subst (λ (l : List Begun). IsAskingOn c promise stage p question promise.events l w
-      (medium disk)) (none_held w lines_held full free) asking) fault fails
+      (subst (λ (l : List Begun). IsAskingOn c promise stage p question promise.events
+      (running_on l w (medium disk))) (none_held w lines_held full free) asking) fault fails
 
   pub makes_room : StoresNext w.store after w.process (medium disk) (medium disk')
       → after.journal ≡ state (saved_of w.process).version after.journal.generation 0 [] false
       → (HasRoom w → ⊥) → MakesRoom w (with_store w after) (medium disk) (medium disk')
   makes_room stores fresh full c promise stage p question lines_held asked free =
       let is_none = none_held w lines_held full free in
-      let asking : IsAskingOn c promise stage p question promise.events [] w (medium disk) =
-      subst (λ (l : List Begun). IsAskingOn c promise stage p question promise.events l w
-      (medium disk)) is_none asked in
+      let asking : IsAskingOn c promise stage p question promise.events
+      (running_on [] w (medium disk)) =
+      subst (λ (l : List Begun). IsAskingOn c promise stage p question promise.events
+      (running_on l w (medium disk))) is_none asked in
       let running = asking.running in (
-        subst (λ (l : List Begun). IsAskingOn c promise stage p question (promise.events + 1) l
-            (with_store w after) (medium disk')) (sym is_none) (record {
+        subst (λ (l : List Begun). IsAskingOn c promise stage p question (promise.events + 1)
+            (running_on l (with_store w after) (medium disk'))) (sym is_none) (record {
               running = record {
                 opened = running.opened;
                 texts = running.texts;

@@ -1,7 +1,6 @@
 -- What holds between two turns of a slice of a worker on its disk.
-use Rattle.std.proofs.Common.{◌≡◌, ℕ, ◌-◌, ◌<◌, refl, sym, ap, ◌∙◌, subst, Bool, true}
-use Rattle.std.proofs.Common.{false}
-use Rattle.std.proofs.Common.{Ok, Err, []}
+use Rattle.std.proofs.Common.{◌≡◌, ℕ, ◌-◌, ◌<◌, refl, sym, ap, ◌∙◌, subst, Bool, true, false, Ok}
+use Rattle.std.proofs.Common.{Err, []}
 use Rattle.std.specs.Prelude.{Result, IfOk}
 use Rattle.wasi_abi.specs.declared.answer.Question.{Question}
 use Rattle.process.specs.declared.fault.ProcessFault.{ProcessFault}
@@ -10,7 +9,7 @@ use Rattle.process.specs.declared.stop.Stop.TheVariants as stops
 use Rattle.process.specs.rules.Values.{ProcessValue, IsProcess, waiting_in}
 use Rattle.process.specs.rules.Stops.{AdvancesProcess}
 use Rattle.sector_disk.specs.rules.Medium.{Medium, CallsUpTo}
-use Rattle.record_replay.specs.rules.Calls.{Giving, Taking}
+use Rattle.record_replay.specs.rules.Calls.{Giving, Taking, ports}
 use Rattle.record_replay.specs.rules.Waiting.{ReleasesAll}
 use Rattle.record_replay.proofs.Emitted.{released_none, released_steps}
 use Rattle.record_replay.specs.declared.slices.now.Now.TheVariants as now
@@ -20,23 +19,21 @@ use Rattle.worker.specs.declared.running_worker.RunningWorker.{RunningWorker}
 use Rattle.record_replay.specs.rules.Refusals.{slice_fault}
 use Rattle.record_replay.specs.rules.Slices.{Slices}
 use Rattle.record_replay.specs.Turns.{working, AsksOnce}
+use Rattle.worker.specs.rules.Scenes.{scene}
 use Rattle.worker.specs.DurableTurns.{Hears, FlushesTurn, AsksTurn, WorksOn}
-use Rattle.worker.specs.DurableTurns.{IsFlushFault, IsAskFault}
+use Rattle.worker.specs.DurableTurns.{IsFlushFault, IsAskFault, asking_scene}
 use Rattle.worker.specs.StoreTurns.{StoreGoes, StoreStops, StoreRuns, PaysCalls, LeavesStore}
 use Rattle.worker.specs.rules.CallCounts.{most_saving}
 use Rattle.worker.specs.rules.DurableFailures.{SlicesOnDiskInVain}
-use Rattle.record_replay.proofs.Ending.{measure, Turning, turning_none, owes}
-use Rattle.record_replay.proofs.Ending.{owes_less, asks, asks_counts, released_all, waiting}
-use Rattle.record_replay.proofs.Ending.{given, stays_waiting}
+use Rattle.record_replay.proofs.Ending.{measure, Turning, turning_none, owes, owes_less, asks}
+use Rattle.record_replay.proofs.Ending.{asks_counts, released_all, waiting, given, stays_waiting}
 use Rattle.record_replay.proofs.Ending.{given_less, Questioning, cannot_advance}
 use Rattle.worker.proofs.DurableLemmas.InVain.{as_on_disk, flushed_vainly, asked_vainly}
 use Rattle.worker.proofs.DurableLemmas.Asking.{asks_once_of}
 use Rattle.worker.proofs.DurableLemmas.Advancing.{with_process, says_abreast}
-use Rattle.worker.proofs.StoreTurnLemmas.{goes_none, goes_join, goes_stop, runs_join}
-use Rattle.worker.proofs.StoreTurnLemmas.{process_cause}
+use Rattle.worker.proofs.StoreTurnLemmas.{goes_none, goes_join, goes_stop, runs_join, process_cause}
 use Rattle.worker.proofs.DurableLemmas.Working.{SoFar, so_far_none, works_spent, works_over}
-use Rattle.worker.proofs.DurableLemmas.Working.{works_in_vain, works_flushed}
-use Rattle.worker.proofs.DurableLemmas.Working.{works_unflushed}
+use Rattle.worker.proofs.DurableLemmas.Working.{works_in_vain, works_flushed, works_unflushed}
 use Rattle.worker.proofs.DurableLemmas.Working.{works_given, works_waiting, works_unasked}
 
 -- where the source has answered, or has none
@@ -81,22 +78,22 @@ module _ {D S O : Type 0} (medium : D → Medium) (gives : Giving S) (takes : Ta
         fuel_left_is ∙ ap (λ n. fuel - (w.process.steps - n)) turning.first_is
 
     pub spent_on : AdvancesProcess w.process fuel_left (Ok stops.Spent) v
-        → WorksOn gives takes old fuel (Ok now.Spent) (with_process w v) (medium disk) (medium mid)
-        s t o q
+        → WorksOn medium gives takes fuel (scene old disk s o) (Ok now.Spent)
+        (scene (with_process w v) mid t q)
     spent_on advances =
         works_spent medium gives takes old w v fuel fuel_left disk mid s t o q i.so_far
         fuel_left_there same same_guest i.sectors advances
 
     pub over_on : (how : ProcessEnd) → AdvancesProcess w.process fuel_left (Ok (stops.Ended how)) v
-        → WorksOn gives takes old fuel (Ok (now.Ended how)) (says_abreast (with_process w v))
-        (medium disk) (medium mid) s t o q
+        → WorksOn medium gives takes fuel (scene old disk s o) (Ok (now.Ended how))
+        (scene (says_abreast (with_process w v)) mid t q)
     over_on how advances =
         works_over medium gives takes old w v fuel fuel_left disk mid s t o q i.so_far
         fuel_left_there same same_guest i.sectors how advances
 
     pub vain_on : (why : ProcessFault) → AdvancesProcess w.process fuel_left (Err why) v
-        → WorksOn gives takes old fuel (Err (Work (slice_fault why))) (with_process w v)
-        (medium disk) (medium mid) s t o q
+        → WorksOn medium gives takes fuel (scene old disk s o) (Err (Work (slice_fault why)))
+        (scene (with_process w v) mid t q)
     vain_on why advances =
         works_in_vain medium gives takes old w v fuel fuel_left disk mid s t o q i.so_far
         fuel_left_there same same_guest i.sectors why advances
@@ -117,7 +114,8 @@ module _ {D S O : Type 0} (medium : D → Medium) (gives : Giving S) (takes : Ta
 
     -- as a worker without a disk
     pub vain_so_far : (why : ProcessFault) → AdvancesProcess w.process fuel_left (Err why) v
-        → SlicesOnDiskInVain gives takes old.process fuel (Work (slice_fault why)) v s t o q
+        → SlicesOnDiskInVain gives takes old.process fuel (Work (slice_fault why)) v (ports s o)
+        (ports t q)
     vain_so_far why advances =
         as_on_disk gives takes old.process v fuel why s t o q
         (cannot_advance gives takes old.process w.process v fuel first fuel_left s t o q i.turning
@@ -151,13 +149,14 @@ module _ {D S O : Type 0} (medium : D → Medium) (gives : Giving S) (takes : Ta
       pub unflushed_on : (why : WorkFault)
           → FlushesTurn takes (with_process w v) (Err why) w' (medium mid) (medium disk') q r
           → PaysCalls {T = Unit {0}} (Err why) w.store w'.store (medium mid) (medium disk')
-          → WorksOn gives takes old fuel (Err why) w' (medium disk) (medium disk') s t o r
+          → WorksOn medium gives takes fuel (scene old disk s o) (Err why) (scene w' disk' t r)
       unflushed_on why flushes pays =
           works_unflushed medium gives takes old w v fuel fuel_left disk mid s t o q i.so_far
           fuel_left_there same same_guest i.sectors advances w' disk' r why flushes pays
 
       pub unflushed_so_far : (why : WorkFault) → IsFlushFault takes v why w'.process q r
-          → SlicesOnDiskInVain gives takes old.process fuel why w'.process s t o r
+          → SlicesOnDiskInVain gives takes old.process fuel why w'.process (ports s o)
+          (ports t r)
       unflushed_so_far why vain =
           flushed_vainly gives takes old.process v fuel first s t o q
           (owes gives takes old.process w.process v fuel first fuel_left s t o q i.turning
@@ -172,7 +171,8 @@ module _ {D S O : Type 0} (medium : D → Medium) (gives : Giving S) (takes : Ta
 
       pub given_on : AsksOnce gives question v (Ok true) w'.process t u
           → w'.process.host.released ≡ v.host.released
-          → AsksTurn gives (with_process w v) question (Ok true) w' (medium mid) (medium disk') t u
+          → AsksTurn medium gives question (asking_scene (with_process w v) mid t) (Ok true)
+          (asking_scene w' disk' u)
           → StoreGoes w.store w'.store (medium mid) (medium disk')
           → w'.store.geometry ≡ w.store.geometry → (medium disk').sectors ≡ (medium mid).sectors
           → CallsUpTo (most_saving (medium mid).sectors) (medium mid) (medium disk')
@@ -197,7 +197,8 @@ module _ {D S O : Type 0} (medium : D → Medium) (gives : Giving S) (takes : Ta
           i.turning fuel_left_is same question advances)
 
       pub waits_done : AsksOnce gives question v (Ok false) w'.process t u
-          → Slices gives takes (working old.process) fuel now.Waiting (working w'.process) s u o q
+          → Slices gives takes (working old.process) fuel now.Waiting (working w'.process)
+          (ports s o) (ports u q)
       waits_done once =
           waiting gives takes old.process v w'.process fuel first s t u o q question
           questioning once
@@ -210,25 +211,28 @@ module _ {D S O : Type 0} (medium : D → Medium) (gives : Giving S) (takes : Ta
           (sym (stays_waiting gives takes old.process v w'.process fuel first s t u o q question
           questioning once)) is
 
-      pub waits_on : AsksTurn gives (with_process w v) question (Ok false) w' (medium mid)
-          (medium disk') t u
+      pub waits_on : AsksTurn medium gives question (asking_scene (with_process w v) mid t)
+          (Ok false) (asking_scene w' disk' u)
           → CallsUpTo (most_saving (medium mid).sectors) (medium mid) (medium disk')
-          → WorksOn gives takes old fuel (Ok now.Waiting) w' (medium disk) (medium disk') s u o q
+          → WorksOn medium gives takes fuel (scene old disk s o) (Ok now.Waiting)
+          (scene w' disk' u q)
       waits_on asked few =
           works_waiting medium gives takes old w v fuel fuel_left disk mid s t o q i.so_far
           fuel_left_there same same_guest i.sectors question advances w' disk' u few asked
 
       pub unasked_on : (why : WorkFault)
-          → AsksTurn gives (with_process w v) question (Err why) w' (medium mid) (medium disk') t u
+          → AsksTurn medium gives question (asking_scene (with_process w v) mid t) (Err why)
+          (asking_scene w' disk' u)
           → CallsUpTo (most_saving (medium mid).sectors) (medium mid) (medium disk')
-          → WorksOn gives takes old fuel (Err why) w' (medium disk) (medium disk') s u o q
+          → WorksOn medium gives takes fuel (scene old disk s o) (Err why) (scene w' disk' u q)
       unasked_on why asked few =
           works_unasked medium gives takes old w v fuel fuel_left disk mid s t o q i.so_far
           fuel_left_there same same_guest i.sectors question advances w' disk' u few why asked
 
       pub unasked_so_far : (why : WorkFault)
           → IsAskFault gives (with_process w v) question why w' t u
-          → SlicesOnDiskInVain gives takes old.process fuel why w'.process s u o q
+          → SlicesOnDiskInVain gives takes old.process fuel why w'.process (ports s o)
+          (ports u q)
       unasked_so_far why vain =
           asked_vainly gives takes old.process v fuel first s t o q question questioning
           (with_process w v) w' why u refl vain

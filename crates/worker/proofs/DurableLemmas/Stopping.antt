@@ -13,7 +13,7 @@ use Rattle.worker_store.specs.restart_theorem.Lives.{Spent, Over, Waits, Fails, 
 use Rattle.worker_store.specs.restart_theorem.Lives.{OfBounds}
 use Rattle.worker_store.specs.restart_theorem.Courses.{Stage, Phase, Open, NoneThere, MayFail}
 use Rattle.worker_store.specs.restart_theorem.Promises.{Promise, fuel_of}
-use Rattle.worker_store.specs.laws.Underway.{IsBroken}
+use Rattle.worker_store.specs.laws.Underway.{IsBroken, standstill}
 use Rattle.worker_store.specs.laws.CallEnds.{HasBound}
 use Rattle.worker_store.proofs.LawLemmas.AtHand.{shown_is_saved}
 use Rattle.worker_store.proofs.LawLemmas.CallEnds.{waiting_slices_end}
@@ -22,7 +22,7 @@ use Rattle.record_replay.specs.declared.slices.fault.SliceFault.TheVariants as s
 use Rattle.record_replay.specs.declared.slices.fault.Refusal.TheVariants as refusal
 use Rattle.worker.specs.declared.fault.WorkFault.TheVariants.{Work}
 use Rattle.worker.specs.declared.running_worker.RunningWorker.{RunningWorker}
-use Rattle.worker.specs.DurableTurns.{Course, IsBetweenTurns, TurnEnds}
+use Rattle.worker.specs.DurableTurns.{Course, IsBetweenTurns, TurnEnds, running_on}
 use Rattle.worker.specs.BatchTurns.{IsToldTurn, IsStopped}
 use Rattle.worker.proofs.DurableLemmas.OnDisk.{keeps_now, fewer_syncs}
 use Rattle.worker.proofs.DurableLemmas.Bounds.{on_disk_still}
@@ -74,10 +74,10 @@ module _ {D : Type 0} (medium : D → Medium) (c : Course) (promise : Promise) (
       let line : stage.line ≡ Some (length p.host.lines) = up_to.line ∙ ap (λ n. Some n) all in
       let heard : telling.told ≤ promise.heard = up_to.heard in
       let passed : promise.passed ≤ telling.told = up_to.passed in
-      let broken : IsBroken c.code c.config c.guest promise stage c.act (length promise.kept) p
-      (NoneThere p.steps) =
+      let broken : IsBroken c.code c.config c.guest promise stage c.act
+      (standstill (length promise.kept) p (NoneThere p.steps)) =
       subst (λ (q : Phase). IsBroken c.code c.config c.guest promise stage c.act
-      (length promise.kept) p q) none_there
+      (standstill (length promise.kept) p q)) none_there
       (broken_there c promise stage p telling.told telling.may) in
       ends_on medium c promise promise stage stage [] w disk disk Waits (length promise.kept)
       (done_nothing c promise stage)
@@ -119,7 +119,8 @@ module _ {D : Type 0} (medium : D → Medium) (c : Course) (promise : Promise) (
 
   -- its fuel is spent
   pub spent_stops : p.steps ≡ c.first + fuel_of c.act → p.ended ≡ None
-      → IsStopped medium c promise stage p (Ok now.Spent) Spent lines_held w disk
+      → IsStopped medium c promise stage p (Ok now.Spent) Spent
+      (running_on lines_held w (medium disk))
   spent_stops all unended = record {
     telling = there;
     is_reply = refl;
@@ -131,8 +132,8 @@ module _ {D : Type 0} (medium : D → Medium) (c : Course) (promise : Promise) (
 
   -- its process has ended
   pub over_stops : (how : ProcessEnd) → p.ended ≡ Some (ending_of how) → w.is_abreast ≡ true
-      → IsStopped medium c promise stage p (Ok (now.Ended how)) (Over (ending_of how)) lines_held w
-      disk
+      → IsStopped medium c promise stage p (Ok (now.Ended how)) (Over (ending_of how))
+      (running_on lines_held w (medium disk))
   over_stops how ended abreast = record {
     telling = there;
     is_reply = refl;
@@ -156,8 +157,8 @@ module _ {D : Type 0} (medium : D → Medium) (c : Course) (promise : Promise) (
 
   -- it wants memory
   pub memory_stops : CallsHost c.guest p
-      → IsStopped medium c promise stage p (Err (Work slice.Memory)) (Fails OfMemory) lines_held w
-      disk
+      → IsStopped medium c promise stage p (Err (Work slice.Memory)) (Fails OfMemory)
+      (running_on lines_held w (medium disk))
   memory_stops calls = record {
     telling = there;
     is_reply = (OfMemory, refl, refl);
@@ -168,7 +169,7 @@ module _ {D : Type 0} (medium : D → Medium) (c : Course) (promise : Promise) (
   -- its numbers are at their end
   pub numbers_stop : IsBeyond c.guest p None
       → IsStopped medium c promise stage p (Err (Work (slice.Refused refusal.StepsSpent)))
-      (Fails OfBounds) lines_held w disk
+      (Fails OfBounds) (running_on lines_held w (medium disk))
   numbers_stop beyond = record {
     telling = there;
     is_reply = (OfBounds, refl, refl);

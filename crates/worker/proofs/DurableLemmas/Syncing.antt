@@ -23,9 +23,8 @@ use Rattle.wasi_calls_rules.specs.CallRules.{call_rule, IsSync}
 use Rattle.wasi_calls_rules.proofs.Steps.{HoldsAfter, done_with, next}
 use Rattle.process_rules.specs.Processes.{ProcessState, Guest, closed, closed_at}
 use Rattle.process_rules.specs.Runs.{Next, On, LeadsTo, Moves, next_of, after_call, after_call_rule}
-use Rattle.process_rules.specs.Runs.{after_counted_step, given_by, stepped}
-use Rattle.process_rules.specs.Runs.{Kept, Runs, Reaches, none, step, take as take_one, widen}
-use Rattle.process_rules.specs.Runs.{succeed}
+use Rattle.process_rules.specs.Runs.{after_counted_step, given_by, stepped, Kept, Runs, Reaches}
+use Rattle.process_rules.specs.Runs.{none, step, take as take_one, widen, succeed}
 use Rattle.process_rules.specs.Behind.{Syncs, IsNarrowTo, AnswersBehindSync}
 use Rattle.process_rules.proofs.Growing.{move_counts, runs_count}
 use Rattle.process_rules.proofs.OneStart.{start_once}

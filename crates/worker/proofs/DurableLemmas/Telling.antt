@@ -11,7 +11,7 @@ use Rattle.worker_store.specs.restart_theorem.Lives.{Act, Batch, Fails, OfDisk, 
 use Rattle.worker_store.specs.restart_theorem.Courses.{Stage, Phase, Open, Broken, HasLastAsked}
 use Rattle.worker_store.specs.restart_theorem.Courses.{IsInBatch}
 use Rattle.worker_store.specs.restart_theorem.Promises.{Promise, IsEnding}
-use Rattle.worker_store.specs.laws.Underway.{IsUnderWay, IsBroken, IsInItsSlice}
+use Rattle.worker_store.specs.laws.Underway.{IsUnderWay, IsBroken, IsInItsSlice, standstill}
 use Rattle.worker_store.specs.laws.Telling.{ArePerformed}
 use Rattle.worker_store.specs.rules.BetweenCalls.{IsForetold}
 use Rattle.worker_store.proofs.LawLemmas.AtHand.{shown_is_saved}
@@ -20,7 +20,7 @@ use Rattle.worker_store.proofs.LawLemmas.Telling.{all_lines_are_told, lines_are_
 use Rattle.worker_store.proofs.LawLemmas.Telling.{rest_is_told, rest_is_told_in_vain}
 use Rattle.worker_store.proofs.LawLemmas.Underway.{among_first, left_is_broken}
 use Rattle.worker.specs.declared.running_worker.RunningWorker.{RunningWorker}
-use Rattle.worker.specs.DurableTurns.{Course, IsRunningOn, told_lines_of}
+use Rattle.worker.specs.DurableTurns.{Course, IsRunningOn, told_lines_of, running_on}
 use Rattle.worker.specs.BatchTurns.{IsTellingOn, MayTell}
 use Rattle.worker.proofs.DurableLemmas.Ends.{failed_end}
 
@@ -28,8 +28,8 @@ use Rattle.worker.proofs.DurableLemmas.Ends.{failed_end}
 
 pub telling_of : (c : Course) (promise : Promise) (stage : Stage) (p : ProcessState)
     (step latest : ℕ) (lines_held : List Begun) (w : RunningWorker) (disk : Medium)
-    → IsRunningOn c promise stage p step latest lines_held w disk
-    → IsTellingOn c promise stage p step latest lines_held w disk
+    → IsRunningOn c promise stage p step latest (running_on lines_held w disk)
+    → IsTellingOn c promise stage p step latest (running_on lines_held w disk)
 telling_of c promise stage p step latest lines_held w disk running = record {
   opened = running.opened;
   texts = running.texts;
@@ -57,8 +57,8 @@ way_of c promise stage p told is (inr left) = absurd (not_last stage.phase is le
 
 pub running_of : (c : Course) (promise : Promise) (stage : Stage) (p : ProcessState)
     (step latest : ℕ) (lines_held : List Begun) (w : RunningWorker) (disk : Medium)
-    → stage.phase ≡ Open → IsTellingOn c promise stage p step latest lines_held w disk
-    → IsRunningOn c promise stage p step latest lines_held w disk
+    → stage.phase ≡ Open → IsTellingOn c promise stage p step latest (running_on lines_held w disk)
+    → IsRunningOn c promise stage p step latest (running_on lines_held w disk)
 running_of c promise stage p step latest lines_held w disk is telling = record {
   opened = telling.opened;
   texts = telling.texts;
@@ -105,7 +105,8 @@ module _ (c : Course) (promise : Promise) (stage : Stage) (p : ProcessState) (to
 
   -- what is under way, or has lines left, is where it was
   pub broken_there : MayTell c.code c.config c.guest promise stage c.act told p
-      → IsBroken c.code c.config c.guest promise stage c.act (length promise.kept) p stage.phase
+      → IsBroken c.code c.config c.guest promise stage c.act
+      (standstill (length promise.kept) p stage.phase)
   broken_there (inl way) = record {
     in_slice = way.in_slice;
     is = refl;
@@ -175,7 +176,7 @@ module _ (c : Course) (promise : Promise) (stage : Stage) (p : ProcessState) (to
     pub made : ArePerformed c.code c.config promise stage (length p.host.lines)
         (told_lines_of begun)
     pub broken : IsBroken c.code c.config c.guest made.promise' made.stage' c.act
-        (length promise.kept) p (Broken OfOutlet)
+        (standstill (length promise.kept) p (Broken OfOutlet))
 
   one_refused : (first others : List Line) (line : Line)
       → MayTell c.code c.config c.guest promise stage c.act told p

@@ -45,18 +45,18 @@ use Rattle.worker.proofs.CallCountLemmas.{turn_last, owed_within}
 use Rattle.worker.specs.rules.DurableValues.{durable_of}
 use Rattle.worker.specs.rules.OpenWorkers.{IsOpenOn}
 use Rattle.worker.specs.rules.DurableCalls.{HasCauseOf, IsReplyOf, CallCarries, CallKeeps}
+use Rattle.worker.specs.rules.DurableCalls.{invocation}
 use Rattle.worker.specs.rules.Scenes.{scene}
-use Rattle.worker.specs.DurableTurns.{Course, IsBetweenTurns, TurnGoes, TurnEnds}
-use Rattle.worker.specs.DurableTurns.{slice_end, told_lines_of, FlushesTurn}
-use Rattle.worker.specs.DurableTurns.{AsksOutside, AsksTurn, WorksOn}
+use Rattle.worker.specs.DurableTurns.{Course, IsBetweenTurns, TurnGoes, TurnEnds, slice_end}
+use Rattle.worker.specs.DurableTurns.{told_lines_of, FlushesTurn, AsksOutside, AsksTurn, WorksOn}
+use Rattle.worker.specs.DurableTurns.{asking_scene}
 use Rattle.record_replay.proofs.Joining.{tells_ask_nothing, releases_of_tells}
 use Rattle.worker.proofs.DurableLemmas.OnDisk.{keeps_now}
 use Rattle.worker.proofs.DurableLemmas.Bounds.{bounds_join, on_disk_still}
 use Rattle.worker.proofs.DurableLemmas.Holding.{none_to_tell}
 use Rattle.worker.proofs.DurableLemmas.Ends.{cause_before, done_nothing, stays_on, not_open}
-use Rattle.worker.proofs.DurableLemmas.Advancing.{with_process, says_abreast}
-use Rattle.worker.proofs.DurableLemmas.Advancing.{advance_owes, advance_asks}
-use Rattle.worker.proofs.DurableLemmas.Advancing.{advance_spent, advance_over}
+use Rattle.worker.proofs.DurableLemmas.Advancing.{with_process, says_abreast, advance_owes}
+use Rattle.worker.proofs.DurableLemmas.Advancing.{advance_asks, advance_spent, advance_over}
 use Rattle.worker.proofs.DurableLemmas.Advancing.{advance_fails}
 
 -- ---- two parts of a slice
@@ -217,7 +217,7 @@ module _ {D S O : Type 0} (medium : D → Medium) (gives : Giving S) (takes : Ta
         × TurnEnds c promise stage reply ys w' (medium mid) (medium disk'))
         → (medium disk').counted ≤ (medium mid).counted
         + owed (medium disk).sectors w.store.journal.kept + most_saving (medium disk).sectors
-        → WorksOn gives takes old fuel result w' (medium disk) (medium disk') s u o r
+        → WorksOn medium gives takes fuel (scene old disk s o) result (scene w' disk' u r)
     then_ends result turn pays = (
       so_far.0 ++ ys,
       exchanges_join gives takes s u t o r q so_far.0 ys so_far.1 more,
@@ -270,8 +270,8 @@ module _ {D S O : Type 0} (medium : D → Medium) (gives : Giving S) (takes : Ta
     none_held c = omega arith
 
     pub works_spent : AdvancesProcess w.process fuel_left (Ok stops.Spent) v
-        → WorksOn gives takes old fuel (Ok now.Spent) (with_process w v) (medium disk) (medium mid)
-        s t o q
+        → WorksOn medium gives takes fuel (scene old disk s o) (Ok now.Spent)
+        (scene (with_process w v) mid t q)
     works_spent advances =
         then_ends old w fuel disk mid mid s t t o q q so_far (with_process w v) []
         (nothing_alone gives takes t q) (Ok now.Spent)
@@ -285,8 +285,8 @@ module _ {D S O : Type 0} (medium : D → Medium) (gives : Giving S) (takes : Ta
         )) nothing_called
 
     pub works_over : (how : ProcessEnd) → AdvancesProcess w.process fuel_left
-        (Ok (stops.Ended how)) v → WorksOn gives takes old fuel (Ok (now.Ended how))
-        (says_abreast (with_process w v)) (medium disk) (medium mid) s t o q
+        (Ok (stops.Ended how)) v → WorksOn medium gives takes fuel (scene old disk s o)
+        (Ok (now.Ended how)) (scene (says_abreast (with_process w v)) mid t q)
     works_over how advances =
         then_ends old w fuel disk mid mid s t t o q q so_far (says_abreast (with_process w v)) []
         (nothing_alone gives takes t q) (Ok (now.Ended how))
@@ -300,8 +300,8 @@ module _ {D S O : Type 0} (medium : D → Medium) (gives : Giving S) (takes : Ta
         )) nothing_called
 
     pub works_in_vain : (why : ProcessFault) → AdvancesProcess w.process fuel_left (Err why) v
-        → WorksOn gives takes old fuel (Err (Work (slice_fault why))) (with_process w v)
-        (medium disk) (medium mid) s t o q
+        → WorksOn medium gives takes fuel (scene old disk s o) (Err (Work (slice_fault why)))
+        (scene (with_process w v) mid t q)
     works_in_vain why advances =
         then_ends old w fuel disk mid mid s t t o q q so_far (with_process w v) []
         (nothing_alone gives takes t q) (Err (Work (slice_fault why)))
@@ -334,7 +334,7 @@ module _ {D S O : Type 0} (medium : D → Medium) (gives : Giving S) (takes : Ta
       pub works_unflushed : (why : WorkFault)
           → FlushesTurn takes (with_process w v) (Err why) w' (medium mid) (medium disk') q r
           → PaysCalls {T = Unit {0}} (Err why) w.store w'.store (medium mid) (medium disk')
-          → WorksOn gives takes old fuel (Err why) w' (medium disk) (medium disk') s t o r
+          → WorksOn medium gives takes fuel (scene old disk s o) (Err why) (scene w' disk' t r)
       works_unflushed why flushes pays =
           then_ends old w fuel disk mid disk' s t t o q r so_far w' (told_lines_of flushes.0)
           (told_alone gives takes t q r flushes.0 flushes.1) (Err why)
@@ -355,8 +355,8 @@ module _ {D S O : Type 0} (medium : D → Medium) (gives : Giving S) (takes : Ta
           + owed (medium disk).sectors w.store.journal.kept + most_saving (medium disk).sectors
       called_last = omega (arith, few, long)
 
-      pub works_given : AsksTurn gives (with_process w v) question (Ok true) w' (medium mid)
-          (medium disk') t u → SoFar old fuel w' disk disk' s u o q
+      pub works_given : AsksTurn medium gives question (asking_scene (with_process w v) mid t)
+          (Ok true) (asking_scene w' disk' u) → SoFar old fuel w' disk disk' s u o q
       works_given asks =
           then_goes old w fuel disk mid disk' s t u o q q so_far w' asks.0
           (asked_alone gives takes question asks.0 t u q asks.1)
@@ -371,9 +371,10 @@ module _ {D S O : Type 0} (medium : D → Medium) (gives : Giving S) (takes : Ta
           (owed (medium disk).sectors w'.store.journal.kept) (most_saving (medium mid).sectors) few
           (omega (arith, less, long)) (omega (arith, one)))
 
-      pub works_waiting : AsksTurn gives (with_process w v) question (Ok false) w' (medium mid)
-          (medium disk') t u
-          → WorksOn gives takes old fuel (Ok now.Waiting) w' (medium disk) (medium disk') s u o q
+      pub works_waiting : AsksTurn medium gives question (asking_scene (with_process w v) mid t)
+          (Ok false) (asking_scene w' disk' u)
+          → WorksOn medium gives takes fuel (scene old disk s o) (Ok now.Waiting)
+          (scene w' disk' u q)
       works_waiting asks =
           then_ends old w fuel disk mid disk' s t u o q q so_far w' asks.0
           (asked_alone gives takes question asks.0 t u q asks.1) (Ok now.Waiting)
@@ -383,8 +384,9 @@ module _ {D S O : Type 0} (medium : D → Medium) (gives : Giving S) (takes : Ta
           (Waits, refl, tt, asks.2 c promise stage there.process there.asking foretold)) called_last
 
       pub works_unasked : (why : WorkFault)
-          → AsksTurn gives (with_process w v) question (Err why) w' (medium mid) (medium disk') t u
-          → WorksOn gives takes old fuel (Err why) w' (medium disk) (medium disk') s u o q
+          → AsksTurn medium gives question (asking_scene (with_process w v) mid t) (Err why)
+          (asking_scene w' disk' u)
+          → WorksOn medium gives takes fuel (scene old disk s o) (Err why) (scene w' disk' u q)
       works_unasked why asks =
           then_ends old w fuel disk mid disk' s t u o q q so_far w' asks.0
           (asked_alone gives takes question asks.0 t u q asks.1) (Err why)
@@ -438,7 +440,7 @@ module _ {D : Type 0} (medium : D → Medium) (c : Course) (promise : Promise) (
     (ends : TurnEnds c promise stage reply exchanges w (medium disk) (medium disk'))
     (few : CallsForEvents (length exchanges + 1) (medium disk) (medium disk')) where
   pub call_carries : TakesSteps c.act → (phase_ended reply ≡ Open → store ≡ w.store)
-      → CallCarries c.code c.config c.guest promise stage c.act reply
+      → CallCarries (invocation c.code c.config c.guest c.act) promise stage reply
       (durable_of (record w { store = store }) replayed) (medium disk) (medium disk') exchanges
   call_carries stepping same =
       let done = ends.done in
@@ -483,8 +485,8 @@ module _ {D S O : Type 0} (medium : D → Medium) (gives : Giving S) (takes : Ta
   carries_by : (store : WorkerStore) (result : Result Now WorkFault)
       → ((reply : Reply) → IsReplyOf result reply → phase_ended reply ≡ Open
       → store ≡ new.store)
-      → WorksOn gives takes old fuel result new (medium disk) (medium disk') source source' outlet
-      outlet'
+      → WorksOn medium gives takes fuel (scene old disk source outlet) result
+      (scene new disk' source' outlet')
       → CallKeeps medium gives takes (Slice fuel)
       (scene (durable_of old replayed) disk source outlet) result
       (scene (durable_of (record new { store = store }) replayed) disk' source' outlet')
@@ -512,16 +514,16 @@ module _ {D S O : Type 0} (medium : D → Medium) (gives : Giving S) (takes : Ta
   )
 
   pub slice_carries : (why : Now)
-      → WorksOn gives takes old fuel (Ok why) new (medium disk) (medium disk') source source'
-      outlet outlet'
+      → WorksOn medium gives takes fuel (scene old disk source outlet) (Ok why)
+      (scene new disk' source' outlet')
       → CallKeeps medium gives takes (Slice fuel)
       (scene (durable_of old replayed) disk source outlet) (Ok why)
       (scene (durable_of new replayed) disk' source' outlet')
   slice_carries why worked = carries_by new.store (Ok why) (λ reply is over. refl) worked
 
   pub slice_fails : (store : WorkerStore) (why : WorkFault)
-      → WorksOn gives takes old fuel (Err why) new (medium disk) (medium disk') source source'
-      outlet outlet'
+      → WorksOn medium gives takes fuel (scene old disk source outlet) (Err why)
+      (scene new disk' source' outlet')
       → CallKeeps medium gives takes (Slice fuel)
       (scene (durable_of old replayed) disk source outlet) (Err why)
       (scene (durable_of (record new { store = store }) replayed) disk' source' outlet')

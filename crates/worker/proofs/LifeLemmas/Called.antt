@@ -14,8 +14,8 @@ use Rattle.sector_disk.specs.rules.Medium.{Medium, Passes}
 use Rattle.record_replay.specs.rules.Calls.{Exchange}
 use Rattle.worker_store.specs.restart_theorem.Lives.{Act, Slice, Batch, Checkpoint, Cause}
 use Rattle.worker_store.specs.restart_theorem.Lives.{OfDisk, Reply}
-use Rattle.worker_store.specs.restart_theorem.Lives.Act.{Upgrade as upgrading}
 use Rattle.worker_store.specs.restart_theorem.Lives.{Fails, Event, Ended, told_in, kept_by_end}
+use Rattle.worker_store.specs.restart_theorem.Lives.Act.{Upgrade as upgrading}
 use Rattle.worker_store.specs.restart_theorem.Courses.{Stage, Open, phase_ended, stage_after}
 use Rattle.worker_store.specs.restart_theorem.Courses.{without_first}
 use Rattle.worker_store.specs.restart_theorem.Promises.{Promise, after, promised, IsKept, AreKept}
@@ -34,13 +34,12 @@ use Rattle.worker.specs.declared.recover_fault.RecoverFault.TheVariants.{Worker}
 use Rattle.worker.specs.rules.CallCounts.{CallsForEvents}
 use Rattle.worker.specs.rules.DurableValues.{DurableValue}
 use Rattle.worker.specs.rules.OpenWorkers.{IsOpenOn}
-use Rattle.worker.specs.rules.DurableCalls.{Answered, CallCarries, ComesOf, HasCauseAt}
-use Rattle.worker.specs.rules.DurableCalls.{IsFailureOf, IsReplyOf, IsReplyTo, TakesTooFew}
+use Rattle.worker.specs.rules.DurableCalls.{Answered, CallCarries, ComesOf, HasCauseAt, IsFailureOf}
+use Rattle.worker.specs.rules.DurableCalls.{IsReplyOf, IsReplyTo, TakesTooFew, invocation}
 use Rattle.worker.specs.rules.OneLife.{opened_in}
 use Rattle.worker.specs.laws.OneLife.{IsLater, released_in}
 use Rattle.worker.proofs.CallCountLemmas.{calls_longer}
-use Rattle.worker.proofs.LifeLemmas.Joined.{events_as_many}
-use Rattle.worker.proofs.LifeLemmas.Joined.{stage_join, promised_join, kept_split}
+use Rattle.worker.proofs.LifeLemmas.Joined.{events_as_many, stage_join, promised_join, kept_split}
 use Rattle.worker.proofs.LifeLemmas.Joined.{told_join, opened_behind, told_are, none_opens}
 use Rattle.worker.proofs.LifeLemmas.Joined.{acts_stay, opened_stays}
 
@@ -137,7 +136,8 @@ module _ (m : Module) (config : Settings) (guest : Guest) (promise : Promise) (s
         → IsForetold (stage_after stage events) rest
 
   pub call_goes : (old new : Medium) → phase_ended reply ≡ Open
-      → CallCarries m config guest promise stage act reply w old new exchanges → CallGoes old new
+      → CallCarries (invocation m config guest act) promise stage reply w old new exchanges
+      → CallGoes old new
   call_goes old new goes carries =
       let end : Event = Ended act reply carries.held (saved_of w.process) in
       let all : List Event = carries.events ++ end ∷ [] in
@@ -210,7 +210,7 @@ pub call_fails : (m : Module) (config : Settings) (guest : Guest) (promise : Pro
     → kept_by_end act (saved_of w.process) (promised promise events).kept
     ≡ (promised promise events).kept)
     → HasDiskCause config (Worker why) old new → promise.has_opened ≡ true
-    → CallCarries m config guest promise stage act (Fails cause) w old new exchanges
+    → CallCarries (invocation m config guest act) promise stage (Fails cause) w old new exchanges
     → CallFails m config promise stage why exchanges old new
 call_fails m config guest promise stage act cause why w exchanges old new is widens disk opened
     carries =

@@ -7,24 +7,18 @@ use Rattle.process_rules.specs.Runs.{Kept}
 use Rattle.state_image.specs.rules.ProcessImage.{Saved}
 use Rattle.record_replay.specs.rules.Calls.{Exchange, Asks, Tells}
 use Rattle.worker_store.specs.restart_theorem.Lives.{Act, Slice, Batch, Checkpoint, Upgrade, Inputs}
-use Rattle.worker_store.specs.restart_theorem.Lives.{Cause}
-use Rattle.worker_store.specs.restart_theorem.Lives.{OfOutlet}
-use Rattle.worker_store.specs.restart_theorem.Lives.{Reply, Spent, kept_by_end}
+use Rattle.worker_store.specs.restart_theorem.Lives.{Cause, OfOutlet, Reply, Spent, kept_by_end}
 use Rattle.worker_store.specs.restart_theorem.Lives.{Waits, Over, Done, Fails, Event, Told, Asked}
-use Rattle.worker_store.specs.restart_theorem.Lives.{Opened, Ended}
-use Rattle.worker_store.specs.restart_theorem.Lives.{told_in, End, Finished, Stopped, Failed, Life}
+use Rattle.worker_store.specs.restart_theorem.Lives.{Opened, Ended, told_in, End, Finished, Stopped}
+use Rattle.worker_store.specs.restart_theorem.Lives.{Failed, Life}
 use Rattle.worker_store.specs.restart_theorem.Courses.{Stage, Phase, Shut, Unheard, Open, NoneThere}
-use Rattle.worker_store.specs.restart_theorem.Courses.{Broken}
-use Rattle.worker_store.specs.restart_theorem.Courses.{Closed, HasLastAsked}
-use Rattle.worker_store.specs.restart_theorem.Courses.{phase_told, phase_ended, next_stage}
-use Rattle.worker_store.specs.restart_theorem.Courses.{stage_after}
+use Rattle.worker_store.specs.restart_theorem.Courses.{Broken, Closed, HasLastAsked, phase_told}
+use Rattle.worker_store.specs.restart_theorem.Courses.{phase_ended, next_stage, stage_after}
 use Rattle.worker_store.specs.restart_theorem.Courses.{first_taken, without_first, IsToldIn}
-use Rattle.worker_store.specs.restart_theorem.Courses.{IsAskedIn}
-use Rattle.worker_store.specs.restart_theorem.Courses.{MayFail, HasFailed, HasStopped, MayEnd}
-use Rattle.worker_store.specs.restart_theorem.Courses.{at_beginning}
+use Rattle.worker_store.specs.restart_theorem.Courses.{IsAskedIn, MayFail, HasFailed, HasStopped}
+use Rattle.worker_store.specs.restart_theorem.Courses.{MayEnd, at_beginning}
 use Rattle.worker_store.specs.restart_theorem.Promises.{Promise, as_begun, after, promised, AreKept}
-use Rattle.worker_store.specs.restart_theorem.Promises.{IsKept}
-use Rattle.worker_store.specs.restart_theorem.Promises.{IsReply, IsLived}
+use Rattle.worker_store.specs.restart_theorem.Promises.{IsKept, IsReply, IsLived}
 use Rattle.worker_store.proofs.RestartLemmas.Pleas.{fails_or_open, fails_or_last}
 use Rattle.worker.specs.laws.OneLife.{released_in, taken_in}
 use Rattle.worker.specs.laws.Uncut.{AreTrue}

@@ -1,7 +1,6 @@
 -- The calls of one life make a life that goes on.
 use Rattle.std.proofs.Common.{◌≡◌, ℕ, ◌+◌, ◌<◌, ◌≤◌, List, [], ◌∷◌, ◌++◌, refl, sym, ap, ◌∙◌}
-use Rattle.std.proofs.Common.{length, length-append}
-use Rattle.std.proofs.Common.{subst, inl, inr, ⊎_elim, arith}
+use Rattle.std.proofs.Common.{length, length-append, subst, inl, inr, ⊎_elim, arith}
 use Rattle.std.proofs.lemmas.Bool.Decides.{nat_tests}
 use Rattle.std.proofs.lemmas.List.{append-nil, append_assoc}
 use Rattle.std.specs.Prelude.{◌⊎◌, Bool, Result, Ok, Err, Option, Some, None, true, false, nat_le}
@@ -19,23 +18,19 @@ use Rattle.record_replay.specs.rules.Calls.{Releases, AnswersInOrder, Exchanges}
 use Rattle.record_replay.proofs.Following.{exchanges_join}
 use Rattle.record_replay.proofs.Joining.{tells_ask_nothing, releases_of_tells}
 use Rattle.worker_store.specs.restart_theorem.Lives.{Act, Inputs, Cause, OfDisk, OfSource, OfAnswer}
-use Rattle.worker_store.specs.restart_theorem.Lives.{OfOutlet}
-use Rattle.worker_store.specs.restart_theorem.Lives.{OfMemory, OfBounds, OfJournal, OfLines, Fails}
-use Rattle.worker_store.specs.restart_theorem.Lives.{Event, Ended}
-use Rattle.worker_store.specs.restart_theorem.Lives.{told_in, kept_by_end, Beginning}
-use Rattle.worker_store.specs.restart_theorem.Lives.{Creates, End, Finished, Stopped, Failed, Life}
-use Rattle.worker_store.specs.restart_theorem.Lives.{Slice, Batch, Checkpoint, Upgrade}
+use Rattle.worker_store.specs.restart_theorem.Lives.{OfOutlet, OfMemory, OfBounds, OfJournal}
+use Rattle.worker_store.specs.restart_theorem.Lives.{OfLines, Fails, Event, Ended, told_in}
+use Rattle.worker_store.specs.restart_theorem.Lives.{kept_by_end, Beginning, Creates, End, Finished}
+use Rattle.worker_store.specs.restart_theorem.Lives.{Stopped, Failed, Life, Slice, Batch}
+use Rattle.worker_store.specs.restart_theorem.Lives.{Checkpoint, Upgrade}
 use Rattle.worker_store.specs.restart_theorem.Courses.{Stage, Phase, Shut, Unheard, NoneThere}
-use Rattle.worker_store.specs.restart_theorem.Courses.{Broken, MayFail}
-use Rattle.worker_store.specs.restart_theorem.Courses.{Open, Closed, at_beginning, next_stage}
-use Rattle.worker_store.specs.restart_theorem.Courses.{stage_after}
-use Rattle.worker_store.specs.restart_theorem.Courses.{HasFailed, HasDiskFault, HasStopped}
-use Rattle.worker_store.specs.restart_theorem.Courses.{HasNotStopped}
+use Rattle.worker_store.specs.restart_theorem.Courses.{Broken, MayFail, Open, Closed, at_beginning}
+use Rattle.worker_store.specs.restart_theorem.Courses.{next_stage, stage_after, HasFailed}
+use Rattle.worker_store.specs.restart_theorem.Courses.{HasDiskFault, HasStopped, HasNotStopped}
 use Rattle.worker_store.specs.restart_theorem.Courses.{HasLastAsked, IsCutIn, MayEnd}
 use Rattle.worker_store.specs.restart_theorem.Promises.{Promise, as_begun, after, promised, IsKept}
 use Rattle.worker_store.specs.restart_theorem.Promises.{AreKept, OpensAnew}
-use Rattle.worker_store.specs.restart_theorem.Holds.{HoldsPromise, KeepsPromise}
-use Rattle.worker_store.specs.restart_theorem.Holds.{KeepsBounds}
+use Rattle.worker_store.specs.restart_theorem.Holds.{HoldsPromise, KeepsPromise, KeepsBounds}
 use Rattle.worker_store.specs.restart_theorem.Between.{IsLivedOn}
 use Rattle.worker_store.proofs.RestartLemmas.Promised.{calls_join}
 use Rattle.worker_store.proofs.RestartLemmas.Pleas.{fails_or_open, fails_or_last}
@@ -53,15 +48,14 @@ use Rattle.worker.specs.declared.recover_fault.RecoverFault.TheVariants as recov
 use Rattle.worker.specs.rules.CallCounts.{CallsForEvents}
 use Rattle.worker.specs.rules.DurableValues.{DurableValue}
 use Rattle.worker.specs.rules.OneLife.{opened, unopened, opened_in, shown_first, IsCauseOf}
+use Rattle.worker.specs.rules.Scenes.{scene, site}
 use Rattle.worker.specs.laws.OneLife.{IsLater, CameTrue, IsLifeOver, released_in, EndsBy, IsLifeOf}
 use Rattle.worker.specs.laws.OneLife.{CallsMakeLives, AnythingComesTrue}
 use Rattle.worker.proofs.CallCountLemmas.{calls_longer, calls_then}
-use Rattle.worker.proofs.LifeLemmas.Joined.{stage_join, promised_join}
-use Rattle.worker.proofs.LifeLemmas.Joined.{told_join, opened_before, shown_before}
-use Rattle.worker.proofs.LifeLemmas.Joined.{released_join}
+use Rattle.worker.proofs.LifeLemmas.Joined.{stage_join, promised_join, told_join, opened_before}
+use Rattle.worker.proofs.LifeLemmas.Joined.{shown_before, released_join}
 use Rattle.worker.proofs.LifeLemmas.Called.{later_still, HasDiskCause}
-use Rattle.worker.proofs.LifeLemmas.Making.{IsGoing, HasBroken, ComeTo, CallsMake}
-use Rattle.worker.proofs.LifeLemmas.Making.{calls_make}
+use Rattle.worker.proofs.LifeLemmas.Making.{IsGoing, HasBroken, ComeTo, CallsMake, calls_make}
 use Rattle.worker.proofs.LifeLemmas.Making.{come_since}
 use Rattle.worker.proofs.LifeLemmas.Opening.{IsOpened, HasNotOpened, IsUnopenedBy, opening}
 use Rattle.worker.proofs.EndLemmas.{not_both}
@@ -542,37 +536,40 @@ told_alone gives takes source outlet outlet' told released = record {
 
 module _ {D S O : Type 0} (medium : D → Medium) (gives : Giving S) (takes : Taking O) where
   pub calls_make_lives : CallsMakeLives medium gives takes
-  calls_make_lives m config bytes so_far acts found last source source' outlet outlet' begins worker
-      undone accepted (opened {disk = disk} {outlet' = inside} {w = w} starts calls) keeps bounded =
-      let o = opening m config so_far medium takes bytes found disk outlet inside begins (Ok w)
-      accepted keeps bounded starts in
-      let c = calls_make medium gives takes acts w disk last source source' inside outlet' undone
+  calls_make_lives m config bytes so_far acts found one accepted
+      (opened {begins = begins} {w = w} {disk = disk} {outlet = inside} {undone = undone}
+      {last = last} starts calls) keeps bounded =
+      let o = opening m config so_far medium takes bytes found.disk found.outlet
+      (site disk inside) begins (Ok w) accepted keeps bounded starts in
+      let c = calls_make medium gives takes acts (scene w disk found.source inside) undone last
       calls
       in (
         map Tells o.0 ++ c.0,
-        exchanges_join gives takes source source' source outlet outlet' inside (map Tells o.0) c.0
-            (told_alone gives takes source outlet inside o.0 o.1) c.1,
+        exchanges_join gives takes found.source last.source found.source found.outlet last.outlet
+            inside (map Tells o.0) c.0
+            (told_alone gives takes found.source found.outlet inside o.0 o.1) c.1,
         λ inputs count acts_are came.
             let stage = at_beginning begins inputs in
             let heard = parts_are_foretold m config so_far so_far stage stage (map Tells o.0) c.0
             came.foretold in
             let is = o.2 inputs came.sectors came.room heard.1 in
-            ends_opened m config bytes so_far inputs begins (map Tells o.0 ++ c.0) worker count
-            (medium found) (medium last) w (map Tells o.0) c.0 undone (medium disk)
+            ends_opened m config bytes so_far inputs begins (map Tells o.0 ++ c.0) (Some w) count
+            (medium found.disk) (medium last.disk) w (map Tells o.0) c.0 undone (medium disk)
             refl refl came is (c.2 m config is.guest (promised (as_begun begins so_far) is.events)
             (stage_after stage is.events)
             is.process is.opened (is.acts ∙ acts_are) (is.foretold c.0 came.foretold) is.keeps
             is.bounded),
       )
-  calls_make_lives m config bytes so_far acts found last source source' outlet outlet' begins worker
-      undone accepted (unopened {why = why} starts) keeps bounded =
-      let o = opening m config so_far medium takes bytes found last outlet outlet' begins (Err why)
-      accepted keeps bounded starts in (
+  calls_make_lives m config bytes so_far acts found one accepted
+      (unopened {begins = begins} {why = why} {disk = disk} {outlet = inside} starts) keeps
+      bounded =
+      let o = opening m config so_far medium takes bytes found.disk found.outlet
+      (site disk inside) begins (Err why) accepted keeps bounded starts in (
         map Tells o.0,
-        told_alone gives takes source outlet outlet' o.0 o.1,
+        told_alone gives takes found.source found.outlet inside o.0 o.1,
         λ inputs count acts_are came.
-            ends_unopened m config bytes so_far inputs begins (map Tells o.0) worker count
-            (medium found) (medium last) why came refl
+            ends_unopened m config bytes so_far inputs begins (map Tells o.0) None count
+            (medium found.disk) (medium disk) why came refl
             (o.2 inputs came.sectors came.room came.foretold),
       )
 

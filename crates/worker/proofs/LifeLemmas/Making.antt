@@ -9,11 +9,9 @@ use Rattle.state_image.specs.rules.ProcessImage.{Saved}
 use Rattle.sector_disk.specs.rules.Medium.{Medium}
 use Rattle.record_replay.specs.rules.Calls.{Giving, Taking, Exchange, Exchanges}
 use Rattle.record_replay.proofs.Following.{exchanges_join}
-use Rattle.worker_store.specs.restart_theorem.Lives.{Act, Cause}
-use Rattle.worker_store.specs.restart_theorem.Lives.{OfDisk, Reply, Fails, Event, Ended, told_in}
-use Rattle.worker_store.specs.restart_theorem.Lives.{kept_by_end}
-use Rattle.worker_store.specs.restart_theorem.Courses.{Stage, Open, stage_after}
-use Rattle.worker_store.specs.restart_theorem.Courses.{without_first}
+use Rattle.worker_store.specs.restart_theorem.Lives.{Act, Cause, OfDisk, Reply, Fails, Event, Ended}
+use Rattle.worker_store.specs.restart_theorem.Lives.{told_in, kept_by_end}
+use Rattle.worker_store.specs.restart_theorem.Courses.{Stage, Open, stage_after, without_first}
 use Rattle.worker_store.specs.restart_theorem.Promises.{Promise, after, promised, IsKept, AreKept}
 use Rattle.worker_store.specs.restart_theorem.Holds.{KeepsPromise, KeepsBounds}
 use Rattle.worker_store.proofs.RestartLemmas.Promised.{calls_join}
@@ -25,13 +23,13 @@ use Rattle.worker.specs.declared.recover_fault.RecoverFault.TheVariants.{Worker}
 use Rattle.worker.specs.rules.CallCounts.{CallsForEvents}
 use Rattle.worker.specs.rules.DurableValues.{DurableValue}
 use Rattle.worker.specs.rules.OpenWorkers.{IsOpenOn}
-use Rattle.worker.specs.rules.DurableCalls.{CallCarries}
+use Rattle.worker.specs.rules.DurableCalls.{CallCarries, invocation}
 use Rattle.worker.specs.rules.OneLife.{CallsInOrder, no_more, called, call_failed, IsCauseOf}
 use Rattle.worker.specs.rules.OneLife.{opened_in}
+use Rattle.worker.specs.rules.Scenes.{Scene, Surroundings}
 use Rattle.worker.specs.laws.OneLife.{IsLater, released_in}
 use Rattle.worker.proofs.CallCountLemmas.{calls_none, calls_then}
-use Rattle.worker.proofs.LifeLemmas.Joined.{told_join}
-use Rattle.worker.proofs.LifeLemmas.Joined.{released_join, opened_behind}
+use Rattle.worker.proofs.LifeLemmas.Joined.{told_join, released_join, opened_behind}
 use Rattle.worker.proofs.LifeLemmas.Called.{later_still, HasDiskCause, cause_since}
 use Rattle.worker.proofs.LifeLemmas.Called.{CallFails, CallGoes, answers_go, call_fails, call_goes}
 use Rattle.worker.proofs.LifeLemmas.Called.{cause_of_call, failure_of}
@@ -200,48 +198,49 @@ call_then m config guest promise stage act reply acts w first rest undone old mi
     (call.acts ∙ ap without_first acts_are) (call.foretold rest foretold) call.keeps call.bounded)
 
 module _ {D S O : Type 0} (medium : D → Medium) (gives : Giving S) (takes : Taking O) where
-  pub calls_make : (acts : List Act) (w : DurableValue) (disk last : D) (source source' : S)
-      (outlet outlet' : O) (undone : Result (List Act) RecoverFault)
-      → CallsInOrder medium gives takes acts w disk source outlet undone last source' outlet'
-      → CallsComeOut gives takes acts w undone (medium disk) (medium last) source source' outlet
-      outlet'
-  calls_make acts w disk last source source' outlet outlet' undone no_more = (
+  pub calls_make : (acts : List Act) (before : Scene D S O)
+      (undone : Result (List Act) RecoverFault) (last : Surroundings D S O)
+      → CallsInOrder medium gives takes acts before undone last
+      → CallsComeOut gives takes acts before.worker undone (medium before.disk) (medium last.disk)
+      before.source last.source before.outlet last.outlet
+  calls_make acts before undone last no_more = (
     [],
     record { asked = refl; released = refl },
     λ m config guest promise stage p open_on acts_are foretold keeps bounded.
-        none_called m config guest promise stage p acts w (medium disk) open_on acts_are keeps
-        bounded,
+        none_called m config guest promise stage p acts before.worker (medium before.disk) open_on
+        acts_are keeps bounded,
   )
-  calls_make acts w disk last source source' outlet outlet' undone
-      (called {act = act} {acts = others} {w' = w'} {disk' = mid} {source' = inside}
-      {outlet' = beyond} said call more) =
-      let rest = calls_make others w' mid last inside source' beyond outlet' undone more in (
+  calls_make acts before undone last (called {act = act} {acts = others} {after = mid} said call
+      more) =
+      let rest = calls_make others mid undone last more in (
         call.0 ++ rest.0,
-        exchanges_join gives takes source source' inside outlet outlet' beyond call.0 rest.0
-            call.1 rest.1,
+        exchanges_join gives takes before.source last.source mid.source before.outlet last.outlet
+            mid.outlet call.0 rest.0 call.1 rest.1,
         λ m config guest promise stage p open_on acts_are foretold keeps bounded.
             let first = parts_are_foretold m config promise promise stage stage call.0 rest.0
             foretold in
             let did = call.2 m config guest promise stage p others open_on acts_are first.1 in
-            call_then m config guest promise stage act did.0 others w' call.0 rest.0 undone
-            (medium disk) (medium mid) (medium last) acts_are foretold
-            (call_goes m config guest promise stage act did.0 w' call.0 (medium disk)
-            (medium mid) (answers_go act said did.0 did.1) did.3) (rest.2 m config guest),
+            call_then m config guest promise stage act did.0 others mid.worker call.0 rest.0
+            undone (medium before.disk) (medium mid.disk) (medium last.disk) acts_are foretold
+            (call_goes m config guest promise stage act did.0 mid.worker call.0
+            (medium before.disk) (medium mid.disk) (answers_go act said did.0 did.1) did.3)
+            (rest.2 m config guest),
       )
-  calls_make acts w disk last source source' outlet outlet' undone
-      (call_failed {act = act} {acts = others} {w' = w'} {why = why} call fails) = (
+  calls_make acts before undone last
+      (call_failed {act = act} {acts = others} {after = after} {why = why} call fails) = (
         call.0,
         call.1,
         λ m config guest promise stage p open_on acts_are foretold keeps bounded.
             let did = call.2 m config guest promise stage p others open_on acts_are foretold in
             let failure = failure_of act why did.0 did.1 in
-            calls_end m config promise stage why call.0 (medium disk) (medium last)
-            (call_fails m config guest promise stage act failure.0 why w' call.0 (medium disk)
-            (medium last) failure.1
-            (call_widens_none act m config guest promise stage p w w' why failure.0 (medium disk)
-            (medium last) call.0 open_on failure.1 fails call.3)
-            (cause_of_call why guest config w'.process (medium disk) (medium last) did.2)
-            open_on.opened
-            (subst (λ (r : Reply). CallCarries m config guest promise stage act r w' (medium disk)
-            (medium last) call.0) failure.2 did.3)),
+            calls_end m config promise stage why call.0 (medium before.disk) (medium after.disk)
+            (call_fails m config guest promise stage act failure.0 why after.worker call.0
+            (medium before.disk) (medium after.disk) failure.1
+            (call_widens_none act m config guest promise stage p before.worker after.worker why
+            failure.0 (medium before.disk) (medium after.disk) call.0 open_on failure.1 fails
+            call.3)
+            (cause_of_call why guest config after.worker.process (medium before.disk)
+            (medium after.disk) did.2) open_on.opened
+            (subst (λ (r : Reply). CallCarries (invocation m config guest act) promise stage r
+            after.worker (medium before.disk) (medium after.disk) call.0) failure.2 did.3)),
       )

@@ -1,7 +1,6 @@
 -- How a life opens, or doesn't.
 use Rattle.std.proofs.Common.{◌≡◌, ℕ, ◌+◌, ◌<◌, ◌≤◌, List, [], ◌∷◌, ◌++◌, refl, sym, ap, ◌∙◌}
-use Rattle.std.proofs.Common.{length, length-append}
-use Rattle.std.proofs.Common.{subst, inl, inr, ⊎_elim, arith}
+use Rattle.std.proofs.Common.{length, length-append, subst, inl, inr, ⊎_elim, arith}
 use Rattle.std.proofs.lemmas.List.{append-nil}
 use Rattle.std.specs.Prelude.{◌⊎◌, Result, Ok, Err, IfErr, Some, None, false, true, map}
 use Rattle.wasm_syntax.specs.declared.module.Module.{Module}
@@ -12,8 +11,7 @@ use Rattle.machine.specs.rules.Offers.{offer}
 use Rattle.process_rules.specs.Processes.{ProcessState, Guest}
 use Rattle.state_image.specs.rules.Saving.{saved_of}
 use Rattle.sector_disk.specs.rules.DiskImage.{DiskImage}
-use Rattle.sector_disk.specs.rules.Medium.{Medium}
-use Rattle.sector_disk.specs.rules.Medium.{CallsUpTo}
+use Rattle.sector_disk.specs.rules.Medium.{Medium, CallsUpTo}
 use Rattle.disk_layout.specs.declared.fault.LayoutFault.TheVariants as layout
 use Rattle.disk_layout.specs.rules.Places.{Geometry, geometry_of, total_sectors}
 use Rattle.disk_layout.specs.rules.Unsynced.{most_unsynced}
@@ -43,12 +41,12 @@ use Rattle.worker.specs.rules.DurableValues.{DurableValue}
 use Rattle.worker.specs.rules.OpenWorkers.{IsOpenOn}
 use Rattle.worker.specs.rules.DurableCreations.{CreationKeeps, IsNotCreatedOn, OpensOn}
 use Rattle.worker.specs.rules.DurableCreations.{OpensOrNot, LeavesCreation}
-use Rattle.worker.specs.rules.Recoveries.{SaysNoWorker, Recovers}
-use Rattle.worker.specs.rules.Recoveries.{Reopens, ReopensInVain, FindsNone, ReopensOrNot}
-use Rattle.worker.specs.rules.Recoveries.{EndsInVain}
-use Rattle.worker.specs.rules.Recoveries.{MayNotReopen}
+use Rattle.worker.specs.rules.Recoveries.{SaysNoWorker, Reopens, ReopensInVain, FindsNone}
+use Rattle.worker.specs.rules.Recoveries.{ReopensOrNot, EndsInVain, MayNotReopen}
+use Rattle.worker.specs.rules.ShownDisks.{Recovers}
 use Rattle.worker.specs.rules.OneLife.{BeginsLife, recovered, created, opened_by, IsCauseOf}
-use Rattle.worker.specs.rules.OneLife.{opened_in}
+use Rattle.worker.specs.rules.OneLife.{opened_in, recipe}
+use Rattle.worker.specs.rules.Scenes.{Site, site}
 use Rattle.worker.specs.laws.OneLife.{IsLater, released_in}
 use Rattle.worker.proofs.CallCountLemmas.{calls_once}
 use Rattle.worker.proofs.LifeLemmas.Joined.{stage_join, kept_split, counts_grow, told_join}
@@ -436,15 +434,15 @@ OpeningIs m config so_far takes bytes begins result found disk outlet outlet' = 
     → OpensSo m config (as_begun begins so_far) inputs begins (map Tells told) result found disk)
 
 pub opening : (m : Module) (config : Settings) (so_far : Promise) {D O : Type 0}
-    (medium : D → Medium) (takes : Taking O) (bytes : List ℕ) (found disk : D)
-    (outlet outlet' : O) (begins : Beginning) (result : Result DurableValue RecoverFault)
+    (medium : D → Medium) (takes : Taking O) (bytes : List ℕ) (found : D) (outlet : O)
+    (here : Site D O) (begins : Beginning) (result : Result DurableValue RecoverFault)
     → IsAccepted offer config.pages bytes m → KeepsPromise m config so_far (medium found)
     → KeepsBounds so_far.events (medium found)
-    → BeginsLife medium takes bytes config found outlet begins result disk outlet'
-    → OpeningIs m config so_far takes bytes begins result (medium found) (medium disk) outlet
-    outlet'
-opening m config so_far medium takes bytes found disk outlet outlet' begins result accepted keeps
-    bounded (recovered image leaves says by recovery) =
+    → BeginsLife medium takes (recipe bytes config) (site found outlet) begins result here
+    → OpeningIs m config so_far takes bytes begins result (medium found) (medium here.disk) outlet
+    here.outlet
+opening m config so_far medium takes bytes found outlet here begins result accepted keeps bounded
+    (recovered {disk = disk} image leaves says by recovery) =
     let did = recovery m config so_far image leaves keeps bounded in (
       did.0,
       did.1,
@@ -452,8 +450,9 @@ opening m config so_far medium takes bytes found disk outlet outlet' begins resu
           recovered_so m config so_far inputs medium takes bytes found disk did.0 result says
           (did.2 inputs foretold),
     )
-opening m config so_far medium takes bytes found disk outlet outlet' begins result accepted keeps
-    bounded (created {mid = mid} none made image leaves says by recovery creation causes) =
+opening m config so_far medium takes bytes found outlet here begins result accepted keeps bounded
+    (created {mid = mid} {disk = disk} {outlet = outlet'} none made image leaves says by recovery
+    creation causes) =
     let did = recovery m config so_far image leaves keeps bounded in (
       did.0,
       did.1,

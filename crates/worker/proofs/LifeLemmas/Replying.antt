@@ -1,6 +1,6 @@
 -- What the last slice or batch of a life has answered, from the calls of that life.
 use Rattle.std.proofs.Common.{◌≡◌, ◌⊎◌, inl, inr, ℕ, List, [], ◌∷◌, ◌++◌, refl, sym, ap, ◌∙◌}
-use Rattle.std.proofs.Common.{subst, Ok, append_assoc, append-nil}
+use Rattle.std.proofs.Common.{subst, Ok, Err, append_assoc, append-nil}
 use Rattle.std.specs.Prelude.{Result, map}
 use Rattle.wasm_syntax.specs.declared.module.Module.{Module}
 use Rattle.wasi_abi.specs.rules.Configs.{Settings}
@@ -13,11 +13,9 @@ use Rattle.record_replay.proofs.Following.{exchanges_join}
 use Rattle.record_replay.specs.declared.slices.now.Now.{Now}
 use Rattle.record_replay.specs.declared.slices.now.Now.TheVariants as now
 use Rattle.worker_store.specs.restart_theorem.Lives.{Act, Slice, Batch, Checkpoint, Upgrade, Reply}
-use Rattle.worker_store.specs.restart_theorem.Lives.{Spent, Event}
-use Rattle.worker_store.specs.restart_theorem.Lives.{Told, Asked, Opened, Ended, told_in, Inputs}
-use Rattle.worker_store.specs.restart_theorem.Lives.{Beginning}
-use Rattle.worker_store.specs.restart_theorem.Courses.{Stage, at_beginning}
-use Rattle.worker_store.specs.restart_theorem.Courses.{stage_after}
+use Rattle.worker_store.specs.restart_theorem.Lives.{Spent, Event, Told, Asked, Opened, Ended}
+use Rattle.worker_store.specs.restart_theorem.Lives.{told_in, Inputs, Beginning}
+use Rattle.worker_store.specs.restart_theorem.Courses.{Stage, at_beginning, stage_after}
 use Rattle.worker_store.specs.restart_theorem.Courses.{without_first}
 use Rattle.worker_store.specs.restart_theorem.Promises.{Promise, as_begun, after, promised, IsKept}
 use Rattle.worker_store.specs.restart_theorem.Promises.{AreKept}
@@ -31,9 +29,9 @@ use Rattle.worker.specs.declared.recover_fault.RecoverFault.{RecoverFault}
 use Rattle.worker.specs.rules.DurableValues.{DurableValue}
 use Rattle.worker.specs.rules.OpenWorkers.{IsOpenOn}
 use Rattle.worker.specs.rules.DurableCalls.{Answered, IsReplyOf, IsReplyTo, CallCarries}
-use Rattle.worker.specs.rules.DurableCalls.{call_events}
-use Rattle.worker.specs.rules.OneLife.{CallsInOrder, no_more, called, call_failed, opened}
-use Rattle.worker.specs.rules.OneLife.{unopened}
+use Rattle.worker.specs.rules.DurableCalls.{call_events, invocation}
+use Rattle.worker.specs.rules.OneLife.{CallsInOrder, no_more, called, call_failed, opened, unopened}
+use Rattle.worker.specs.rules.Scenes.{Scene, scene, site, Surroundings}
 use Rattle.worker.specs.laws.OneLife.{released_in}
 use Rattle.worker.specs.laws.Uncut.{uncut}
 use Rattle.worker.proofs.LifeLemmas.Joined.{stage_join, told_join, told_are, acts_stay}
@@ -95,7 +93,8 @@ call_says before act reply held w exchanges events are =
 
 module _ (m : Module) (config : Settings) (guest : Guest) (promise : Promise) (stage : Stage)
     (act : Act) (reply : Reply) (w : DurableValue) (old new : Medium) (exchanges : List Exchange)
-    (carries : CallCarries m config guest promise stage act reply w old new exchanges) where
+    (carries : CallCarries (invocation m config guest act) promise stage reply w old new
+    exchanges) where
   abbrev all_events : List Event
   all_events = call_events carries.events act reply carries.held w
 
@@ -164,13 +163,12 @@ says_on m config promise stage first rest outcome outcome' events kept told_so o
     }
 
 module _ {D S O : Type 0} (medium : D → Medium) (gives : Giving S) (takes : Taking O) where
-  calls_say : (acts : List Act) (w : DurableValue) (disk last : D) (source source' : S)
-      (outlet outlet' : O) (undone : Result (List Act) RecoverFault)
-      (calls : CallsInOrder medium gives takes acts w disk source outlet undone last
-      source' outlet') → undone ≡ Ok []
-      → CallsSay gives takes acts w (medium disk) source source' outlet outlet'
-      (λ before. outcome_after before calls)
-  calls_say acts w disk last source source' outlet outlet' undone no_more is = (
+  calls_say : (acts : List Act) (from : Scene D S O) (undone : Result (List Act) RecoverFault)
+      (last : Surroundings D S O) (calls : CallsInOrder medium gives takes acts from undone last)
+      → undone ≡ Ok []
+      → CallsSay gives takes acts from.worker (medium from.disk) from.source last.source
+      from.outlet last.outlet (λ before. outcome_after before calls)
+  calls_say acts from undone last no_more is = (
     [],
     record { asked = refl; released = refl },
     λ m config guest promise stage p open_on acts_are foretold. record {
@@ -180,42 +178,39 @@ module _ {D S O : Type 0} (medium : D → Medium) (gives : Giving S) (takes : Ta
       says = λ before. refl;
     },
   )
-  calls_say acts w disk last source source' outlet outlet' undone
-      (called {act = act} {acts = others} {w' = w'} {disk' = mid} {source' = inside}
-      {outlet' = beyond} said call more) is =
-      let rest = calls_say others w' mid last inside source' beyond outlet' undone more is in (
+  calls_say acts from undone last (called {act = act} {acts = others} {after = mid} said call more)
+      is =
+      let rest = calls_say others mid undone last more is in (
         call.0 ++ rest.0,
-        exchanges_join gives takes source source' inside outlet outlet' beyond call.0 rest.0
-            call.1 rest.1,
+        exchanges_join gives takes from.source last.source mid.source from.outlet last.outlet
+            mid.outlet call.0 rest.0 call.1 rest.1,
         λ m config guest promise stage p open_on acts_are foretold.
             let first = parts_are_foretold m config promise promise stage stage call.0 rest.0
             foretold in
             let did = call.2 m config guest promise stage p others open_on acts_are first.1 in
             let again = did.3.goes_on (answers_go act said did.0 did.1) in
+            let w : DurableValue = mid.worker in
+            let old : Medium = medium from.disk in
+            let new : Medium = medium mid.disk in
+            let all : List Event =
+            all_events m config guest promise stage act did.0 w old new call.0 did.3 in
             says_on m config promise stage call.0 rest.0
             (λ before. outcome_after (outcome_of_act act before said) more)
-            (λ before. outcome_after before more)
-            (all_events m config guest promise stage act did.0 w' (medium disk) (medium mid) call.0
-            did.3) did.3.kept
-            (told_all m config guest promise stage act did.0 w' (medium disk) (medium mid) call.0
-            did.3)
+            (λ before. outcome_after before more) all did.3.kept
+            (told_all m config guest promise stage act did.0 w old new call.0 did.3)
             (λ before. (
               outcome_of_act act before said,
-              call_says (reply_of before) act did.0 did.3.held w' call.0 did.3.events did.3.are
-                  ∙ reply_to act said before did.0 did.3.held (saved_of w'.process) did.1,
+              call_says (reply_of before) act did.0 did.3.held w call.0 did.3.events did.3.are
+                  ∙ reply_to act said before did.0 did.3.held (saved_of w.process) did.1,
               refl,
             ))
-            (rest.2 m config guest (promised promise (all_events m config guest promise stage act
-            did.0 w' (medium disk) (medium mid) call.0 did.3))
-            (stage_after stage (all_events m config guest promise stage act did.0 w' (medium disk)
-            (medium mid) call.0 did.3)) again.0 again.1
-            (acts_left m config guest promise stage act did.0 w' (medium disk) (medium mid) call.0
-            did.3 others acts_are)
-            (still_foretold m config guest promise stage act did.0 w' (medium disk) (medium mid)
-            call.0 did.3 rest.0 foretold)),
+            (rest.2 m config guest (promised promise all) (stage_after stage all) again.0 again.1
+            (acts_left m config guest promise stage act did.0 w old new call.0 did.3 others
+            acts_are)
+            (still_foretold m config guest promise stage act did.0 w old new call.0 did.3 rest.0
+            foretold)),
       )
-  calls_say acts w disk last source source' outlet outlet' undone (call_failed call fails) is =
-      absurd (cc)
+  calls_say acts from undone last (call_failed call fails) is = absurd (cc)
 
 -- ---- the slice that ends last
 
@@ -317,13 +312,13 @@ answered_so m config so_far begins inputs front events outcome kept says =
 
 module _ {D S O : Type 0} (medium : D → Medium) (gives : Giving S) (takes : Taking O) where
   pub lives_end_as_said : LivesEndAsSaid medium gives takes
-  lives_end_as_said m config bytes so_far acts found last source source' outlet outlet' begins
-      worker undone accepted (opened {disk = disk} {outlet' = inside} {w = w} starts
-      calls) is sectors room keeps bounded =
-      let o = opening m config so_far medium takes bytes found disk outlet inside begins (Ok w)
-      accepted keeps bounded starts in
-      let c = calls_say medium gives takes acts w disk last source source' inside
-      outlet' undone calls is in
+  lives_end_as_said m config bytes so_far acts found one accepted
+      (opened {begins = begins} {w = w} {disk = disk} {outlet = inside} {undone = undone}
+      {last = last} starts calls) is sectors room keeps bounded =
+      let o = opening m config so_far medium takes bytes found.disk found.outlet
+      (site disk inside) begins (Ok w) accepted keeps bounded starts in
+      let c = calls_say medium gives takes acts (scene w disk found.source inside) undone last
+      calls is in
       let all : List Exchange = map Tells o.0 ++ c.0 in
       let inputs : Inputs = uncut acts all in
       let stage : Stage = at_beginning begins inputs in
@@ -332,18 +327,21 @@ module _ {D S O : Type 0} (medium : D → Medium) (gives : Giving S) (takes : Ta
       let op = o.2 inputs sectors room heard.1 in
       let first : Promise = as_begun begins so_far in
       let more = c.2 m config op.guest (promised first op.events) (stage_after stage op.events)
-      op.process op.opened op.acts (op.foretold c.0 (anything_comes_true all)) in
-      record {
-        exchanges = all;
-        exchanged = exchanges_join gives takes source source' source outlet outlet' inside
-            (map Tells o.0) c.0 (told_alone gives takes source outlet inside o.0 o.1) c.1;
-        events = op.events ++ more.events;
-        kept = (calls_join m config first stage op.events more.events op.kept more.kept).0;
-        told = told_join op.events more.events ∙ ap (λ l. l ++ told_in more.events) op.told
-            ∙ ap (λ l. released_in (map Tells o.0) ++ l) more.told
-            ∙ sym (released_join (map Tells o.0) c.0);
-        answered = answered_so m config first begins inputs op.events more.events
-            (outcome_after now.Spent calls) more.kept (more.says now.Spent);
-      }
-  lives_end_as_said m config bytes so_far acts found last source source' outlet outlet' begins
-      worker undone accepted (unopened starts) is sectors room keeps bounded = absurd (cc)
+      op.process op.opened op.acts (op.foretold c.0 (anything_comes_true all)) in (
+        all,
+        exchanges_join gives takes found.source last.source found.source found.outlet last.outlet
+            inside (map Tells o.0) c.0
+            (told_alone gives takes found.source found.outlet inside o.0 o.1) c.1,
+        record {
+          events = op.events ++ more.events;
+          kept = (calls_join m config first stage op.events more.events op.kept more.kept).0;
+          told = told_join op.events more.events ∙ ap (λ l. l ++ told_in more.events) op.told
+              ∙ ap (λ l. released_in (map Tells o.0) ++ l) more.told
+              ∙ sym (released_join (map Tells o.0) c.0);
+          answered = answered_so m config first begins inputs op.events more.events
+              (outcome_after now.Spent calls) more.kept (more.says now.Spent);
+        },
+      )
+  lives_end_as_said m config bytes so_far acts found one accepted (unopened {why = why} starts) is
+      sectors room keeps bounded =
+      let failed : ◌≡◌ {A = Result (List Act) RecoverFault} (Err why) (Ok []) = is in absurd (cc)

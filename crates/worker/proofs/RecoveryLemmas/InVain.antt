@@ -10,23 +10,20 @@ use Rattle.process.specs.rules.Values.{ProcessValue}
 use Rattle.state_image.specs.rules.ProcessImage.{process_image}
 use Rattle.state_image.specs.rules.Saving.{saved_of}
 use Rattle.sector_disk.specs.declared.sector.TheConstants.{SECTOR_SIZE}
-use Rattle.sector_disk.specs.rules.Medium.{Medium, LeavesOnly, spare}
-use Rattle.sector_disk.specs.rules.Medium.{CallsUpTo}
+use Rattle.sector_disk.specs.rules.Medium.{Medium, LeavesOnly, spare, CallsUpTo}
 use Rattle.sector_disk.proofs.Moments.{leaves_weaker}
 use Rattle.disk_layout.specs.declared.fault.LayoutFault.TheVariants as layout
 use Rattle.disk_layout.specs.declared.geometry.Geometry.{Geometry}
 use Rattle.disk_layout.specs.rules.Places.{geometry_of, total_sectors}
 use Rattle.record_replay.specs.declared.fault.ReplayFault.{ReplayFault}
 use Rattle.record_replay.specs.declared.fault.ReplayFault.TheVariants as replay
-use Rattle.record_replay.specs.rules.Calls.{Taking, Begun, Tells, Releases, all_taken}
-use Rattle.record_replay.specs.rules.Calls.{last_refused}
+use Rattle.record_replay.specs.rules.Calls.{Taking, Begun, Tells, Releases, all_taken, last_refused}
 use Rattle.record_replay.specs.rules.Replays.{ReplaysUpTo, RefusesFrom, StopsReplay}
 use Rattle.worker_store.specs.restart_theorem.Lives.{Inputs}
 use Rattle.worker_store.specs.restart_theorem.Courses.{Stage, Phase, Shut, at_first}
 use Rattle.worker_store.specs.restart_theorem.Promises.{Promise}
 use Rattle.worker_store.specs.restart_theorem.Holds.{DiskImageHolds, KeepsPromise, CarriesPromise}
-use Rattle.worker_store.specs.restart_theorem.Holds.{IsBounded}
-use Rattle.worker_store.specs.restart_theorem.Holds.{KeepsBounds, StaysWithin}
+use Rattle.worker_store.specs.restart_theorem.Holds.{IsBounded, KeepsBounds, StaysWithin}
 use Rattle.worker_store.specs.restart_theorem.Exchanges.{none as no_event}
 use Rattle.worker_store.specs.rules.BetweenCalls.{IsForetold}
 use Rattle.worker_store.specs.laws.Telling.{ArePerformed, AddsLines}
@@ -55,9 +52,8 @@ use Rattle.worker.proofs.RecoveryLemmas.There.{IsThere}
 use Rattle.worker.proofs.RecoveryLemmas.Lives.{IsBack, come_lives, is_back}
 use Rattle.worker.proofs.RecoveryLemmas.Lives.{released_lines, tells_as, fits_area}
 use Rattle.worker.proofs.RecoveryLemmas.NextPoint.{HasNext, has_next}
-use Rattle.worker.proofs.RecoveryLemmas.Written.{first_holds, first_within, below_next}
-use Rattle.worker.proofs.RecoveryLemmas.Written.{IsRetold, is_retold, moments_hold}
-use Rattle.worker.proofs.RecoveryLemmas.Written.{moments_within}
+use Rattle.worker.proofs.RecoveryLemmas.Written.{first_holds, first_within, below_next, IsRetold}
+use Rattle.worker.proofs.RecoveryLemmas.Written.{is_retold, moments_hold, moments_within}
 use Rattle.worker.proofs.DurableLemmas.Bounds.{within_later}
 
 -- ---- why a disk fails
@@ -212,8 +208,7 @@ module _ {D O : Type 0} (medium : D → Medium) (takes : Taking O) (m : Module)
           found.records.items held.recorded come
 
       stop_fails : (fault : ReplayFault)
-          → StopsReplay takes found.process.host.released there.point.reached.guest come.reached
-          come.rest come.process fault outlet outlet'
+          → StopsReplay takes found.process.host.released come fault outlet outlet'
           → FailsSo takes m config promise (recover.Replay fault) (medium old) (medium mid) outlet
           outlet'
       stop_fails replay.Diverged stops =

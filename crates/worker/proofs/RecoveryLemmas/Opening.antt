@@ -14,8 +14,7 @@ use Rattle.worker_store.specs.restart_theorem.Lives.{Inputs, Event, Opened}
 use Rattle.worker_store.specs.restart_theorem.Courses.{Stage, at_first, next_stage, stage_after}
 use Rattle.worker_store.specs.restart_theorem.Promises.{Promise, after, IsOpening}
 use Rattle.worker_store.specs.restart_theorem.Holds.{DiskImageHolds, KeepsPromise, CarriesPromise}
-use Rattle.worker_store.specs.restart_theorem.Holds.{KeepsBounds}
-use Rattle.worker_store.specs.restart_theorem.Holds.{StaysWithin}
+use Rattle.worker_store.specs.restart_theorem.Holds.{KeepsBounds, StaysWithin}
 use Rattle.worker_store.specs.rules.Savepoints.{Savepoint}
 use Rattle.worker_store.specs.rules.BetweenCalls.{IsBetween}
 use Rattle.worker_store.specs.laws.CallEnds.{IsSavedAs}
@@ -33,7 +32,7 @@ use Rattle.worker_store.specs.rules.Stores.{IsStoreOf}
 use Rattle.worker_store.proofs.LawLemmas.Telling.{max_within}
 use Rattle.worker.specs.declared.found.Found.{Found}
 use Rattle.worker.specs.rules.DurableValues.{DurableValue}
-use Rattle.worker.specs.rules.OpenWorkers.{IsAbreast, IsOnDisk, IsOpenOn}
+use Rattle.worker.specs.rules.OpenWorkers.{IsAbreast, IsOnDisk, IsOpenOn, identity}
 use Rattle.worker.specs.rules.Recoveries.{IsJustSynced, Reopens, recovery_events}
 use Rattle.worker.specs.Revivals.{OpensStore}
 use Rattle.worker.proofs.AbreastLemmas.{ended_is_still, none_beyond, told_changes_none}
@@ -128,8 +127,9 @@ module _ {D O : Type 0} (medium : D → Medium) (takes : Taking O) (m : Module)
         ap (λ n. take n told.made.promise'.kept) counted ∙ all.front ∙ sym has.front
         ∙ sym (append-nil has.next.front)
 
-    on_disk_now : IsOnDisk m config there.point.reached.guest (after told.made.promise' opening)
-        there.last there.last.steps (told.made.promise'.events + 1) w.store (medium new)
+    on_disk_now : IsOnDisk (identity m config there.point.reached.guest)
+        (after told.made.promise' opening) there.last there.last.steps
+        (told.made.promise'.events + 1) w.store (medium new)
     on_disk_now =
         let now : Promise = after told.made.promise' opening in
         let next : Savepoint m config = has.next in

@@ -2,7 +2,7 @@
 use Rattle.std.proofs.Common.{◌≡◌, ◌⊎◌, inl, inr, ⊎_elim, ℕ, suc, ◌+◌, ◌<◌, ◌≤◌, List, []}
 use Rattle.std.proofs.Common.{◌*◌, is_some}
 use Rattle.std.proofs.Common.{◌++◌, length, drop, take, refl, sym, ap, ◌∙◌, subst, arith, false}
-use Rattle.std.specs.Prelude.{Result, Ok, Err}
+use Rattle.std.specs.Prelude.{Result, Ok, Err, IfOk}
 use Rattle.std.proofs.lemmas.List.{append-nil}
 use Rattle.wasm_syntax.specs.declared.module.Module.{Module}
 use Rattle.wasi_abi.specs.rules.Configs.{Settings}
@@ -13,12 +13,10 @@ use Rattle.state_image.specs.rules.ProcessImage.{process_image}
 use Rattle.state_image.specs.rules.Saving.{saved_of}
 use Rattle.sector_disk.specs.declared.fault.DiskFault.{DiskFault}
 use Rattle.sector_disk.specs.rules.DiskImage.{DiskImage}
-use Rattle.sector_disk.specs.rules.Medium.{Medium, SyncsMedium}
+use Rattle.sector_disk.specs.rules.Medium.{Medium, SyncsMedium, CallsUpTo}
 use Rattle.sector_disk.proofs.CountLemmas.{counts_same, counts_then, unsynced_within}
-use Rattle.sector_disk.specs.rules.Medium.{CallsUpTo}
 use Rattle.sector_disk.proofs.Moments.{leaves_weaker, leaves_only, started, synced_only}
-use Rattle.sector_disk.proofs.Moments.{synced_stays, stays_crashed, stays_on}
-use Rattle.sector_disk.proofs.Moments.{stays_leaves_only}
+use Rattle.sector_disk.proofs.Moments.{synced_stays, stays_crashed, stays_on, stays_leaves_only}
 use Rattle.disk_layout.specs.declared.fault.LayoutFault.TheVariants as layout
 use Rattle.disk_layout.specs.rules.Places.{geometry_of, area_place, rounded_up, total_sectors}
 use Rattle.disk_layout.specs.rules.Stored.{OnlyReads}
@@ -51,22 +49,19 @@ use Rattle.worker.specs.declared.recover_fault.RecoverFault.TheVariants as recov
 use Rattle.worker.specs.rules.WorkFaults.{fault_of_store}
 use Rattle.worker.specs.rules.CallCounts.{most_behind, most_opening}
 use Rattle.worker.specs.rules.DurableValues.{DurableValue}
-use Rattle.worker.specs.rules.Recoveries.{IsNoWorker, IsNoWorkerOr, SaysNothing}
-use Rattle.worker.specs.rules.Recoveries.{MarksDecide, IsJustSynced}
-use Rattle.worker.specs.rules.Recoveries.{Recovers, RecoveryCarries, MayNotReopen}
-use Rattle.worker.specs.rules.Recoveries.{ReopensInVain, FindsNone, EndsInVain}
-use Rattle.worker.specs.rules.Recoveries.{Revives, RevivesInVain, TellsSome, OpeningCalls}
+use Rattle.worker.specs.rules.Recoveries.{IsNoWorker, IsNoWorkerOr, SaysNothing, SaysNoWorker}
+use Rattle.worker.specs.rules.Recoveries.{MarksDecide, IsJustSynced, RecoveryCarries, MayNotReopen}
+use Rattle.worker.specs.rules.Recoveries.{ReopensInVain, FindsNone, EndsInVain, Revives}
+use Rattle.worker.specs.rules.Recoveries.{RevivesInVain, RecoversFrom, TellsSome, OpeningCalls}
 use Rattle.worker.specs.Findings.{FindsWorker, FindsOne, IsFoundAt, HasSearchCause}
 use Rattle.worker.specs.Revivals.{RevivesFound, IsReplayed, StopsInVain, OpensNone}
 use Rattle.worker.specs.Revivals.{OpensStore, ReplaysForNothing}
 use Rattle.worker.proofs.RecoveryLemmas.Undiverged.{undiverged, tells_some, refuses_on}
 use Rattle.worker.proofs.RecoveryLemmas.There.{IsThere, is_there, leaves_join}
-use Rattle.worker.proofs.RecoveryLemmas.Lives.{IsBack, is_back, tells_as, fits_area}
-use Rattle.worker.proofs.RecoveryLemmas.Lives.{released_lines}
+use Rattle.worker.proofs.RecoveryLemmas.Lives.{IsBack, is_back, tells_as, fits_area, released_lines}
 use Rattle.worker.proofs.RecoveryLemmas.Written.{is_retold}
 use Rattle.worker.proofs.RecoveryLemmas.Opening.{reopens}
-use Rattle.worker.proofs.RecoveryLemmas.InVain.{nothing_done, stopped_so, written_so}
-use Rattle.worker.proofs.RecoveryLemmas.InVain.{refuses_as}
+use Rattle.worker.proofs.RecoveryLemmas.InVain.{nothing_done, stopped_so, written_so, refuses_as}
 
 -- ---- the disk is synced and read
 
@@ -121,18 +116,6 @@ module _ {D O : Type 0} (medium : D → Medium) (takes : Taking O) (old new : D)
     (is : why ≡ recover.Worker (Disk fault)) where
   failed : (medium old).faults < (medium new).faults
   failed = sync_faulted (medium old) (medium new) fault syncs
-
-  pub failed_sync_recovers : Recovers medium takes (Err why) old new outlet outlet
-  failed_sync_recovers =
-      let calls = syncs.calls in
-      inl (record {
-        fault = fault;
-        is = ap (λ e. Err e) is;
-        stays = syncs.stays;
-        calls = calls.begun;
-        faulted = failed;
-        none_told = refl;
-      })
 
   pub failed_sync_carries : RecoveryCarries takes (Err why) (medium old) (medium new) outlet outlet
   failed_sync_carries m config promise crashed is_crashed keeps bounds = (
@@ -210,19 +193,16 @@ module _ {D O : Type 0} (medium : D → Medium) (takes : Taking O) (old mid : D)
     → FindsWorker (medium old).sectors wasm image (Err why))
     (marks : (image : DiskImage) → (medium mid).shows image
     → MarksDecide {T = Found} image (Err why)) where
-  pub unfound_recovers : Recovers medium takes (Err why) old mid outlet outlet
-  unfound_recovers = inr (
-    mid,
-    just_synced,
-    λ image shows. (let decide = marks image shows in record {
-      marks = record { only = decide.only; always = decide.always };
-      revives = λ m config kept n stands room. nothing_revived takes stands outlet why
-          (finds image shows m config (point_of stands) stands.records stands.last
-          (is_at_its_savepoint image m config kept n stands) room);
-    }),
-    λ denies. (reads_none (medium mid), refl),
-    tt,
-  )
+  unfound_from : (image : DiskImage) → (medium mid).shows image
+      → RecoversFrom takes (medium old).sectors image (Err why) outlet outlet
+  unfound_from image shows =
+      let decide = marks image shows in
+      record {
+        marks = record { only = decide.only; always = decide.always };
+        revives = λ m config kept n stands room. nothing_revived takes stands outlet why
+            (finds image shows m config (point_of stands) stands.records stands.last
+            (is_at_its_savepoint image m config kept n stands) room);
+      }
 
   pub unfound_carries : ((fault : DiskFault) → why ≡ recover.Worker (Disk fault)
       → (medium old).faults < (medium mid).faults)
@@ -317,6 +297,19 @@ few_calls found w old mid new opens few =
     subst (λ (g : Geometry). CallsUpTo (most_opening g old.sectors) old new) (sym opens.placed)
     (omega (arith, few, writes.few))
 
+-- what is called, where a worker is opened
+found_calls : {D O : Type 0} (medium : D → Medium) (takes : Taking O) (found : Found)
+    (old mid new : D) (outlet outlet' : O) (result : Result DurableValue RecoverFault)
+    → RevivesFound medium takes found result mid new outlet outlet'
+    → CallsUpTo (1 + (medium old).sectors + most_behind found.geometry) (medium old) (medium mid)
+    → IfOk result (λ w. OpeningCalls w (medium mid) (medium new)
+    × CallsUpTo (most_opening w.store.geometry (medium old).sectors) (medium old) (medium new))
+found_calls medium takes found old mid new outlet outlet' (Ok w) revives few = (
+  opening_calls found w (medium mid) (medium new) revives.1,
+  few_calls found w (medium old) (medium mid) (medium new) revives.1 few,
+)
+found_calls medium takes found old mid new outlet outlet' (Err why) revives few = tt
+
 -- what an image stands for, by which it was found
 module _ {O : Type 0} (takes : Taking O) (found : Found) (wasm : List ℕ) (disk : DiskImage)
     (m : Module) (config : Settings) (kept : List Kept) (n : ℕ)
@@ -358,8 +351,7 @@ module _ {O : Type 0} (takes : Taking O) (found : Found) (wasm : List ℕ) (disk
 
   stop_revives : (fault : ReplayFault)
       → (come : ReplaysUpTo stands.reached.guest stands.process found.records.items)
-      → StopsReplay takes found.process.host.released stands.reached.guest come.reached come.rest
-      come.process fault outlet outlet'
+      → StopsReplay takes found.process.host.released come fault outlet outlet'
       → RevivesInVain takes stands (recover.Replay fault) outlet outlet'
   stop_revives replay.Diverged come stops =
       absurd (undiverged stands.reached.guest stands.process stands.last found.records.items
@@ -426,9 +418,7 @@ module _ {D O : Type 0} (medium : D → Medium) (takes : Taking O) (old mid new 
     (finds : (image : DiskImage) → (medium mid).shows image
     → FindsWorker (medium old).sectors wasm image (Ok found))
     (marks : (image : DiskImage) → (medium mid).shows image
-    → MarksDecide {T = Found} image (Ok found))
-    (few : CallsUpTo (1 + (medium old).sectors + most_behind found.geometry) (medium old)
-    (medium mid)) where
+    → MarksDecide {T = Found} image (Ok found)) where
   found_for : (image : DiskImage) → (medium mid).shows image → (m : Module) (config : Settings)
       (kept : List Kept) (n : ℕ) (stands : StandsFor image m config kept n)
       → total_sectors (geometry_of config (length stands.wasm)) ≤ (medium old).sectors
@@ -437,61 +427,47 @@ module _ {D O : Type 0} (medium : D → Medium) (takes : Taking O) (old mid new 
       finds image shows m config (point_of stands) stands.records stands.last
       (is_at_its_savepoint image m config kept n stands) room
 
-  pub found_recovers : (result : Result DurableValue RecoverFault)
+  -- a result of it says that there is a worker
+  found_some : (result : Result DurableValue RecoverFault)
+      → RevivesFound medium takes found result mid new outlet outlet' → SaysNoWorker result → ⊥
+  found_some (Ok w) revives denies = denies
+  found_some (Err why) (inl stops) denies =
+      stopped_some takes found mid new outlet outlet' why stops denies
+  found_some (Err why) (inr for) denies =
+      unwritten_some found.geometry found.generation for.process why (medium mid) (medium new)
+      for.none denies
+
+  found_revives : (result : Result DurableValue RecoverFault)
       → RevivesFound medium takes found result mid new outlet outlet'
-      → Recovers medium takes result old new outlet outlet'
-  found_recovers (Ok w) revives = inr (
-    mid,
-    just_synced,
-    λ image shows. (let decide = marks image shows in record {
-      marks = record {
-        only = λ denies. absurd denies;
-        always = λ blank. absurd (decide.always blank);
-      };
-      revives = λ m config kept n stands room.
-          revived takes found wasm image m config kept n stands
-          (found_for image shows m config kept n stands room) outlet outlet' w (medium mid)
-          (medium new) revives.0 revives.1 revives.2 revives.3;
-    }),
-    λ denies. absurd denies,
-    (
-      opening_calls found w (medium mid) (medium new) revives.1,
-      few_calls found w (medium old) (medium mid) (medium new) revives.1 few,
-    ),
-  )
-  found_recovers (Err why) (inl stops) = inr (
-    mid,
-    just_synced,
-    λ image shows. (let decide = marks image shows in record {
-      marks = record {
-        only = λ denies. absurd (stopped_some takes found mid new outlet outlet' why stops denies);
-        always = λ blank. absurd (decide.always blank);
-      };
-      revives = λ m config kept n stands room.
-          stopped_revives takes found wasm image m config kept n stands
-          (found_for image shows m config kept n stands room) outlet outlet' mid new why stops;
-    }),
-    λ denies. absurd (stopped_some takes found mid new outlet outlet' why stops denies),
-    tt,
-  )
-  found_recovers (Err why) (inr for) = inr (
-    mid,
-    just_synced,
-    λ image shows. (let decide = marks image shows in record {
-      marks = record {
-        only = λ denies. absurd (unwritten_some found.geometry found.generation for.process why
-            (medium mid) (medium new) for.none denies);
-        always = λ blank. absurd (decide.always blank);
-      };
-      revives = λ m config kept n stands room.
-          unwritten_revives takes found wasm image m config kept n stands
-          (found_for image shows m config kept n stands room) outlet outlet' fit why (medium mid)
-          (medium new) for;
-    }),
-    λ denies. absurd (unwritten_some found.geometry found.generation for.process why (medium mid)
-        (medium new) for.none denies),
-    tt,
-  )
+      → (image : DiskImage) → (medium mid).shows image → (m : Module) (config : Settings)
+      (kept : List Kept) (n : ℕ) (stands : StandsFor image m config kept n)
+      → total_sectors (geometry_of config (length stands.wasm)) ≤ (medium old).sectors
+      → Revives takes stands result outlet outlet'
+  found_revives (Ok w) revives image shows m config kept n stands room =
+      revived takes found wasm image m config kept n stands
+      (found_for image shows m config kept n stands room) outlet outlet' w (medium mid)
+      (medium new) revives.0 revives.1 revives.2 revives.3
+  found_revives (Err why) (inl stops) image shows m config kept n stands room =
+      stopped_revives takes found wasm image m config kept n stands
+      (found_for image shows m config kept n stands room) outlet outlet' mid new why stops
+  found_revives (Err why) (inr for) image shows m config kept n stands room =
+      unwritten_revives takes found wasm image m config kept n stands
+      (found_for image shows m config kept n stands room) outlet outlet' fit why (medium mid)
+      (medium new) for
+
+  found_from : (result : Result DurableValue RecoverFault)
+      → RevivesFound medium takes found result mid new outlet outlet'
+      → (image : DiskImage) → (medium mid).shows image
+      → RecoversFrom takes (medium old).sectors image result outlet outlet'
+  found_from result revives image shows =
+      let decide = marks image shows in
+      record {
+        marks = record {
+          only = λ denies. absurd (found_some result revives denies);
+          always = λ blank. absurd (decide.always blank);
+        };
+        revives = found_revives result revives image shows;
+      }
 
   -- where an image was left
   there_for : (m : Module) (config : Settings) (promise : Promise) (first : DiskImage)
@@ -556,8 +532,9 @@ module _ {D O T : Type 0} (medium : D → Medium) (takes : Taking O) (old sync m
       (one : FindsOne (medium sync).sectors (medium mid) (Err why))
       (marks : (image : DiskImage) → (medium mid).shows image
       → MarksDecide {T = Found} image (Err why)) where
-    pub not_found_recovers : Recovers medium takes (Err why) old mid outlet outlet
-    not_found_recovers = unfound_recovers medium takes old mid outlet just_synced why one.0
+    pub not_found_from : (image : DiskImage) → (medium mid).shows image
+        → RecoversFrom takes (medium old).sectors image (Err why) outlet outlet
+    not_found_from = unfound_from medium takes old mid outlet just_synced why one.0
         (finds_of (Err why) one) marks
 
     pub not_found_carries : HasSearchCause (medium sync) (medium mid) why
@@ -585,10 +562,21 @@ module _ {D O T : Type 0} (medium : D → Medium) (takes : Taking O) (old sync m
     from_first =
         let passes = syncs.passes in omega (arith, syncs.counted, calls, passes.sectors)
 
-    pub is_found_recovers : Recovers medium takes result old new outlet outlet'
-    is_found_recovers = found_recovers medium takes old mid new outlet outlet' fit just_synced found
-        one.0 (finds_of (Ok found) one) marks from_first result revives
+    pub is_found_from : (image : DiskImage) → (medium mid).shows image
+        → RecoversFrom takes (medium old).sectors image result outlet outlet'
+    is_found_from = found_from medium takes old mid new outlet outlet' fit just_synced found one.0
+        (finds_of (Ok found) one) marks result revives
+
+    pub is_found_some : SaysNoWorker result → ⊥
+    is_found_some = found_some medium takes old mid new outlet outlet' fit just_synced found one.0
+        (finds_of (Ok found) one) marks result revives
+
+    pub is_found_calls : IfOk result (λ w. OpeningCalls w (medium mid) (medium new)
+        × CallsUpTo (most_opening w.store.geometry (medium old).sectors) (medium old)
+        (medium new))
+    is_found_calls =
+        found_calls medium takes found old mid new outlet outlet' result revives from_first
 
     pub is_found_carries : RecoveryCarries takes result (medium old) (medium new) outlet outlet'
     is_found_carries = found_carries medium takes old mid new outlet outlet' fit just_synced found
-        one.0 (finds_of (Ok found) one) marks from_first result revives
+        one.0 (finds_of (Ok found) one) marks result revives

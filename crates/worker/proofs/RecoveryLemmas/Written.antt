@@ -14,8 +14,7 @@ use Rattle.worker_store.specs.restart_theorem.Lives.{Inputs}
 use Rattle.worker_store.specs.restart_theorem.Courses.{at_first}
 use Rattle.worker_store.specs.restart_theorem.Promises.{Promise}
 use Rattle.worker_store.specs.restart_theorem.Holds.{DiskImageHolds, KeepsPromise, CarriesPromise}
-use Rattle.worker_store.specs.restart_theorem.Holds.{IsBounded}
-use Rattle.worker_store.specs.restart_theorem.Holds.{KeepsBounds}
+use Rattle.worker_store.specs.restart_theorem.Holds.{IsBounded, KeepsBounds}
 use Rattle.worker_store.specs.rules.Savepoints.{Savepoint, IsAtSavepoint, BeginsAtPoint}
 use Rattle.worker_store.specs.rules.BetweenCalls.{IsForetold}
 use Rattle.worker_store.specs.laws.Telling.{ArePerformed, AddsLines}

@@ -1,6 +1,6 @@
 -- Slices of a worker with a disk, one after another, with checkpoints between them or none.
 use Rattle.std.specs.Prelude.{ℕ, ◌+◌}
-use Rattle.record_replay.specs.rules.Calls.{Giving, Taking}
+use Rattle.record_replay.specs.rules.Calls.{Giving, Taking, Ports}
 use Rattle.record_replay.specs.declared.slices.now.Now.{Now}
 use Rattle.record_replay.specs.declared.slices.now.Now.TheVariants as now
 use Rattle.record_replay.specs.rules.Slices.{Slices}
@@ -17,8 +17,8 @@ pub data AreSavedIn : DurableValue → DurableValue → Type 0 where
 -- both. It has the same process, and the same calls of source and outlet.
 abbrev pub SlicesOnDiskAdd : {S O : Type 0} → Giving S → Taking O → Type 0
 SlicesOnDiskAdd {S} {O} gives takes =
-    (first second third last : DurableValue) (f g : ℕ) (why : Now) (s t u : S) (o p q : O)
-    → Slices gives takes (without_disk first) f now.Spent (without_disk second) s t o p
+    (first second third last : DurableValue) (f g : ℕ) (why : Now) (a b c : Ports S O)
+    → Slices gives takes (without_disk first) f now.Spent (without_disk second) a b
     → AreSavedIn second third
-    → Slices gives takes (without_disk third) g why (without_disk last) t u p q
-    → Slices gives takes (without_disk first) (f + g) why (without_disk last) s u o q
+    → Slices gives takes (without_disk third) g why (without_disk last) b c
+    → Slices gives takes (without_disk first) (f + g) why (without_disk last) a c

@@ -10,9 +10,8 @@ use Rattle.disk_layout.specs.rules.Places.{geometry_of, total_sectors}
 use Rattle.disk_layout.specs.rules.Unsynced.{most_unsynced}
 use Rattle.record_replay.specs.rules.Calls.{Giving, Taking, Exchange, Asks, Tells, Exchanges}
 use Rattle.worker_store.specs.restart_theorem.Lives.{Act, SourceSaid, Inputs, Release, OfDisk}
-use Rattle.worker_store.specs.restart_theorem.Lives.{told_in}
-use Rattle.worker_store.specs.restart_theorem.Lives.{Beginning, End, Finished, Stopped, Failed}
-use Rattle.worker_store.specs.restart_theorem.Lives.{Life}
+use Rattle.worker_store.specs.restart_theorem.Lives.{told_in, Beginning, End, Finished, Stopped}
+use Rattle.worker_store.specs.restart_theorem.Lives.{Failed, Life}
 use Rattle.worker_store.specs.restart_theorem.Courses.{HasDiskFault, HasStopped, HasNotStopped}
 use Rattle.worker_store.specs.restart_theorem.Promises.{Promise}
 use Rattle.worker_store.specs.restart_theorem.Holds.{KeepsPromise, KeepsBounds}
@@ -22,7 +21,9 @@ use Rattle.worker_store.specs.rules.BetweenCalls.{Foretell}
 use Rattle.worker.specs.declared.recover_fault.RecoverFault.{RecoverFault}
 use Rattle.worker.specs.rules.CallCounts.{CallsForEvents}
 use Rattle.worker.specs.rules.DurableValues.{DurableValue}
-use Rattle.worker.specs.rules.OneLife.{IsOneLife, opened_in, shown_first, IsCauseOf}
+use Rattle.worker.specs.rules.OneLife.{recipe, OneLife, IsOneLife, opened_in, shown_first}
+use Rattle.worker.specs.rules.OneLife.{IsCauseOf}
+use Rattle.worker.specs.rules.Scenes.{Surroundings}
 
 -- ---- what was put into it
 
@@ -85,19 +86,19 @@ pub record IsLifeOf (inputs : Inputs) (begins : Beginning) (exchanges : List Exc
 abbrev pub CallsMakeLives : {D S O : Type 0} → (D → Medium) → Giving S → Taking O → Type 0
 CallsMakeLives {D} {S} {O} medium gives takes =
     (m : Module) (config : Settings) (bytes : List ℕ) (so_far : Promise) (acts : List Act)
-    (found last : D) (source source' : S) (outlet outlet' : O) (begins : Beginning)
-    (worker : Option DurableValue) (undone : Result (List Act) RecoverFault)
-    → IsAccepted offer config.pages bytes m
-    → IsOneLife medium gives takes bytes config acts found source outlet begins worker undone last
-    source' outlet'
-    → KeepsPromise m config so_far (medium found) → KeepsBounds so_far.events (medium found)
-    → (exchanges : List Exchange) × Exchanges gives takes source outlet exchanges source' outlet'
+    (found : Surroundings D S O) (one : OneLife D S O) → IsAccepted offer config.pages bytes m
+    → IsOneLife medium gives takes (recipe bytes config) acts found one
+    → KeepsPromise m config so_far (medium found.disk)
+    → KeepsBounds so_far.events (medium found.disk)
+    → (exchanges : List Exchange)
+    × Exchanges gives takes found.source found.outlet exchanges one.last.source one.last.outlet
     × ((inputs : Inputs) (calls : ℕ) → inputs.acts ≡ acts
-    → CameTrue bytes config inputs exchanges undone calls (medium found) (medium last)
-    → (life : Life) × IsLifeOf inputs begins exchanges worker undone calls life
-    × IsLivedOn m config so_far inputs life (medium found) (medium last)
-    × IsLater (medium found) (medium last)
-    × CallsForEvents (length life.events + 1) (medium found) (medium last))
+    → CameTrue bytes config inputs exchanges one.undone calls (medium found.disk)
+    (medium one.last.disk)
+    → (life : Life) × IsLifeOf inputs one.begins exchanges one.worker one.undone calls life
+    × IsLivedOn m config so_far inputs life (medium found.disk) (medium one.last.disk)
+    × IsLater (medium found.disk) (medium one.last.disk)
+    × CallsForEvents (length life.events + 1) (medium found.disk) (medium one.last.disk))
 
 -- what the source said, and what the outlet took
 abbrev pub said_in : List Exchange → List SourceSaid

@@ -1,6 +1,6 @@
 -- What the last slice or batch of a life has answered, among what happened in it (this project's
 -- own).
-use Rattle.std.specs.Prelude.{◌≡◌, ◌⊎◌, ℕ, ◌≤◌, List, [], ◌∷◌, ◌++◌, length, Option, Result, Ok}
+use Rattle.std.specs.Prelude.{◌≡◌, ◌⊎◌, ℕ, ◌≤◌, List, [], ◌∷◌, ◌++◌, length, Ok}
 use Rattle.wasm_syntax.specs.declared.module.Module.{Module}
 use Rattle.wasm_rules.specs.Acceptance.{IsAccepted}
 use Rattle.wasi_abi.specs.rules.Configs.{Settings}
@@ -12,11 +12,8 @@ use Rattle.disk_layout.specs.rules.Places.{geometry_of, total_sectors}
 use Rattle.disk_layout.specs.rules.Unsynced.{most_unsynced}
 use Rattle.record_replay.specs.rules.Calls.{Giving, Taking, Exchange, Exchanges}
 use Rattle.worker_store.specs.restart_theorem.Lives.{Act, Slice, Batch, Checkpoint, Upgrade, Reply}
-use Rattle.worker_store.specs.restart_theorem.Lives.{Spent}
-use Rattle.worker_store.specs.restart_theorem.Lives.{Waits, Over}
-use Rattle.worker_store.specs.restart_theorem.Lives.{Event, Told, Asked, Opened, Ended, told_in}
-use Rattle.worker_store.specs.restart_theorem.Lives.{Beginning}
-use Rattle.worker_store.specs.restart_theorem.Lives.{Inputs}
+use Rattle.worker_store.specs.restart_theorem.Lives.{Spent, Waits, Over, Event, Told, Asked, Opened}
+use Rattle.worker_store.specs.restart_theorem.Lives.{Ended, told_in, Beginning, Inputs}
 use Rattle.worker_store.specs.restart_theorem.Courses.{at_beginning, stage_after}
 use Rattle.worker_store.specs.restart_theorem.Promises.{Promise, as_begun, promised, AreKept}
 use Rattle.worker_store.specs.restart_theorem.Promises.{IsEnding}
@@ -24,9 +21,8 @@ use Rattle.worker_store.specs.restart_theorem.Holds.{KeepsPromise, KeepsBounds}
 use Rattle.worker_store.specs.laws.Acts.{TakesSteps}
 use Rattle.record_replay.specs.declared.slices.now.Now.{Now}
 use Rattle.record_replay.specs.declared.slices.now.Now.TheVariants as now
-use Rattle.worker.specs.declared.recover_fault.RecoverFault.{RecoverFault}
-use Rattle.worker.specs.rules.DurableValues.{DurableValue}
-use Rattle.worker.specs.rules.OneLife.{IsOneLife}
+use Rattle.worker.specs.rules.OneLife.{recipe, OneLife, IsOneLife}
+use Rattle.worker.specs.rules.Scenes.{Surroundings}
 use Rattle.worker.specs.laws.OneLife.{released_in}
 use Rattle.worker.specs.laws.Uncut.{uncut}
 use Rattle.worker.specs.rules.Outcomes.{life_outcome}
@@ -65,14 +61,11 @@ pub record LastSliceEnds (m : Module) (config : Settings) (so_far : Promise) (be
       (stage_after (at_beginning begins inputs) front)
       (record { act = act; reply = reply; held = held; shown = shown })
 
--- The exchanges of a life that begins so, in which the power isn't cut, and its events, which keep
+-- The events of a life that begins so, with these exchanges. The power isn't cut in it. They keep
 -- what was promised. Either its outcome is that the worker goes on, of which no more is said. Or
 -- its last slice or batch has answered this outcome.
-pub record EndsAsSaid {S O : Type 0} (gives : Giving S) (takes : Taking O) (m : Module)
-    (config : Settings) (so_far : Promise) (begins : Beginning) (acts : List Act) (outcome : Now)
-    (source source' : S) (outlet outlet' : O) : Type 0 where
-  pub exchanges : List Exchange
-  pub exchanged : Exchanges gives takes source outlet exchanges source' outlet'
+pub record EndsAsSaid (m : Module) (config : Settings) (so_far : Promise) (begins : Beginning)
+    (acts : List Act) (exchanges : List Exchange) (outcome : Now) : Type 0 where
   pub events : List Event
   pub kept : AreKept m config (as_begun begins so_far)
       (at_beginning begins (uncut acts exchanges)) events
@@ -85,13 +78,13 @@ pub record EndsAsSaid {S O : Type 0} (gives : Giving S) (takes : Taking O) (m : 
 abbrev pub LivesEndAsSaid : {D S O : Type 0} → (D → Medium) → Giving S → Taking O → Type 0
 LivesEndAsSaid {D} {S} {O} medium gives takes =
     (m : Module) (config : Settings) (bytes : List ℕ) (so_far : Promise) (acts : List Act)
-    (found last : D) (source source' : S) (outlet outlet' : O) (begins : Beginning)
-    (worker : Option DurableValue) (undone : Result (List Act) RecoverFault)
-    → IsAccepted offer config.pages bytes m
-    → (one : IsOneLife medium gives takes bytes config acts found source outlet begins worker undone
-    last source' outlet') → undone ≡ Ok []
-    → total_sectors (geometry_of config (length bytes)) ≤ (medium found).sectors
-    → most_unsynced (geometry_of config (length bytes)) ≤ (medium found).room
-    → KeepsPromise m config so_far (medium found) → KeepsBounds so_far.events (medium found)
-    → EndsAsSaid gives takes m config so_far begins acts (life_outcome one) source source' outlet
-    outlet'
+    (found : Surroundings D S O) (one : OneLife D S O) → IsAccepted offer config.pages bytes m
+    → (calls : IsOneLife medium gives takes (recipe bytes config) acts found one)
+    → one.undone ≡ Ok []
+    → total_sectors (geometry_of config (length bytes)) ≤ (medium found.disk).sectors
+    → most_unsynced (geometry_of config (length bytes)) ≤ (medium found.disk).room
+    → KeepsPromise m config so_far (medium found.disk)
+    → KeepsBounds so_far.events (medium found.disk)
+    → (exchanges : List Exchange)
+    × Exchanges gives takes found.source found.outlet exchanges one.last.source one.last.outlet
+    × EndsAsSaid m config so_far one.begins acts exchanges (life_outcome calls)

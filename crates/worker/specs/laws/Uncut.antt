@@ -1,6 +1,6 @@
 -- What the calls of one life come to where the power isn't cut in it (this project's own).
 use Rattle.std.specs.Prelude.{◌≡◌, ◌⊎◌, ℕ, ◌≤◌, Bool, true, false, List, [], ◌∷◌, length}
-use Rattle.std.specs.Prelude.{Option, Some, None, Result}
+use Rattle.std.specs.Prelude.{Some, None, Result}
 use Rattle.wasm_syntax.specs.declared.module.Module.{Module}
 use Rattle.wasm_rules.specs.Acceptance.{IsAccepted}
 use Rattle.wasi_abi.specs.rules.Configs.{Settings}
@@ -14,8 +14,8 @@ use Rattle.worker_store.specs.restart_theorem.Lives.{Failed, Life}
 use Rattle.worker_store.specs.restart_theorem.Promises.{Promise, promised_by, IsLived}
 use Rattle.worker_store.specs.restart_theorem.Holds.{KeepsPromise, KeepsBounds}
 use Rattle.worker.specs.declared.recover_fault.RecoverFault.{RecoverFault}
-use Rattle.worker.specs.rules.DurableValues.{DurableValue}
-use Rattle.worker.specs.rules.OneLife.{IsOneLife}
+use Rattle.worker.specs.rules.OneLife.{recipe, OneLife, IsOneLife}
+use Rattle.worker.specs.rules.Scenes.{Surroundings}
 use Rattle.worker.specs.laws.OneLife.{IsLifeOver, EndsBy, released_in, said_in, taken_in}
 
 -- each of these is true
@@ -35,36 +35,32 @@ uncut acts exchanges = record {
   fails = Some 1;
 }
 
--- The calls are a life that goes on from all that was promised, and leave a disk that keeps what is
--- promised then. The lines told in it are those that were released. The outlet has taken each of
--- them, or the life ended by one that it refused. It ends as its last call says.
-pub record GoesOnUncut {D S O : Type 0} (medium : D → Medium) (gives : Giving S) (takes : Taking O)
-    (m : Module) (config : Settings) (so_far : Promise) (acts : List Act) (begins : Beginning)
-    (undone : Result (List Act) RecoverFault) (found last : D) (source source' : S)
-    (outlet outlet' : O) : Type 0 where
-  pub exchanges : List Exchange
-  pub exchanged : Exchanges gives takes source outlet exchanges source' outlet'
+-- Calls with these exchanges are a life that goes on from all that was promised, and leave a disk
+-- that keeps what is promised then. The lines told in it are those that were released. The outlet
+-- has taken each of them, or the life ended by one that it refused. It ends as its last call says.
+pub record GoesOnUncut (m : Module) (config : Settings) (so_far : Promise) (acts : List Act)
+    (exchanges : List Exchange) (begins : Beginning) (undone : Result (List Act) RecoverFault)
+    (last : Medium) : Type 0 where
   pub life : Life
   pub begins_so : life.begins ≡ begins
   pub lived : IsLived m config so_far (uncut acts exchanges) life
   pub told : told_in life.events ≡ released_in exchanges
   pub heard : AreTrue (taken_in exchanges) ⊎ (life.ends ≡ Failed OfOutlet)
   pub ends : EndsBy (uncut acts exchanges) life.calls undone life.ends
-  pub keeps : KeepsPromise m config (promised_by so_far life) (medium last)
-  pub bounded : KeepsBounds (promised_by so_far life).events (medium last)
+  pub keeps : KeepsPromise m config (promised_by so_far life) last
+  pub bounded : KeepsBounds (promised_by so_far life).events last
 
 -- so it is whatever was promised, on a disk with room for the worker
 abbrev pub LivesGoOnUncut : {D S O : Type 0} → (D → Medium) → Giving S → Taking O → Type 0
 LivesGoOnUncut {D} {S} {O} medium gives takes =
     (m : Module) (config : Settings) (bytes : List ℕ) (so_far : Promise) (acts : List Act)
-    (found last : D) (source source' : S) (outlet outlet' : O) (begins : Beginning)
-    (worker : Option DurableValue) (undone : Result (List Act) RecoverFault)
-    → IsAccepted offer config.pages bytes m
-    → IsOneLife medium gives takes bytes config acts found source outlet begins worker undone last
-    source' outlet'
-    → IsLifeOver (uncut acts []) 1 undone
-    → total_sectors (geometry_of config (length bytes)) ≤ (medium found).sectors
-    → most_unsynced (geometry_of config (length bytes)) ≤ (medium found).room
-    → KeepsPromise m config so_far (medium found) → KeepsBounds so_far.events (medium found)
-    → GoesOnUncut medium gives takes m config so_far acts begins undone found last source source'
-    outlet outlet'
+    (found : Surroundings D S O) (one : OneLife D S O) → IsAccepted offer config.pages bytes m
+    → IsOneLife medium gives takes (recipe bytes config) acts found one
+    → IsLifeOver (uncut acts []) 1 one.undone
+    → total_sectors (geometry_of config (length bytes)) ≤ (medium found.disk).sectors
+    → most_unsynced (geometry_of config (length bytes)) ≤ (medium found.disk).room
+    → KeepsPromise m config so_far (medium found.disk)
+    → KeepsBounds so_far.events (medium found.disk)
+    → (exchanges : List Exchange)
+    × Exchanges gives takes found.source found.outlet exchanges one.last.source one.last.outlet
+    × GoesOnUncut m config so_far acts exchanges one.begins one.undone (medium one.last.disk)

@@ -8,7 +8,8 @@ use Rattle.process.specs.rules.Values.{ProcessValue, ShowsProcess}
 use Rattle.sector_disk.specs.rules.Medium.{Medium}
 use Rattle.record_replay.specs.declared.fault.OutletFault.{OutletFault}
 use Rattle.record_replay.specs.declared.line_list.NumberedLine.{NumberedLine}
-use Rattle.record_replay.specs.rules.Calls.{Giving, Taking, Ask, Begun, Exchange, Asks, Releases}
+use Rattle.record_replay.specs.rules.Calls.{Giving, Taking, Ports, ports, Ask, Begun}
+use Rattle.record_replay.specs.rules.Calls.{Exchange, Asks, Releases}
 use Rattle.record_replay.specs.rules.Lists.{KeepsLine}
 use Rattle.worker_store.specs.restart_theorem.Lives.{Batch}
 use Rattle.worker_store.specs.declared.fault.StoreFault.TheVariants as store
@@ -22,7 +23,7 @@ use Rattle.worker.specs.declared.fault.WorkFault.TheVariants.{Work, Disk, Store}
 use Rattle.worker.specs.rules.DurableCalls.{CallKeeps}
 use Rattle.worker.specs.rules.DurableFailures.{IsDiskCause, StopsAtStore}
 use Rattle.worker.specs.rules.Effects.{RunsSteps}
-use Rattle.worker.specs.rules.Scenes.{Scene}
+use Rattle.worker.specs.rules.Scenes.{Scene, ports_of}
 
 -- ---- why it fails
 
@@ -83,12 +84,13 @@ IsBatchCause guest p fuel made n q why = IsDiskCause guest p fuel made n q why
 
 -- The process has run as where all lines go to a list, and as much of that list was told.
 abbrev pub BatchFails : {S O : Type 0} → Giving S → Taking O → ProcessValue → ℕ → WorkFault
-    → ProcessValue → S → S → O → O → Type 0
-BatchFails gives takes old fuel why new source source' outlet outlet' =
+    → ProcessValue → Ports S O → Ports S O → Type 0
+BatchFails gives takes old fuel why new before after =
     (guest : Guest) (p : ProcessState) → ShowsProcess old guest p → (told : List NumberedLine)
-    × (fails : Fails gives keeping (working old) (failing new) guest p source source' [] told)
+    × (fails : Fails gives keeping (working old) (failing new) guest p
+    (ports before.source []) (ports after.source told))
     × ToldUpTo takes (HasUntakenAnswer guest p fails.exchanges fails.steps fails.process) why
-    (map taking told) outlet outlet'
+    (map taking told) before.outlet after.outlet
     × IsBatchCause guest p fuel fails.exchanges fails.steps fails.process why
 
 -- ---- a batch
@@ -102,5 +104,4 @@ pub record RunsBatch {D S O : Type 0} (medium : D → Medium) (gives : Giving S)
   pub carries : CallKeeps medium gives takes (Batch fuel most) before result after
   -- where it fails, it has run so far as a worker without a disk whose lines go to a list
   pub failed : before.worker.has_failed ≡ false → IfErr result (λ why. BatchFails gives takes
-      before.worker.process fuel why after.worker.process before.source after.source before.outlet
-      after.outlet)
+      before.worker.process fuel why after.worker.process (ports_of before) (ports_of after))

@@ -12,13 +12,11 @@ use Rattle.record_replay.specs.rules.Calls.{Giving, Taking, Exchange, Exchanges}
 use Rattle.sector_disk.specs.rules.Medium.{Medium}
 use Rattle.state_image.specs.rules.Saving.{saved_of}
 use Rattle.disk_layout.specs.rules.Places.{geometry_of}
-use Rattle.worker_store.specs.restart_theorem.Lives.{Act, Slice, Batch, Checkpoint, Cause}
-use Rattle.worker_store.specs.restart_theorem.Lives.{OfDisk, OfSource, OfAnswer}
+use Rattle.worker_store.specs.restart_theorem.Lives.{Act, Slice, Batch, Checkpoint, Cause, OfDisk}
+use Rattle.worker_store.specs.restart_theorem.Lives.{OfSource, OfAnswer, OfOutlet, OfMemory}
+use Rattle.worker_store.specs.restart_theorem.Lives.{OfBounds, OfJournal, OfLines, Reply, Spent}
+use Rattle.worker_store.specs.restart_theorem.Lives.{Waits, Over, Done, Fails, Event, Ended}
 use Rattle.worker_store.specs.restart_theorem.Lives.Act.{Upgrade as upgrading}
-use Rattle.worker_store.specs.restart_theorem.Lives.{OfOutlet, OfMemory, OfBounds, OfJournal}
-use Rattle.worker_store.specs.restart_theorem.Lives.{OfLines}
-use Rattle.worker_store.specs.restart_theorem.Lives.{Reply, Spent, Waits, Over, Done, Fails, Event}
-use Rattle.worker_store.specs.restart_theorem.Lives.{Ended}
 use Rattle.worker_store.specs.restart_theorem.Courses.{Stage, Open, phase_ended, stage_after}
 use Rattle.worker_store.specs.restart_theorem.Promises.{Promise, promised, AreKept}
 use Rattle.worker_store.specs.restart_theorem.Holds.{CarriesPromise, StaysWithin}
@@ -34,7 +32,7 @@ use Rattle.worker.specs.declared.fault.WorkFault.TheVariants.{Work, Disk, Store,
 use Rattle.worker.specs.declared.upgrade_fault.UpgradeFault.TheVariants as upgrade
 use Rattle.worker.specs.rules.CallCounts.{CallsForEvents}
 use Rattle.worker.specs.rules.DurableValues.{DurableValue}
-use Rattle.worker.specs.rules.OpenWorkers.{IsOpenOn}
+use Rattle.worker.specs.rules.OpenWorkers.{Identity, identity, IsOpenOn}
 use Rattle.worker.specs.rules.Scenes.{Scene}
 
 -- ---- what a call answers
@@ -117,6 +115,15 @@ HasCauseOf (Err why) guest config v old new = HasCauseAt why guest config v old 
 
 -- ---- a call
 
+-- a call of a worker: which one it is, and by which act of a life
+pub record Invocation : Type 0 where
+  pub of : Identity
+  pub act : Act
+
+-- of these
+abbrev pub invocation : Module → Settings → Guest → Act → Invocation
+invocation code config guest act = record { of = identity code config guest; act = act }
+
 -- what happens in a call, its end included, after which it shows this worker
 abbrev pub call_events : List Event → Act → Reply → ℕ → DurableValue → List Event
 call_events events act reply held w = events ++ Ended act reply held (saved_of w.process) ∷ []
@@ -126,21 +133,21 @@ call_events events act reply held w = events ++ Ended act reply held (saved_of w
 -- cut leaves is of a later generation than as much has then happened, or of a worker for which
 -- there is no room. Few calls of the disk are begun before each exchange and before the end.
 -- Without an error the worker is open on the disk again.
-pub record CallCarries (m : Module) (config : Settings) (guest : Guest) (promise : Promise)
-    (stage : Stage) (act : Act) (reply : Reply) (new : DurableValue) (disk disk' : Medium)
-    (exchanges : List Exchange) : Type 0 where
+pub record CallCarries (i : Invocation) (promise : Promise) (stage : Stage) (reply : Reply)
+    (new : DurableValue) (disk disk' : Medium) (exchanges : List Exchange) : Type 0 where
   pub events : List Event
   pub are : AreEvents exchanges events
   pub held : ℕ
-  pub kept : AreKept m config promise stage (call_events events act reply held new)
-  pub carried : CarriesPromise m config promise
-      (promised promise (call_events events act reply held new)) disk disk'
-  pub bounded : StaysWithin (promised promise (call_events events act reply held new)).events disk
+  pub kept : AreKept i.of.code i.of.config promise stage (call_events events i.act reply held new)
+  pub carried : CarriesPromise i.of.code i.of.config promise
+      (promised promise (call_events events i.act reply held new)) disk disk'
+  pub bounded : StaysWithin (promised promise (call_events events i.act reply held new)).events disk
       disk'
   pub counted : CallsForEvents (length exchanges + 1) disk disk'
   pub goes_on : phase_ended reply ≡ Open → (q : ProcessState)
-      × IsOpenOn m config guest (promised promise (call_events events act reply held new))
-      (stage_after stage (call_events events act reply held new)) q new disk'
+      × IsOpenOn i.of.code i.of.config i.of.guest
+      (promised promise (call_events events i.act reply held new))
+      (stage_after stage (call_events events i.act reply held new)) q new disk'
 
 -- A call of this act, with these exchanges. Whatever was promised of the worker that is open on
 -- this disk, and wherever a life is whose source and outlet will say what they now said, it keeps
@@ -153,7 +160,7 @@ ActCarries act exchanges old result new disk disk' =
     → stage.acts ≡ act ∷ acts → IsForetold stage exchanges
     → (reply : Reply) × IsReplyTo act result reply
     × HasCauseOf result guest config new.process disk disk'
-    × CallCarries m config guest promise stage act reply new disk disk' exchanges
+    × CallCarries (invocation m config guest act) promise stage reply new disk disk' exchanges
 
 -- a checkpoint and an upgrade ask no source, and tell no line
 abbrev pub MayExchange : Act → List Exchange → Type 0

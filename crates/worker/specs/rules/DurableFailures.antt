@@ -10,7 +10,7 @@ use Rattle.process.specs.rules.Stops.{CallsHost}
 use Rattle.wasi_abi.specs.declared.answer.Answer.{Answer}
 use Rattle.sector_disk.specs.rules.Medium.{Medium, spare}
 use Rattle.disk_layout.specs.declared.geometry.Geometry.{Geometry}
-use Rattle.record_replay.specs.rules.Calls.{Giving, Taking, Exchange}
+use Rattle.record_replay.specs.rules.Calls.{Giving, Taking, Ports, Exchange}
 use Rattle.worker_store.specs.declared.fault.StoreFault.TheVariants as store
 use Rattle.record_replay.specs.Turns.{working, failing}
 use Rattle.record_replay.specs.declared.slices.fault.SliceFault.TheVariants as slice
@@ -62,10 +62,10 @@ IsDiskCause guest p fuel exchanges steps q (Upgrade fault) = ⊥
 
 -- Whichever process was shown has gone on to one that is then shown, up to what failed.
 abbrev pub SlicesOnDiskInVain : {S O : Type 0} → Giving S → Taking O → ProcessValue → ℕ
-    → WorkFault → ProcessValue → S → S → O → O → Type 0
-SlicesOnDiskInVain gives takes old fuel why new source source' outlet outlet' =
+    → WorkFault → ProcessValue → Ports S O → Ports S O → Type 0
+SlicesOnDiskInVain gives takes old fuel why new before after =
     (guest : Guest) (p : ProcessState) → ShowsProcess old guest p
-    → (fails : Fails gives takes (working old) (failing new) guest p source source' outlet outlet')
+    → (fails : Fails gives takes (working old) (failing new) guest p before after)
     × IsDiskCause guest p fuel fails.exchanges fails.steps fails.process why
 
 -- ---- on whatever disk

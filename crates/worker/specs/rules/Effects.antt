@@ -19,9 +19,9 @@ use Rattle.worker.specs.rules.DurableCalls.{ActCarries, CallKeeps}
 use Rattle.worker.specs.rules.DurableFailures.{HasSliceCause, SlicesOnDiskInVain}
 use Rattle.worker.specs.rules.DurableValues.{DurableValue, without_disk}
 use Rattle.worker.specs.rules.Outlets.{HeedsOutlet, SaysOutletFault}
-use Rattle.worker.specs.rules.Recoveries.{HasRecoveryCause, Recovers, RecoveryCarries}
-use Rattle.worker.specs.rules.ShownDisks.{RecoversAsShown}
-use Rattle.worker.specs.rules.Scenes.{Scene}
+use Rattle.worker.specs.rules.Recoveries.{HasRecoveryCause, RecoveryCarries}
+use Rattle.worker.specs.rules.ShownDisks.{Recovers}
+use Rattle.worker.specs.rules.Scenes.{Scene, ports_of}
 use Rattle.worker.specs.rules.SliceCalls.{SliceCalls}
 use Rattle.worker.specs.rules.Unsynced.{CountsInRecovery, CountsInSlice}
 use Rattle.worker.specs.rules.Upgrades.{EndsInTwo, HasUpgradeCause, IsUpgradedIn, UpgradeCalls}
@@ -30,11 +30,10 @@ use Rattle.worker.specs.rules.Upgrades.{UpgradeFails, upgraded}
 -- A recovery: the worker that the disk stands for goes on.
 pub record RecoversWorker {D O : Type 0} (medium : D → Medium) (takes : Taking O)
     (result : Result DurableValue RecoverFault) (old new : D) (outlet outlet' : O) : Type 0 where
-  -- Nothing is written or told before a good sync. What the disk then shows decides the result.
+  -- Nothing is written or told before a good sync. What the disk then shows decides the result:
+  -- whatever is there, it is what the newest head and all after it say. What is refused there is
+  -- left as it is.
   pub recovers : Recovers medium takes result old new outlet outlet'
-  -- Whatever is on the disk, the result is what the newest head and all after it say, and what is
-  -- refused there is left as it is.
-  pub shown : RecoversAsShown medium takes result old new outlet outlet'
   -- whatever was promised is kept, by Ok or by any error
   pub carries : RecoveryCarries takes result (medium old) (medium new) outlet outlet'
   -- the disk has room for the worker
@@ -56,7 +55,7 @@ pub record RunsSteps {D S O : Type 0} (medium : D → Medium) (gives : Giving S)
   pub shows : before.worker.has_failed ≡ false → IsProcess before.worker.process
   -- it runs as a worker does that has no disk, and holds no line back
   pub done : IfOk result (λ now. Slices gives takes (without_disk before.worker) fuel now
-      (without_disk after.worker) before.source after.source before.outlet after.outlet)
+      (without_disk after.worker) (ports_of before) (ports_of after))
   -- where the worker waits or has ended, no line is beyond its process
   pub abreast : IfOk result (λ now. now ≢ Spent → after.worker.is_abreast ≡ true)
   -- after an error the worker has failed
@@ -84,8 +83,8 @@ pub record RunsSlice {D S O : Type 0} (medium : D → Medium) (gives : Giving S)
   pub carries : CallKeeps medium gives takes (Slice fuel) before result after
   -- where it fails, it has run so far as a worker that has no disk
   pub failed : before.worker.has_failed ≡ false → IfErr result (λ why. SlicesOnDiskInVain gives
-      takes before.worker.process fuel why after.worker.process before.source after.source
-      before.outlet after.outlet)
+      takes before.worker.process fuel why after.worker.process (ports_of before)
+      (ports_of after))
 
 -- What each call keeps that saves a worker: a checkpoint, or an upgrade.
 pub record KeepsInSaving (before after : DurableValue) (result : Result (Unit {0}) WorkFault)

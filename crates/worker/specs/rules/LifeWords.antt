@@ -2,8 +2,7 @@
 -- defined in `worker_store`.
 use Rattle.worker_store.specs.restart_theorem.Lives.Beginning.{Recovers}
 pub use Rattle.worker_store.specs.restart_theorem.Lives.{Act, Slice, Batch, Checkpoint, Upgrade}
-pub use Rattle.worker_store.specs.restart_theorem.Lives.{Beginning}
-pub use Rattle.worker_store.specs.restart_theorem.Lives.{Release}
+pub use Rattle.worker_store.specs.restart_theorem.Lives.{Beginning, Release}
 pub use Rattle.worker_store.specs.restart_theorem.Promises.{fuel_of}
 
 -- a life that begins by a recovery

@@ -8,9 +8,8 @@ use Rattle.sector_disk.specs.rules.Medium.{Medium}
 use Rattle.record_replay.specs.declared.fault.ReplayFault.TheVariants as replay
 use Rattle.record_replay.specs.rules.Calls.{Giving, Taking}
 use Rattle.worker_store.specs.restart_theorem.Lives.{Act, Slice, Batch, Checkpoint, Upgrade, Cause}
-use Rattle.worker_store.specs.restart_theorem.Lives.{OfMemory, OfOutlet}
-use Rattle.worker_store.specs.restart_theorem.Lives.{Event, Told, Asked, Opened, Ended, Beginning}
-use Rattle.worker_store.specs.restart_theorem.Lives.{Creates}
+use Rattle.worker_store.specs.restart_theorem.Lives.{OfMemory, OfOutlet, Event, Told, Asked, Opened}
+use Rattle.worker_store.specs.restart_theorem.Lives.{Ended, Beginning, Creates}
 use Rattle.worker_store.specs.restart_theorem.Lives.Beginning.{Recovers as recovers}
 use Rattle.worker.specs.declared.fault.WorkFault.{WorkFault}
 use Rattle.worker.specs.declared.recover_fault.RecoverFault.{RecoverFault}
@@ -21,8 +20,10 @@ use Rattle.worker.specs.rules.Checkpoints.{CheckpointFails}
 use Rattle.worker.specs.rules.Upgrades.{UpgradeFails}
 use Rattle.worker.specs.rules.DurableCreations.{CreationKeeps, IsNotCreatedOn}
 use Rattle.worker.specs.rules.RecoverFaults.{LayerWantsMemory}
-use Rattle.worker.specs.rules.Recoveries.{SaysNoWorker, Recovers, RecoveryCarries}
-use Rattle.worker.specs.rules.Scenes.{scene}
+use Rattle.worker.specs.rules.Recoveries.{SaysNoWorker, RecoveryCarries}
+use Rattle.worker.specs.rules.ShownDisks.{Recovers}
+use Rattle.worker.specs.rules.Scenes.{Scene, scene, Site, site, Surroundings, surroundings}
+use Rattle.worker.specs.rules.Scenes.{surroundings_of}
 
 -- ---- the calls of a life
 
@@ -37,68 +38,85 @@ FailsBy Upgrade old why new disk disk' = UpgradeFails old new.process disk disk'
 -- its clause says. After an error there is no other one. What is then still to be done, or that
 -- error.
 pub data CallsInOrder {D S O : Type 0} (medium : D → Medium) (gives : Giving S) (takes : Taking O)
-    : List Act → DurableValue → D → S → O → Result (List Act) RecoverFault → D → S → O → Type 0
-  where
-    no_more : {acts : List Act} {w : DurableValue} {disk : D} {source : S} {outlet : O}
-        → CallsInOrder medium gives takes acts w disk source outlet (Ok acts) disk source outlet
-    called : {act : Act} {acts : List Act} {w w' : DurableValue} {disk disk' last : D}
-        {source source' source_last : S} {outlet outlet' outlet_last : O}
-        {undone : Result (List Act) RecoverFault} (said : Answered act)
-        → CallKeeps medium gives takes act (scene w disk source outlet) (Ok said)
-        (scene w' disk' source' outlet')
-        → CallsInOrder medium gives takes acts w' disk' source' outlet' undone last source_last
-        outlet_last
-        → CallsInOrder medium gives takes (act ∷ acts) w disk source outlet undone last source_last
-        outlet_last
-    call_failed : {act : Act} {acts : List Act} {w w' : DurableValue} {why : WorkFault}
-        {disk last : D} {source source' : S} {outlet outlet' : O}
-        → CallKeeps medium gives takes act (scene w disk source outlet) (Err why)
-        (scene w' last source' outlet')
-        → FailsBy act w why w' (medium disk) (medium last)
-        → CallsInOrder medium gives takes (act ∷ acts) w disk source outlet
-        (Err (recover.Worker why)) last source' outlet'
+    : List Act → Scene D S O → Result (List Act) RecoverFault → Surroundings D S O → Type 0 where
+  no_more : {acts : List Act} {here : Scene D S O}
+      → CallsInOrder medium gives takes acts here (Ok acts) (surroundings_of here)
+  called : {act : Act} {acts : List Act} {before after : Scene D S O}
+      {undone : Result (List Act) RecoverFault} {last : Surroundings D S O} (said : Answered act)
+      → CallKeeps medium gives takes act before (Ok said) after
+      → CallsInOrder medium gives takes acts after undone last
+      → CallsInOrder medium gives takes (act ∷ acts) before undone last
+  call_failed : {act : Act} {acts : List Act} {before after : Scene D S O} {why : WorkFault}
+      → CallKeeps medium gives takes act before (Err why) after
+      → FailsBy act before.worker why after.worker (medium before.disk) (medium after.disk)
+      → CallsInOrder medium gives takes (act ∷ acts) before (Err (recover.Worker why))
+      (surroundings_of after)
+
+-- what a worker is created of: the bytes of a module, and its configuration
+pub record Recipe : Type 0 where
+  pub bytes : List ℕ
+  pub config : Settings
+
+-- of these
+abbrev pub recipe : List ℕ → Settings → Recipe
+recipe bytes config = record { bytes = bytes; config = config }
 
 -- what a creation answers, in the words of a recovery
 abbrev pub opened_by : Result DurableValue WorkFault → Result DurableValue RecoverFault
 opened_by (Ok w) = Ok w
 opened_by (Err why) = Err (recover.Worker why)
 
--- A life begins by a recovery. Where that says that there is no worker, one is created of these
--- bytes. The disk is one of the model: after the recovery there is an image that a cut may leave.
-pub data BeginsLife {D O : Type 0} (medium : D → Medium) (takes : Taking O) (bytes : List ℕ)
-    (config : Settings) : D → O → Beginning → Result DurableValue RecoverFault → D → O → Type 0
-  where
-    recovered : {result : Result DurableValue RecoverFault} {found disk : D} {outlet outlet' : O}
-        (image : DiskImage) → (medium disk).crash_images image → (SaysNoWorker result → ⊥)
-        → Recovers medium takes result found disk outlet outlet'
-        → RecoveryCarries takes result (medium found) (medium disk) outlet outlet'
-        → BeginsLife medium takes bytes config found outlet recovers result disk outlet'
-    created : {found mid disk : D} {outlet outlet' : O} (none : Result DurableValue RecoverFault)
-        (result : Result DurableValue WorkFault) (image : DiskImage)
-        → (medium mid).crash_images image → SaysNoWorker none
-        → Recovers medium takes none found mid outlet outlet'
-        → RecoveryCarries takes none (medium found) (medium mid) outlet outlet'
-        → CreationKeeps bytes config result (medium mid) (medium disk)
-        → IfErr result (IsNotCreatedOn bytes config (medium mid) (medium disk))
-        → BeginsLife medium takes bytes config found outlet Creates (opened_by result) disk outlet'
+-- A life begins by a recovery. Where that says that there is no worker, one is created. The disk is
+-- one of the model: after the recovery there is an image that a cut may leave.
+pub data BeginsLife {D O : Type 0} (medium : D → Medium) (takes : Taking O) (made_of : Recipe)
+    (found : Site D O) : Beginning → Result DurableValue RecoverFault → Site D O → Type 0 where
+  recovered : {result : Result DurableValue RecoverFault} {disk : D} {outlet : O}
+      (image : DiskImage) → (medium disk).crash_images image → (SaysNoWorker result → ⊥)
+      → Recovers medium takes result found.disk disk found.outlet outlet
+      → RecoveryCarries takes result (medium found.disk) (medium disk) found.outlet outlet
+      → BeginsLife medium takes made_of found recovers result (site disk outlet)
+  created : {mid disk : D} {outlet : O} (none : Result DurableValue RecoverFault)
+      (result : Result DurableValue WorkFault) (image : DiskImage)
+      → (medium mid).crash_images image → SaysNoWorker none
+      → Recovers medium takes none found.disk mid found.outlet outlet
+      → RecoveryCarries takes none (medium found.disk) (medium mid) found.outlet outlet
+      → CreationKeeps made_of.bytes made_of.config result (medium mid) (medium disk)
+      → IfErr result (IsNotCreatedOn made_of.bytes made_of.config (medium mid) (medium disk))
+      → BeginsLife medium takes made_of found Creates (opened_by result) (site disk outlet)
 
--- The calls of one life: how it begins, and the worker with which it opens. Then what is still to
--- be done in the end, or the error that ended it.
+-- What one life came to: how it began, and the worker with which it opened. Then what was still to
+-- be done in the end, or the error that ended it, and what it left.
+pub record OneLife (D S O : Type 0) : Type 0 where
+  pub begins : Beginning
+  pub worker : Option DurableValue
+  pub undone : Result (List Act) RecoverFault
+  pub last : Surroundings D S O
+
+-- of these
+abbrev pub one_life : {D S O : Type 0} → Beginning → Option DurableValue
+    → Result (List Act) RecoverFault → Surroundings D S O → OneLife D S O
+one_life begins worker undone last = record {
+  begins = begins;
+  worker = worker;
+  undone = undone;
+  last = last;
+}
+
+-- The calls of one life, from what it found on. No opening asks its source.
 pub data IsOneLife {D S O : Type 0} (medium : D → Medium) (gives : Giving S) (takes : Taking O)
-    (bytes : List ℕ) (config : Settings) (acts : List Act) : D → S → O → Beginning
-    → Option DurableValue → Result (List Act) RecoverFault → D → S → O → Type 0 where
-  opened : {found disk last : D} {source source' : S} {outlet outlet' outlet_last : O}
-      {begins : Beginning} {w : DurableValue} {undone : Result (List Act) RecoverFault}
-      → BeginsLife medium takes bytes config found outlet begins (Ok w) disk outlet'
-      → CallsInOrder medium gives takes acts w disk source outlet' undone last source' outlet_last
-      → IsOneLife medium gives takes bytes config acts found source outlet begins
-      (Some w) undone last source' outlet_last
-  unopened : {found last : D} {source : S} {outlet outlet' : O} {begins : Beginning}
-      {why : RecoverFault}
-      → BeginsLife medium takes bytes config found outlet begins (Err why) last outlet'
-      → IsOneLife medium gives takes bytes config acts found source outlet begins None (Err why)
-      last
-      source outlet'
+    (made_of : Recipe) (acts : List Act) (found : Surroundings D S O)
+    : OneLife D S O → Type 0 where
+  opened : {begins : Beginning} {w : DurableValue} {disk : D} {outlet : O}
+      {undone : Result (List Act) RecoverFault} {last : Surroundings D S O}
+      → BeginsLife medium takes made_of (site found.disk found.outlet) begins (Ok w)
+      (site disk outlet)
+      → CallsInOrder medium gives takes acts (scene w disk found.source outlet) undone last
+      → IsOneLife medium gives takes made_of acts found (one_life begins (Some w) undone last)
+  unopened : {begins : Beginning} {why : RecoverFault} {disk : D} {outlet : O}
+      → BeginsLife medium takes made_of (site found.disk found.outlet) begins (Err why)
+      (site disk outlet)
+      → IsOneLife medium gives takes made_of acts found
+      (one_life begins None (Err why) (surroundings disk found.source outlet))
 
 -- nothing is left to be done, or an error ended it
 abbrev pub undone_acts : Result (Unit {0}) RecoverFault → Result (List Act) RecoverFault

@@ -17,14 +17,24 @@ use Rattle.worker_store.specs.declared.store.WorkerStore.{WorkerStore}
 use Rattle.worker_store.specs.rules.Stores.{IsStoreOf}
 use Rattle.worker.specs.rules.DurableValues.{DurableValue}
 
+-- which worker it is: its module, its configuration, and its guest
+pub record Identity : Type 0 where
+  pub code : Module
+  pub config : Settings
+  pub guest : Guest
+
+-- of these
+abbrev pub identity : Module → Settings → Guest → Identity
+identity m config guest = record { code = m; config = config; guest = guest }
+
 -- The disk of a worker, and its store, which hold what is promised. The answers of a savepoint, of
 -- the records after it and of those that are pending are all kept answers. They lead to p without
 -- another one. The answers behind the guest's syncs up to this step are among those on the disk.
 -- The savepoint's generation is at most this one.
-pub record IsOnDisk (m : Module) (config : Settings) (guest : Guest) (promise : Promise)
-    (p : ProcessState) (step latest : ℕ) (store : WorkerStore) (disk : Medium) : Type 0 where
-  pub point : Savepoint m config
-  pub same : point.reached.guest ≡ guest
+pub record IsOnDisk (from : Identity) (promise : Promise) (p : ProcessState) (step latest : ℕ)
+    (store : WorkerStore) (disk : Medium) : Type 0 where
+  pub point : Savepoint from.code from.config
+  pub same : point.reached.guest ≡ from.guest
   pub records : List Record
   pub pending : List Record
   pub last : ProcessState
@@ -33,8 +43,8 @@ pub record IsOnDisk (m : Module) (config : Settings) (guest : Guest) (promise : 
   pub carried : IsCarried promise point store.journal records pending last now disk
   pub on_record : AreOnRecord promise point (records ++ pending)
   pub n : ℕ
-  pub runs : Runs guest now [] n p
-  pub syncs : SyncsAreHeld m config promise.kept (count_at point records) step
+  pub runs : Runs from.guest now [] n p
+  pub syncs : SyncsAreHeld from.code from.config promise.kept (count_at point records) step
   pub early : point.generation ≤ latest
 
 -- Where a worker says so, no line was ever begun beyond those of its process. It says so in a life
@@ -59,6 +69,6 @@ pub record IsOpenOn (m : Module) (config : Settings) (guest : Guest) (promise : 
   pub heard : length p.host.lines ≤ promise.heard
   pub passed : promise.passed ≤ length p.host.lines
   pub none_waits : waiting_in w.process ≡ []
-  pub on_disk : IsOnDisk m config guest promise p p.steps promise.events w.store disk
+  pub on_disk : IsOnDisk (identity m config guest) promise p p.steps promise.events w.store disk
   pub synced : promise.synced ≤ p.steps
   pub abreast : IsAbreast promise stage p w.is_abreast

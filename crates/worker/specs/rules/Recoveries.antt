@@ -1,6 +1,6 @@
 -- A worker that is recovered from its disk (this project's own).
 use Rattle.std.specs.Prelude.{◌≡◌, ◌⊎◌, ℕ, suc, ◌+◌, ◌-◌, ◌*◌, ◌≤◌, ◌<◌, false, List, [], ◌∷◌}
-use Rattle.std.specs.Prelude.{◌++◌, length, map, drop, is_some, Result, Ok, Err, IfOk}
+use Rattle.std.specs.Prelude.{◌++◌, length, map, drop, is_some, Result, Ok, Err}
 use Rattle.wasm_syntax.specs.declared.module.Module.{Module}
 use Rattle.wasi_abi.specs.declared.numbers.TheConstants.{NUMBERS_END}
 use Rattle.wasi_abi.specs.rules.Configs.{Settings}
@@ -19,7 +19,6 @@ use Rattle.sector_disk.specs.rules.Medium.{CallsUpTo, CountsUpTo}
 use Rattle.disk_layout.specs.declared.fault.LayoutFault.TheVariants as layout
 use Rattle.disk_layout.specs.declared.geometry.Geometry.{Geometry}
 use Rattle.disk_layout.specs.rules.Places.{geometry_of, area_place, rounded_up, total_sectors}
-use Rattle.disk_layout.specs.rules.Stored.{OnlyReads}
 use Rattle.snapshot.specs.declared.writing.Writing.TheVariants.{Changes}
 use Rattle.snapshot.specs.rules.Calls.{AreStores, with_head}
 use Rattle.record_replay.specs.declared.fault.ReplayFault.TheVariants as replay
@@ -30,15 +29,14 @@ use Rattle.worker_store.specs.restart_theorem.Lives.{Inputs, Event, Opened}
 use Rattle.worker_store.specs.restart_theorem.Courses.{Phase, Shut, Unheard, at_first, stage_after}
 use Rattle.worker_store.specs.restart_theorem.Promises.{Promise, promised, AreKept}
 use Rattle.worker_store.specs.restart_theorem.Holds.{IsUnopened, DiskImageHolds, KeepsPromise}
-use Rattle.worker_store.specs.restart_theorem.Holds.{CarriesPromise}
-use Rattle.worker_store.specs.restart_theorem.Holds.{KeepsBounds, StaysWithin}
+use Rattle.worker_store.specs.restart_theorem.Holds.{CarriesPromise, KeepsBounds, StaysWithin}
 use Rattle.worker_store.specs.restart_theorem.Exchanges.{AreEvents}
 use Rattle.worker_store.specs.rules.BetweenCalls.{IsForetold}
 use Rattle.worker_store.specs.declared.fault.StoreFault.TheVariants as store
 use Rattle.worker.specs.declared.fault.WorkFault.TheVariants.{Disk, Store}
 use Rattle.worker.specs.declared.recover_fault.RecoverFault.{RecoverFault}
 use Rattle.worker.specs.declared.recover_fault.RecoverFault.TheVariants.{Worker, Layout, Replay}
-use Rattle.worker.specs.rules.CallCounts.{most_opening, most_recovering}
+use Rattle.worker.specs.rules.CallCounts.{most_recovering}
 use Rattle.worker.specs.rules.DurableCalls.{TakesTooFew}
 use Rattle.worker.specs.rules.DurableValues.{DurableValue}
 use Rattle.worker.specs.rules.OpenWorkers.{IsOpenOn}
@@ -163,20 +161,6 @@ OpeningCalls w mid new = (stores : List DiskCall)
     × AreStores Changes (area_place w.store.geometry w.store.journal.generation)
     (rounded_up (length (process_image (saved_of w.process)))) stores
     × (new.calls ≡ with_head w.store.journal.generation stores ++ mid.calls)
-
--- Nothing is written or told before a good sync. What the disk then shows decides the result.
--- Where there is no worker nothing is written or told at all. Where one is opened, few calls of the
--- disk were begun: those of the sync, the reads and one commit.
-abbrev pub Recovers : {D O : Type 0} → (D → Medium) → Taking O → Result DurableValue RecoverFault
-    → D → D → O → O → Type 0
-Recovers {D} medium takes result old new outlet outlet' =
-    SyncFails result (medium old) (medium new) outlet outlet'
-    ⊎ ((mid : D) × IsJustSynced (medium old) (medium mid)
-    × ((image : DiskImage) → (medium mid).shows image
-    → RecoversFrom takes (medium old).sectors image result outlet outlet')
-    × (SaysNoWorker result → OnlyReads (medium mid) (medium new) × (outlet' ≡ outlet))
-    × IfOk result (λ w. OpeningCalls w (medium mid) (medium new)
-    × CallsUpTo (most_opening w.store.geometry (medium old).sectors) (medium old) (medium new)))
 
 -- ---- what was promised
 

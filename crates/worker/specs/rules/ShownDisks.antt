@@ -1,21 +1,20 @@
 -- What a recovery answers whatever is on its disk (this project's own).
 use Rattle.std.specs.Prelude.{◌≡◌, ◌≢◌, ◌⊎◌, ℕ, ◌+◌, ◌*◌, ◌≤◌, ◌<◌, false, List, length, Result}
-use Rattle.std.specs.Prelude.{is_some, Ok, Err, IfErr}
+use Rattle.std.specs.Prelude.{is_some, Ok, Err, IfErr, IfOk}
 use Rattle.wasm_syntax.specs.declared.module.Module.{Module}
 use Rattle.wasm_rules.specs.Acceptance.{IsAccepted}
 use Rattle.wasi_abi.specs.declared.numbers.TheConstants.{NUMBERS_END}
 use Rattle.process_rules.specs.Processes.{ProcessState}
 use Rattle.machine.specs.rules.Offers.{offer}
 use Rattle.machine.specs.declared.from_bytes.fault.ModuleFault.{ModuleFault}
-use Rattle.machine.specs.rules.Acceptance.{IsReported, ModuleFaultDenies}
-use Rattle.machine.specs.rules.Acceptance.{HasNoAcceptedModule}
+use Rattle.machine.specs.rules.Acceptance.{IsReported, ModuleFaultDenies, HasNoAcceptedModule}
 use Rattle.process.specs.rules.Values.{ProcessValue, ShowsProcess}
 use Rattle.state_image.specs.rules.ProcessImage.{Saved, IsMarkedOtherwise, process_image}
 use Rattle.state_image.specs.rules.Saving.{saved_of}
 use Rattle.state_image.specs.rules.WellTyped.{IsWellTyped}
 use Rattle.sector_disk.specs.declared.sector.TheConstants.{SECTOR_SIZE}
 use Rattle.sector_disk.specs.rules.DiskImage.{DiskImage}
-use Rattle.sector_disk.specs.rules.Medium.{Medium}
+use Rattle.sector_disk.specs.rules.Medium.{Medium, CallsUpTo}
 use Rattle.disk_layout.specs.declared.damage.Damage.{Damage}
 use Rattle.disk_layout.specs.declared.damage.Damage.TheVariants as damage
 use Rattle.disk_layout.specs.declared.fault.LayoutFault.{LayoutFault}
@@ -41,8 +40,10 @@ use Rattle.worker.specs.declared.fault.WorkFault.TheVariants.{Disk, Store}
 use Rattle.worker.specs.declared.recover_fault.RecoverFault.{RecoverFault}
 use Rattle.worker.specs.declared.recover_fault.RecoverFault.TheVariants as recover
 use Rattle.worker.specs.declared.surveyed.Survey.{Survey}
+use Rattle.worker.specs.rules.CallCounts.{most_opening}
 use Rattle.worker.specs.rules.DurableValues.{DurableValue}
-use Rattle.worker.specs.rules.Recoveries.{IsJustSynced, SyncFails}
+use Rattle.worker.specs.rules.Recoveries.{IsJustSynced, OpeningCalls, RecoversFrom, SaysNoWorker}
+use Rattle.worker.specs.rules.Recoveries.{SyncFails}
 
 -- ---- what a disk of so many sectors holds
 
@@ -185,8 +186,7 @@ abbrev pub StopsHeld : {O : Type 0} {sectors : ℕ} {disk : DiskImage} → Takin
     → HoldsWorker sectors disk → ReplayFault → O → O → Type 0
 StopsHeld takes held fault outlet outlet' =
     (come : ReplaysUpTo held.well_typed.guest held.well_typed.process held.records)
-    × StopsReplay takes held.saved.lines held.well_typed.guest come.reached come.rest come.process
-    fault outlet outlet'
+    × StopsReplay takes held.saved.lines come fault outlet outlet'
 
 -- The records have led to the last process, and all lines were told.
 pub record EndsHeld {O : Type 0} {sectors : ℕ} {disk : DiskImage} (takes : Taking O)
@@ -245,15 +245,23 @@ pub record LeavesRefused {O : Type 0} (why : RecoverFault) (mid new : Medium) (o
   pub untold : IsRefusal why → outlet' ≡ outlet
   pub unwritten : (IsOfSaving why → ⊥) → OnlyReads mid new
 
--- The disk couldn't be synced, and nothing was told. Or it was, and the answer is that of whatever
--- it then shows. What is refused there is left as it is.
-abbrev pub RecoversAsShown : {D O : Type 0} → (D → Medium) → Taking O
-    → Result DurableValue RecoverFault → D → D → O → O → Type 0
-RecoversAsShown {D} medium takes result old new outlet outlet' =
+-- ---- a recovery
+
+-- Nothing is written or told before a good sync. What the disk then shows decides the result, both
+-- where it stands for a worker and whatever else is there. Where there is no worker nothing is
+-- written or told at all. Where one is opened, few calls of the disk were begun: those of the sync,
+-- the reads and one commit. What is refused is left as it is.
+abbrev pub Recovers : {D O : Type 0} → (D → Medium) → Taking O → Result DurableValue RecoverFault
+    → D → D → O → O → Type 0
+Recovers {D} medium takes result old new outlet outlet' =
     SyncFails result (medium old) (medium new) outlet outlet'
     ⊎ ((mid : D) × IsJustSynced (medium old) (medium mid)
     × ((image : DiskImage) → (medium mid).shows image
-    → AnswersDisk takes (medium old).sectors image result outlet outlet')
+    → RecoversFrom takes (medium old).sectors image result outlet outlet'
+    × AnswersDisk takes (medium old).sectors image result outlet outlet')
+    × (SaysNoWorker result → OnlyReads (medium mid) (medium new) × (outlet' ≡ outlet))
+    × IfOk result (λ w. OpeningCalls w (medium mid) (medium new)
+    × CallsUpTo (most_opening w.store.geometry (medium old).sectors) (medium old) (medium new))
     × IfErr result (λ why. LeavesRefused why (medium mid) (medium new) outlet outlet'))
 
 -- ---- what a look at a disk answers

@@ -29,14 +29,14 @@ use Rattle.record_replay.specs.rules.Lists.{inner_outlet, until_fault}
 use Rattle.worker.specs.declared.story.hearing.HeardLines.{HeardLines}
 use Rattle.worker.specs.declared.story.life.PlannedLife.{PlannedLife}
 use Rattle.worker.specs.declared.story.report.LifeEnd.{LifeEnd}
-use Rattle.worker.specs.declared.story.report.LifeEnd.TheVariants.{Finished, Stopped}
-use Rattle.worker.specs.declared.story.report.LifeEnd.TheVariants.{Failed}
+use Rattle.worker.specs.declared.story.report.LifeEnd.TheVariants.{Finished, Stopped, Failed}
 use Rattle.worker.specs.declared.story.report.LifeReport.{LifeReport}
 use Rattle.worker.specs.declared.story.report.Opening.{Opening}
 use Rattle.worker.specs.declared.story.report.Opening.TheVariants.{Recovered}
-use Rattle.worker.specs.rules.OneLife.{IsOneLife, shown_first, undone_acts}
+use Rattle.worker.specs.rules.OneLife.{recipe, one_life, IsOneLife, shown_first, undone_acts}
 use Rattle.worker.specs.rules.DurableValues.{DurableValue}
 use Rattle.worker.specs.rules.Planned.{inputs_of, act_of, call_at, number_refused}
+use Rattle.worker.specs.rules.Scenes.{surroundings}
 use Rattle.worker.specs.rules.Told.{TellsOpening, TellsEach, BeginFewCalls}
 use Rattle.worker.specs.Hearing.{hands_out, hears}
 
@@ -127,8 +127,9 @@ pub record IsRunOn (bytes : List ℕ) (config : Settings) (planned : PlannedLife
   pub none_heard : (inner_outlet unheard).lines ≡ []
   pub refuse : until_fault unheard ≡ number_refused planned.refuse
   pub heard : RefusingOutlet HeardLines
-  pub calls : IsOneLife story_medium hands_out hears bytes config (map act_of planned.acts) first
-      planned.answers unheard begins worker (undone_acts ended) last unasked heard
+  pub calls : IsOneLife story_medium hands_out hears (recipe bytes config)
+      (map act_of planned.acts) (surroundings first planned.answers unheard)
+      (one_life begins worker (undone_acts ended) (surroundings last unasked heard))
   pub opened : TellsOpening begins (shown_first worker) report.opened
   pub generation : IsNextGeneration (memory_medium found) report.opened
   pub releases : report.releases ≡ (inner_outlet heard).lines

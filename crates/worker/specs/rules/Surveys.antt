@@ -12,8 +12,7 @@ use Rattle.worker.specs.declared.fault.WorkFault.TheVariants.{Disk}
 use Rattle.worker.specs.declared.recover_fault.RecoverFault.{RecoverFault}
 use Rattle.worker.specs.declared.recover_fault.RecoverFault.TheVariants.{Worker}
 use Rattle.worker.specs.declared.surveyed.Survey.{Survey}
-use Rattle.worker.specs.rules.Recoveries.{SaysNothing, MarksDecide, IsJustSynced}
-use Rattle.worker.specs.rules.Recoveries.{SyncFails}
+use Rattle.worker.specs.rules.Recoveries.{SaysNothing, MarksDecide, IsJustSynced, SyncFails}
 use Rattle.worker.specs.rules.ShownDisks.{SurveysDisk}
 
 -- The numbers of the process that an image has saved, and not of the one to which its records lead.

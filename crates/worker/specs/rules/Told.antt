@@ -1,6 +1,5 @@
 -- What a report tells of a life.
-use Rattle.std.specs.Prelude.{◌≡◌, ◌≤◌, ℕ, ◌+◌, ◌*◌, List, [], ◌∷◌, length, map, Option, Some}
-use Rattle.std.specs.Prelude.{None}
+use Rattle.std.specs.Prelude.{◌≡◌, ◌≤◌, ℕ, ◌+◌, ◌*◌, List, [], ◌∷◌, length, map, Option, Some, None}
 use Rattle.state_image.specs.rules.ProcessImage.{Saved, process_image}
 use Rattle.record_replay.specs.declared.line_list.NumberedLine.{NumberedLine}
 use Rattle.record_replay.specs.rules.Lists.{numbered}
@@ -10,8 +9,7 @@ use Rattle.worker_store.specs.restart_theorem.Lives.End.{Finished as finished, S
 use Rattle.worker_store.specs.restart_theorem.Lives.End.{Failed as failed}
 use Rattle.worker.specs.rules.OneLife.{opened_in, IsCauseOf}
 use Rattle.worker.specs.declared.story.report.Opening.{Opening}
-use Rattle.worker.specs.declared.story.report.Opening.TheVariants.{Created, Recovered}
-use Rattle.worker.specs.declared.story.report.Opening.TheVariants.{Unopened}
+use Rattle.worker.specs.declared.story.report.Opening.TheVariants.{Created, Recovered, Unopened}
 use Rattle.worker.specs.declared.story.report.LifeEnd.{LifeEnd}
 use Rattle.worker.specs.declared.story.report.LifeEnd.TheVariants as told
 use Rattle.worker.specs.declared.story.report.LifeReport.{LifeReport}

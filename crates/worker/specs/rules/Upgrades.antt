@@ -1,7 +1,6 @@
 -- What an upgrade does to a worker and its disk: how a worker of version 1 becomes one of version 2
 -- (this project's own).
-use Rattle.std.specs.Prelude.{◌≡◌, ◌⊎◌, ℕ, ◌+◌, false, [], ◌∷◌}
-use Rattle.std.specs.Prelude.{◌++◌, take, Result, Err}
+use Rattle.std.specs.Prelude.{◌≡◌, ◌⊎◌, ℕ, ◌+◌, false, [], ◌∷◌, ◌++◌, take, Result, Err}
 use Rattle.wasm_syntax.specs.declared.module.Module.{Module}
 use Rattle.wasi_abi.specs.declared.version.Version.{Version}
 use Rattle.wasi_abi.specs.declared.version.Version.TheVariants.{One, Two}
@@ -22,8 +21,7 @@ use Rattle.worker.specs.declared.fault.WorkFault.TheVariants.{Disk, Upgrade}
 use Rattle.worker.specs.declared.upgrade_fault.UpgradeFault.{UpgradeFault}
 use Rattle.worker.specs.declared.upgrade_fault.UpgradeFault.TheVariants.{JournalTooSmall}
 use Rattle.worker.specs.declared.upgrade_fault.UpgradeFault.TheVariants.{NotCaughtUp}
-use Rattle.worker.specs.rules.Checkpoints.{CheckpointCalls, HasCheckpointCause}
-use Rattle.worker.specs.rules.Checkpoints.{IsCheckpointFault}
+use Rattle.worker.specs.rules.Checkpoints.{CheckpointCalls, HasCheckpointCause, IsCheckpointFault}
 use Rattle.worker.specs.rules.DurableValues.{DurableValue}
 use Rattle.worker.specs.rules.OpenWorkers.{IsOpenOn}
 

@@ -3,11 +3,11 @@
 ghost use Rattle.std.specs.Prelude.{◌≤◌, map, Some, IfOk, OnOk};
 ghost use Rattle.state_image.specs.rules.Saving.{saved_of};
 ghost use Rattle.disk_layout.specs.rules.Places.{total_sectors};
-ghost use Rattle.worker.specs.rules.OneLife.{CallsInOrder, undone_acts};
+ghost use Rattle.worker.specs.rules.OneLife.{CallsInOrder, recipe, undone_acts};
 ghost use Rattle.worker.specs.rules.Planned.{act_of};
+ghost use Rattle.worker.specs.rules.Scenes.{scene, surroundings};
 ghost use Rattle.worker.specs.rules.Told.{TellsOpening};
-ghost use Rattle.worker.specs.LifeCalls.{TellsGeneration};
-ghost use Rattle.worker.specs.LifeCalls.{LeavesSome, DoesAct, LivesOnce};
+ghost use Rattle.worker.specs.LifeCalls.{TellsGeneration, LeavesSome, DoesAct, LivesOnce};
 ghost use Rattle.worker.specs.LifeCalls.{beginning_of};
 
 use crate::story::life::PlannedAct;
@@ -46,8 +46,9 @@ pub(crate) fn live_once<D: Disk, S: Source + Readiness, O: Outlet>(
     outlet: &mut O,
 ) -> Result<LivedOnce, AllocError>
     ensures { IfOk result (λ lived. LeavesSome D.medium → LivesOnce D.medium S.gives O.takes
-        spelled.entry.wasm.now spelled.entry.config.now (map act_of acts.now) lived disk.old
-        source.old outlet.old disk.new source.new outlet.new) }
+        (recipe spelled.entry.wasm.now spelled.entry.config.now) (map act_of acts.now)
+        (surroundings disk.old source.old outlet.old) lived
+        (surroundings disk.new source.new outlet.new)) }
 {
     match open_worker(alloc, spelled.wasm, spelled.config, disk, outlet) {
         Ok(opened) => go_on(alloc, opened, disk, acts, source, outlet),
@@ -73,8 +74,8 @@ fn go_on<D: Disk, S: Source + Readiness, O: Outlet>(
     ensures generation { IfOk result (λ lived.
         TellsGeneration opened.is_created opened.worker.store.journal.generation lived.opened) }
     ensures done { IfOk result (λ lived. CallsInOrder D.medium S.gives O.takes (map act_of acts.now)
-        opened.worker disk.old source.old outlet.old (undone_acts lived.ended) disk.new source.new
-        outlet.new) }
+        (scene opened.worker disk.old source.old outlet.old) (undone_acts lived.ended)
+        (surroundings disk.new source.new outlet.new)) }
 {
     let OpenedWorker {
         mut worker,
@@ -123,8 +124,9 @@ fn do_all<D: Disk, S: Source + Readiness, O: Outlet>(
     outlet: &mut O,
 ) -> Result<(), RecoverFault>
     requires { total_sectors worker.old.store.geometry ≤ (D.medium disk.old).sectors }
-    ensures { CallsInOrder D.medium S.gives O.takes (map act_of acts.now) worker.old disk.old
-        source.old outlet.old (undone_acts result) disk.new source.new outlet.new }
+    ensures { CallsInOrder D.medium S.gives O.takes (map act_of acts.now)
+        (scene worker.old disk.old source.old outlet.old) (undone_acts result)
+        (surroundings disk.new source.new outlet.new) }
 {
     for act in acts {
         match do_one(worker, disk, *act, source, outlet) {
@@ -143,8 +145,9 @@ fn do_one<D: Disk, S: Source + Readiness, O: Outlet>(
     outlet: &mut O,
 ) -> Result<(), WorkFault>
     requires { total_sectors worker.old.store.geometry ≤ (D.medium disk.old).sectors }
-    ensures does { DoesAct D.medium S.gives O.takes (act_of act) worker.old disk.old source.old
-        outlet.old result worker.new disk.new source.new outlet.new }
+    ensures does { DoesAct D.medium S.gives O.takes (act_of act)
+        (scene worker.old disk.old source.old outlet.old) result
+        (scene worker.new disk.new source.new outlet.new) }
     ensures room { OnOk result
         (total_sectors worker.new.store.geometry ≤ (D.medium disk.new).sectors) }
 {

@@ -54,8 +54,7 @@
 ghost use Rattle.std.specs.Prelude.{◌≡◌, ◌++◌, ◌<◌, ◌≤◌, ◌^◌, IfOk, IfSome, List, length, take};
 ghost use Rattle.record_replay.specs.rules.Lists.{inner_outlet};
 ghost use Rattle.worker.specs.rules.Planned.{number_refused};
-ghost use Rattle.worker.specs.rules.StoryDisks.{IsEmptyDiskFor, IsRunOn};
-ghost use Rattle.worker.specs.rules.StoryDisks.{TellsLives};
+ghost use Rattle.worker.specs.rules.StoryDisks.{IsEmptyDiskFor, IsRunOn, TellsLives};
 ghost use Rattle.disk_layout.specs.rules.Unsynced.{most_unsynced};
 ghost use Rattle.worker.specs.Endings.{EndsLife};
 ghost use Rattle.worker.specs.Going.{GoOnBehind, HasSize, HaveStarted, LivesOn, AddsReports};

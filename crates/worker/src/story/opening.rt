@@ -2,7 +2,9 @@
 
 ghost use Rattle.std.specs.Prelude.{◌≤◌, ◌↔◌, IfOk, IsTrue};
 ghost use Rattle.disk_layout.specs.rules.Places.{total_sectors};
+ghost use Rattle.worker.specs.rules.OneLife.{recipe};
 ghost use Rattle.worker.specs.rules.Recoveries.{IsNoWorker};
+ghost use Rattle.worker.specs.rules.Scenes.{site};
 ghost use Rattle.worker.specs.LifeCalls.{LeavesSome, Opens};
 
 use crate::{RecoverFault, Worker};
@@ -26,8 +28,8 @@ pub(crate) fn open_worker<D: Disk, O: Outlet>(
     disk: &mut D,
     outlet: &mut O,
 ) -> Result<OpenedWorker, RecoverFault>
-    ensures opens { LeavesSome D.medium → Opens D.medium O.takes wasm.now config.now disk.old
-        outlet.old result disk.new outlet.new }
+    ensures opens { LeavesSome D.medium → Opens D.medium O.takes (recipe wasm.now config.now)
+        (site disk.old outlet.old) result (site disk.new outlet.new) }
     ensures room { IfOk result (λ opened.
         total_sectors opened.worker.store.geometry ≤ (D.medium disk.new).sectors) }
 {

@@ -1,5 +1,4 @@
-use Rattle.worker.proofs.DurableLemmas.Bounds.{open_workers_keep_bounds}
-use Rattle.worker.proofs.DurableLemmas.Bounds.{staying_keeps_bounds}
+use Rattle.worker.proofs.DurableLemmas.Bounds.{open_workers_keep_bounds, staying_keeps_bounds}
 use Rattle.worker.proofs.laws.open_workers_keep_bounds.Goals as goal
 
 pub returns-clause-keeps : goal.returns-clause-keeps

@@ -1,5 +1,4 @@
-use Rattle.worker.proofs.RecoveryLemmas.NextPoint.{is_replayed, revives_found}
-use Rattle.worker.proofs.RecoveryLemmas.NextPoint.{stops_found}
+use Rattle.worker.proofs.RecoveryLemmas.NextPoint.{is_replayed, revives_found, stops_found}
 use Rattle.worker.proofs.recovering.revive.Goals as goal
 
 pub returns-in-Ok : goal.returns-in-Ok

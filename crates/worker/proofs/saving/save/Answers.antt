@@ -3,12 +3,10 @@ use Rattle.std.proofs.lemmas.Result.{on_err_weaker, on_ok_weaker}
 use Rattle.sector_disk.proofs.Moments.{goes_on}
 use Rattle.worker_store.specs.declared.store.WorkerStore.{WorkerStore}
 use Rattle.worker.proofs.SavingLemmas.{barrier_saves, commit_saves, commit_saved}
-use Rattle.worker.proofs.SavingLemmas.{barrier_calls_begun, commit_calls_behind}
-use Rattle.worker.proofs.SavingLemmas.{barrier_fails}
+use Rattle.worker.proofs.SavingLemmas.{barrier_calls_begun, commit_calls_behind, barrier_fails}
 use Rattle.worker.proofs.SavingLemmas.{commit_fails, still_room}
-use Rattle.worker.proofs.StoreTurnLemmas.{barrier_went, barrier_failed, commit_runs}
-use Rattle.worker.proofs.StoreTurnLemmas.{saves_join, barrier_save_cause}
-use Rattle.worker.proofs.StoreTurnLemmas.{commit_save_cause}
+use Rattle.worker.proofs.StoreTurnLemmas.{barrier_went, barrier_failed, commit_runs, saves_join}
+use Rattle.worker.proofs.StoreTurnLemmas.{barrier_save_cause, commit_save_cause}
 use Rattle.worker.proofs.saving.save.Goals as goal
 
 pub returns-in-Err-clause-any_moment : goal.returns-in-Err-clause-any_moment

@@ -3,9 +3,8 @@ use Rattle.std.proofs.lemmas.Result.{err_from_is_err_and}
 use Rattle.sector_disk.proofs.CountLemmas.{counts_same}
 use Rattle.worker.specs.declared.fault.WorkFault.TheVariants.{Upgrade}
 use Rattle.worker.specs.declared.upgrade_fault.UpgradeFault.TheVariants.{JournalTooSmall}
-use Rattle.worker.proofs.SuccessionLemmas.{refused_keeps, refused_calls, short_enough}
-use Rattle.worker.proofs.SuccessionLemmas.{laid_created, laid_refused, laid_untouched}
-use Rattle.worker.proofs.SuccessionLemmas.{laid_keeps, laid_calls}
+use Rattle.worker.proofs.SuccessionLemmas.{refused_keeps, refused_calls, short_enough, laid_created}
+use Rattle.worker.proofs.SuccessionLemmas.{laid_refused, laid_untouched, laid_keeps, laid_calls}
 use Rattle.worker.proofs.succession.create_from.Goals as goal
 
 pub lay_out-laid-requires : goal.lay_out-laid-requires

@@ -9,14 +9,12 @@ use Rattle.worker.specs.Savings.{SaveCalls, HasSaveCause}
 use Rattle.worker.specs.rules.Upgrades.{upgraded}
 use Rattle.worker.specs.Upgrading.{AfterFault}
 use Rattle.worker.proofs.SavingLemmas.{barrier_saves, commit_saves, commit_saved}
-use Rattle.worker.proofs.SavingLemmas.{barrier_calls_begun, commit_calls_behind}
-use Rattle.worker.proofs.SavingLemmas.{barrier_fails}
+use Rattle.worker.proofs.SavingLemmas.{barrier_calls_begun, commit_calls_behind, barrier_fails}
 use Rattle.worker.proofs.SavingLemmas.{commit_fails, still_room}
 use Rattle.worker.proofs.SavingInTwoLemmas.{fault_same, fault_of_commit, late_fails, late_cause}
 use Rattle.worker.proofs.SavingInTwoLemmas.{late_runs, bars_and_commits}
-use Rattle.worker.proofs.StoreTurnLemmas.{barrier_went, barrier_failed, commit_runs}
-use Rattle.worker.proofs.StoreTurnLemmas.{saves_join, barrier_save_cause}
-use Rattle.worker.proofs.StoreTurnLemmas.{commit_save_cause}
+use Rattle.worker.proofs.StoreTurnLemmas.{barrier_went, barrier_failed, commit_runs, saves_join}
+use Rattle.worker.proofs.StoreTurnLemmas.{barrier_save_cause, commit_save_cause}
 use Rattle.worker.proofs.WideningLemmas.{is_upgraded}
 use Rattle.worker.proofs.widening.save_in_two.Goals as goal
 

@@ -1,10 +1,11 @@
 use Rattle.std.proofs.Common.{subst, Ok, Err}
+use Rattle.record_replay.specs.rules.Calls.{ports}
 use Rattle.worker.specs.rules.DurableValues.{DurableValue, durable_of}
 use Rattle.worker_store.specs.restart_theorem.Lives.{Batch}
 use Rattle.worker.specs.rules.Batches.{BatchFails}
 use Rattle.worker.specs.rules.DurableCalls.{CallKeeps}
 use Rattle.worker.specs.rules.Scenes.{scene}
-use Rattle.worker.specs.BatchTurns.{WorksInBatch}
+use Rattle.worker.specs.BatchTurns.{WorksInBatch, holding}
 use Rattle.worker.proofs.StepLemmas.{steps_done, steps_failed}
 use Rattle.worker.proofs.CheckpointLemmas.{works_inside}
 use Rattle.worker.proofs.DurableLemmas.BatchEnds.{finishes, batch_carries, batch_fails}
@@ -23,11 +24,12 @@ returns-in-Ok g c =
     let replayed = c.self.inside.replayed in
     let new = c.tell_rest.new.self in
     let before = works_inside c.self.view_is c.requires.works in
-    let works = subst (λ n. WorksInBatch g.D.Disk.medium g.S.Source.gives g.O.Outlet.takes running
-    c.args.watched.fuel n c.work_in_batch-worked.result c.work_in_batch-worked.new.self
-    c.work_in_batch-worked.new.queue.lines c.args.disk.now c.work_in_batch-worked.new.disk
-    c.args.source.now c.work_in_batch-worked.new.source c.args.outlet.now
-    c.work_in_batch-worked.new.outlet) c.new-queue.ensures.most
+    let works = subst (λ n. WorksInBatch g.D.Disk.medium g.S.Source.gives g.O.Outlet.takes
+    (Batch c.args.watched.fuel n) (scene running c.args.disk.now c.args.source.now
+    c.args.outlet.now) c.work_in_batch-worked.result
+    (scene (holding c.work_in_batch-worked.new.self c.work_in_batch-worked.new.queue.lines)
+    c.work_in_batch-worked.new.disk c.work_in_batch-worked.new.source
+    c.work_in_batch-worked.new.outlet)) c.new-queue.ensures.most
     c.work_in_batch-worked.ensures.works in
     let finished = finishes g.D.Disk.medium g.S.Source.gives g.O.Outlet.takes running
     c.args.watched.fuel
@@ -66,11 +68,12 @@ returns g c =
     let replayed = c.self.inside.replayed in
     let new = c.tell_rest.new.self in
     let before = works_inside c.self.view_is c.requires.works in
-    let works = subst (λ n. WorksInBatch g.D.Disk.medium g.S.Source.gives g.O.Outlet.takes running
-    c.args.watched.fuel n c.work_in_batch-worked.result c.work_in_batch-worked.new.self
-    c.work_in_batch-worked.new.queue.lines c.args.disk.now c.work_in_batch-worked.new.disk
-    c.args.source.now c.work_in_batch-worked.new.source c.args.outlet.now
-    c.work_in_batch-worked.new.outlet) c.new-queue.ensures.most
+    let works = subst (λ n. WorksInBatch g.D.Disk.medium g.S.Source.gives g.O.Outlet.takes
+    (Batch c.args.watched.fuel n) (scene running c.args.disk.now c.args.source.now
+    c.args.outlet.now) c.work_in_batch-worked.result
+    (scene (holding c.work_in_batch-worked.new.self c.work_in_batch-worked.new.queue.lines)
+    c.work_in_batch-worked.new.disk c.work_in_batch-worked.new.source
+    c.work_in_batch-worked.new.outlet)) c.new-queue.ensures.most
     c.work_in_batch-worked.ensures.works in
     let finished = finishes g.D.Disk.medium g.S.Source.gives g.O.Outlet.takes running
     c.args.watched.fuel
@@ -96,9 +99,9 @@ returns g c =
           c.args.watched.fuel c.args.most c.args.disk.now c.tell_rest.new.disk c.args.source.now
           c.work_in_batch-worked.new.source c.args.outlet.now c.tell_rest.new.outlet
           c.fail.new.self c.in-Err.fault finished.over);
-      failed = λ works. subst (λ (v : DurableValue). BatchFails g.S.Source.gives
-          g.O.Outlet.takes v.process c.args.watched.fuel c.in-Err.fault new.process
-          c.args.source.now c.work_in_batch-worked.new.source c.args.outlet.now
-          c.tell_rest.new.outlet)
+      failed = λ works. subst (λ (v : DurableValue). BatchFails g.S.Source.gives g.O.Outlet.takes
+          v.process c.args.watched.fuel c.in-Err.fault new.process
+          (ports c.args.source.now c.args.outlet.now)
+          (ports c.work_in_batch-worked.new.source c.tell_rest.new.outlet))
           c.self.view_is finished.failed;
     }

@@ -1,9 +1,8 @@
 use Rattle.std.proofs.Common.{refl}
 use Rattle.sector_disk.proofs.CountLemmas.{counts_same}
 use Rattle.std.proofs.lemmas.Result.{err_from_is_err_and}
-use Rattle.worker.proofs.CreationLemmas.{refused_keeps, refused_calls, short_enough}
-use Rattle.worker.proofs.CreationLemmas.{laid_created, laid_refused, laid_untouched}
-use Rattle.worker.proofs.CreationLemmas.{laid_keeps, laid_calls}
+use Rattle.worker.proofs.CreationLemmas.{refused_keeps, refused_calls, short_enough, laid_created}
+use Rattle.worker.proofs.CreationLemmas.{laid_refused, laid_untouched, laid_keeps, laid_calls}
 use Rattle.worker.proofs.durable.Worker.create.Goals as goal
 
 pub lay_out-laid-requires : goal.lay_out-laid-requires

@@ -1,14 +1,10 @@
 use Rattle.std.proofs.Common.{inl, arith}
 use Rattle.worker.proofs.RecoveryCallLemmas.{revival_calls, revival_room}
-use Rattle.worker.proofs.RecoveryLemmas.Results.{failed_sync_carries, not_found_recovers}
-use Rattle.worker.proofs.RecoveryLemmas.Results.{failed_sync_recovers, not_found_carries}
-use Rattle.worker.proofs.RecoveryLemmas.Results.{is_found_recovers, is_found_carries}
-use Rattle.worker.proofs.RecoveryLemmas.Results.{is_just_synced, sync_faulted}
-use Rattle.worker.proofs.RecoveryLemmas.Causes.{failed_sync_cause, unfound_cause}
-use Rattle.worker.proofs.RecoveryLemmas.Causes.{revival_cause}
-use Rattle.worker.proofs.AnswerLemmas.{failed_sync_shown, unfound_shown, found_shown}
-use Rattle.worker.proofs.OutletLemmas.{none_told, disk_is_other, found_is_other}
-use Rattle.worker.proofs.OutletLemmas.{revival_heeds}
+use Rattle.worker.proofs.RecoveryLemmas.Results.{failed_sync_carries, not_found_carries}
+use Rattle.worker.proofs.RecoveryLemmas.Results.{is_found_carries, is_just_synced, sync_faulted}
+use Rattle.worker.proofs.RecoveryLemmas.Causes.{failed_sync_cause, unfound_cause, revival_cause}
+use Rattle.worker.proofs.AnswerLemmas.{failed_sync_recovers, not_found_recovers, is_found_recovers}
+use Rattle.worker.proofs.OutletLemmas.{none_told, disk_is_other, found_is_other, revival_heeds}
 use Rattle.worker.proofs.RecoveryLemmas.Counts.{revival_counts}
 use Rattle.worker.proofs.durable.Worker.recover.Goals as goal
 
@@ -19,8 +15,6 @@ returns-in-Err g c =
     let syncs = c.in-Err.ensures in
     record {
       recovers = failed_sync_recovers g.D.Disk.medium g.O.Outlet.takes c.args.disk.now
-          c.sync.new.self c.args.outlet.now c.in-Err.fault syncs c.from.result c.from.ensures;
-      shown = failed_sync_shown g.D.Disk.medium g.O.Outlet.takes c.args.disk.now
           c.sync.new.self c.args.outlet.now c.in-Err.fault syncs c.from.result c.from.ensures;
       carries = failed_sync_carries g.D.Disk.medium g.O.Outlet.takes c.args.disk.now
           c.sync.new.self c.args.outlet.now c.in-Err.fault syncs c.from.result c.from.ensures;
@@ -48,10 +42,8 @@ returns-in-Err-find g c =
     record {
       recovers = not_found_recovers g.D.Disk.medium g.O.Outlet.takes c.args.disk.now
           c.sync.new.self c.find.new.disk c.in_default.field-0 syncs found.searches.reads
-          found.searches.asks c.args.outlet.now c.in-Err-find.fault found.finds found.marks;
-      shown = unfound_shown g.D.Disk.medium g.O.Outlet.takes c.args.disk.now c.sync.new.self
-          c.find.new.disk c.in_default.field-0 syncs found.searches.reads found.searches.asks
-          c.args.outlet.now c.in-Err-find.fault found.shows;
+          found.searches.asks c.args.outlet.now c.in-Err-find.fault found.finds found.marks
+          found.shows;
       carries = not_found_carries g.D.Disk.medium g.O.Outlet.takes c.args.disk.now
           c.sync.new.self c.find.new.disk c.in_default.field-0 syncs found.searches.reads
           found.searches.asks c.args.outlet.now c.in-Err-find.fault found.finds found.marks
@@ -81,11 +73,7 @@ returns-in-Ok g c =
           c.sync.new.self c.find.new.disk c.in_default.field-0 syncs found.searches.reads
           found.searches.asks c.args.outlet.now c.revive.new.disk c.revive.new.outlet
           c.process_images_fit_areas.ensures c.in-Ok.found found.finds found.marks found.few
-          c.revive.result c.revive.ensures;
-      shown = found_shown g.D.Disk.medium g.O.Outlet.takes c.args.disk.now c.sync.new.self
-          c.find.new.disk c.in_default.field-0 syncs found.searches.reads found.searches.asks
-          c.args.outlet.now c.revive.new.disk c.revive.new.outlet c.in-Ok.found found.shows
-          c.revive.result c.revive.ensures;
+          found.shows c.revive.result c.revive.ensures;
       carries = is_found_carries g.D.Disk.medium g.O.Outlet.takes c.args.disk.now
           c.sync.new.self c.find.new.disk c.in_default.field-0 syncs found.searches.reads
           found.searches.asks c.args.outlet.now c.revive.new.disk c.revive.new.outlet

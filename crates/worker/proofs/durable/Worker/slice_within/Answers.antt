@@ -1,4 +1,5 @@
 use Rattle.std.proofs.Common.{subst, Ok, Err}
+use Rattle.record_replay.specs.rules.Calls.{ports}
 use Rattle.worker.specs.rules.DurableValues.{DurableValue, durable_of}
 use Rattle.worker_store.specs.restart_theorem.Lives.{Slice}
 use Rattle.worker.specs.rules.DurableCalls.{CallKeeps}
@@ -56,7 +57,7 @@ returns-in-Err g c =
           c.args.outlet.now c.work.new.outlet c.fail.new.self c.in-Err.fault
           c.in-Err.ensures.works);
       failed = λ works. subst (λ (v : DurableValue). SlicesOnDiskInVain g.S.Source.gives
-          g.O.Outlet.takes v.process c.args.fuel c.in-Err.fault new.process c.args.source.now
-          c.work.new.source c.args.outlet.now c.work.new.outlet) c.self.view_is
-          c.in-Err.ensures.failed;
+          g.O.Outlet.takes v.process c.args.fuel c.in-Err.fault new.process
+          (ports c.args.source.now c.args.outlet.now)
+          (ports c.work.new.source c.work.new.outlet)) c.self.view_is c.in-Err.ensures.failed;
     }

@@ -1,8 +1,7 @@
 use Rattle.std.proofs.Common.{◌+◌, ap, refl, inl}
 use Rattle.std.proofs.lemmas.Result.{err_from_is_err_and}
 use Rattle.worker.proofs.DurableLemmas.Advancing.{says_abreast}
-use Rattle.worker.proofs.DurableLemmas.Asking.{asks_turn, asks_nothing, room_said}
-use Rattle.worker.proofs.DurableLemmas.Asking.{hears_abreast}
+use Rattle.worker.proofs.DurableLemmas.Asking.{asks_turn, asks_nothing, room_said, hears_abreast}
 use Rattle.worker.proofs.DurableLemmas.Slicing.{once_if_ok}
 use Rattle.worker.proofs.DurableLemmas.InVain.{hears_in_vain}
 use Rattle.worker.proofs.DurableLemmas.AskingInBatch.{asks_holding, asks_none_holding}

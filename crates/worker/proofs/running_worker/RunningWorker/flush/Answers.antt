@@ -3,11 +3,9 @@ use Rattle.std.proofs.lemmas.Result.{err_from_is_err_and}
 use Rattle.record_replay.specs.declared.slices.fault.SliceFault.TheVariants as slice
 use Rattle.worker.specs.declared.fault.WorkFault.TheVariants.{Work}
 use Rattle.worker.specs.declared.running_worker.RunningWorker.{RunningWorker}
-use Rattle.worker.proofs.DurableLemmas.Flushing.{flush_not_stored, flushes_all}
-use Rattle.worker.proofs.DurableLemmas.Flushing.{flushes_some}
+use Rattle.worker.proofs.DurableLemmas.Flushing.{flush_not_stored, flushes_all, flushes_some}
 use Rattle.worker.proofs.DurableLemmas.InVain.{no_memory, no_number}
-use Rattle.worker.proofs.PayingLemmas.{barrier_leaves, barrier_leaves_then}
-use Rattle.worker.proofs.PayingLemmas.{failed_barrier_leaves}
+use Rattle.worker.proofs.PayingLemmas.{barrier_leaves, barrier_leaves_then, failed_barrier_leaves}
 use Rattle.worker.proofs.running_worker.RunningWorker.flush.Goals as goal
 
 pub returns-in_err-barrier-clause-turn : goal.returns-in_err-barrier-clause-turn

@@ -7,8 +7,7 @@ use Rattle.worker.specs.BatchTurns.{held_as_begun}
 use Rattle.worker.proofs.DurableLemmas.Flushing.{flushes_not, flushes_queue, refuses_queue}
 use Rattle.worker.proofs.DurableLemmas.Holding.{held_refused, waiting_refused}
 use Rattle.worker.proofs.DurableLemmas.BatchFaults.{barrier_is}
-use Rattle.worker.proofs.PayingLemmas.{barrier_leaves, barrier_leaves_then}
-use Rattle.worker.proofs.PayingLemmas.{failed_barrier_leaves}
+use Rattle.worker.proofs.PayingLemmas.{barrier_leaves, barrier_leaves_then, failed_barrier_leaves}
 use Rattle.worker.proofs.running_worker.RunningWorker.flush_all.Goals as goal
 
 pub returns-in_err-barrier-clause-fails : goal.returns-in_err-barrier-clause-fails

@@ -15,7 +15,7 @@ returns-then-is_ready-clause-store g c =
 pub returns-in_err-flush_all-clause-fails : goal.returns-in_err-flush_all-clause-fails
 returns-in_err-flush_all-clause-fails g c =
     let p = err_from_is_err_and c.from_residual.result c.from_residual.ensures.1 in
-    rw (p.1, p.2) (fails_held g.O.Outlet.takes c.args.self.now c.args.self.now
-    c.args.queue.now.lines _ c.in_err-flush_all.field-0.0 c.flush_all.new.self
-    (g.D.Disk.medium c.args.disk.now) (g.D.Disk.medium c.flush_all.new.disk) c.args.outlet.now
-    c.flush_all.new.outlet refl (cc) c.in_err-flush_all.ensures.fails)
+    rw (p.1, p.2) (fails_held g.D.Disk.medium g.O.Outlet.takes c.args.self.now c.args.self.now
+    c.args.queue.now.lines _ c.in_err-flush_all.field-0.0 c.flush_all.new.self c.args.disk.now
+    c.flush_all.new.disk c.args.outlet.now c.flush_all.new.outlet refl (cc)
+    c.in_err-flush_all.ensures.fails)

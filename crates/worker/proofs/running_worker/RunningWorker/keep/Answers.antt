@@ -1,8 +1,7 @@
 use Rattle.std.proofs.Common.{ap, ◌∙◌}
 use Rattle.std.proofs.lemmas.Result.{err_from_is_err_and}
 use Rattle.wasi_calls.specs.rules.Held.{HeldWasiState}
-use Rattle.worker.proofs.DurableLemmas.Keeping.{misfit_refused, record_lacking}
-use Rattle.worker.proofs.DurableLemmas.Keeping.{answer_refused}
+use Rattle.worker.proofs.DurableLemmas.Keeping.{misfit_refused, record_lacking, answer_refused}
 use Rattle.worker.proofs.DurableLemmas.Keeping.{answer_taken}
 use Rattle.worker.proofs.StoreTurnLemmas.{append_hears, append_cause, taken_cause}
 use Rattle.worker.proofs.running_worker.RunningWorker.keep.Goals as goal

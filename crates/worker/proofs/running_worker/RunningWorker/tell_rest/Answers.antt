@@ -16,10 +16,10 @@ returns-in_err-flush_all-clause-rest g c =
       may,
       c.in_err-flush_all.field-0.0,
       refl,
-      fails_held g.O.Outlet.takes c.args.self.now c.args.self.now c.args.queue.now.lines _
-          c.in_err-flush_all.field-0.0 c.flush_all.new.self (g.D.Disk.medium c.args.disk.now)
-          (g.D.Disk.medium c.flush_all.new.disk) c.args.outlet.now c.flush_all.new.outlet refl
-          (cc) failed.fails,
+      fails_held g.D.Disk.medium g.O.Outlet.takes c.args.self.now c.args.self.now
+          c.args.queue.now.lines _ c.in_err-flush_all.field-0.0 c.flush_all.new.self
+          c.args.disk.now c.flush_all.new.disk c.args.outlet.now c.flush_all.new.outlet refl (cc)
+          failed.fails,
       failed.store.runs,
       failed.store.pays,
     )))
@@ -35,9 +35,9 @@ returns-clause-rest g c =
       may,
       refl,
       told.says,
-      tells_held g.O.Outlet.takes c.args.self.now c.args.queue.now.lines _ c.flush_all.new.self
-          (g.D.Disk.medium c.args.disk.now) (g.D.Disk.medium c.flush_all.new.disk)
-          c.args.outlet.now c.flush_all.new.outlet (cc) told.tells told.flushes,
+      tells_held g.D.Disk.medium g.O.Outlet.takes c.args.self.now c.args.queue.now.lines _
+          c.flush_all.new.self c.args.disk.now c.flush_all.new.disk c.args.outlet.now
+          c.flush_all.new.outlet (cc) told.tells told.flushes,
       told.store.runs,
       told.store.pays,
     ))

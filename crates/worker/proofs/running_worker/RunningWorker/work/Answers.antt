@@ -2,13 +2,10 @@ use Rattle.std.proofs.Common.{◌-◌, ap, arith, refl, Bool, Ok, Err}
 use Rattle.std.proofs.lemmas.Result.{err_from_is_err_and}
 use Rattle.record_replay.proofs.Ending.{turning_counts, spent, over}
 use Rattle.worker.proofs.DurableLemmas.Slicing.{in_slice_none, spent_on, over_on, vain_on}
-use Rattle.worker.proofs.DurableLemmas.Slicing.{flushed_on, flushed_less, unflushed_on}
-use Rattle.worker.proofs.DurableLemmas.Slicing.{given_on}
+use Rattle.worker.proofs.DurableLemmas.Slicing.{flushed_on, flushed_less, unflushed_on, given_on}
 use Rattle.worker.proofs.DurableLemmas.Slicing.{given_lower, waits_done, waits_shown, waits_on}
-use Rattle.worker.proofs.DurableLemmas.Slicing.{unasked_on}
-use Rattle.worker.proofs.DurableLemmas.Slicing.{vain_stops, turn_runs}
-use Rattle.worker.proofs.DurableLemmas.Slicing.{vain_so_far, unflushed_so_far}
-use Rattle.worker.proofs.DurableLemmas.Slicing.{unasked_so_far}
+use Rattle.worker.proofs.DurableLemmas.Slicing.{unasked_on, vain_stops, turn_runs, vain_so_far}
+use Rattle.worker.proofs.DurableLemmas.Slicing.{unflushed_so_far, unasked_so_far}
 use Rattle.worker.proofs.running_worker.RunningWorker.work.Goals as goal
 
 pub loop-self-init : goal.loop-self-init

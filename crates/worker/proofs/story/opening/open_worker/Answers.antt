@@ -1,7 +1,6 @@
 use Rattle.worker_store.specs.restart_theorem.Lives.Beginning.{Recovers as recovers}
 use Rattle.worker_store.specs.restart_theorem.Lives.{Creates}
-use Rattle.worker.proofs.OpeningLemmas.{opens_again, opens_not, opens_anew, opens_none}
-use Rattle.worker.proofs.OpeningLemmas.{is_none}
+use Rattle.worker.proofs.OpeningLemmas.{opens_again, opens_not, opens_anew, opens_none, is_none}
 use Rattle.worker.proofs.OpeningLemmas.{is_other}
 use Rattle.worker.proofs.story.opening.open_worker.Goals as goal
 
