@@ -1,14 +1,12 @@
 -- What a writer took of a text, one write after another.
-use Rattle.std.proofs.Common.{◌≡◌, true, ℕ, ◌-◌, List, [], ◌++◌, length, take, drop, None, Some}
-use Rattle.std.proofs.Common.{Ok, Err, refl, sym, ap, ◌∙◌, append_assoc}
-use Rattle.std.proofs.Common.{take-append-drop}
+use Rattle.std.proofs.Common.{◌≡◌, true, ℕ, ◌-◌, List, [], ◌++◌, length, take, drop, None, Some, Ok}
+use Rattle.std.proofs.Common.{Err, sym, ap, ◌∙◌, append_assoc, take-append-drop}
 use Rattle.std.proofs.lemmas.List.{take_rest}
 use Rattle.std.specs.Prelude.{Option, Result, IsErr, OnErr, OnOk}
 use Rattle.std.specs.Io.KnownBytes.{Appends, Keeps}
 use Rattle.command_words.specs.rules.Prints.{PrintsText}
-use Rattle.command_words.specs.rules.Printers.{PrinterState, IsPrinted, StopsPrinting}
-use Rattle.command_words.specs.rules.Printers.{GrowsByFront}
-use Rattle.command_words.proofs.LineLemmas.Printed.{appends_nothing, appends_both}
+use Rattle.command_words.specs.rules.Printers.{PrinterState, IsPrinted, StopsPrinting, GrowsByFront}
+use Rattle.command_words.proofs.LineLemmas.Printed.{appends_both}
 
 -- what was taken of a text so far, and what is left of it
 pub record HasTaken (old new : Option (List ℕ)) (text rest : List ℕ) : Type 0 where
@@ -22,9 +20,6 @@ appends_kept None b c front h k = tt
 appends_kept (Some xs) None c front h k = absurd h
 appends_kept (Some xs) (Some ys) None front h k = absurd k
 appends_kept (Some xs) (Some ys) (Some zs) front h k = k ∙ h
-
-pub none_so_far : (o : Option (List ℕ)) (text : List ℕ) → HasTaken o o text text
-none_so_far o text = record { front = []; is = refl; taken = appends_nothing o }
 
 module _ (a b : Option (List ℕ)) (text rest : List ℕ) (so_far : HasTaken a b text rest) where
   pub takes_more : (c : Option (List ℕ)) (n : ℕ) → Appends b c (take n rest)

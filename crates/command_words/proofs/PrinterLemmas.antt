@@ -1,9 +1,9 @@
 -- What the status of a print says, taken apart and put together.
-use Rattle.std.proofs.Common.{◌≡◌, ◌≢◌, ◌⊎◌, inl, inr, ℕ, List, ◌++◌, refl, sym, subst, ◌∙◌}
+use Rattle.std.proofs.Common.{◌≡◌, ◌≢◌, inl, inr, ℕ, List, ◌++◌, refl, sym, subst, ◌∙◌}
 use Rattle.std.specs.Prelude.{Result, Ok, Err, OnOk}
 use Rattle.std.specs.Io.KnownBytes.{Appends}
-use Rattle.command_words.specs.rules.Printers.{PrinterState, IsPrinted, IsSaid, SaysText}
-use Rattle.command_words.specs.rules.Printers.{HeedsWrites, HeedsBoth}
+use Rattle.command_words.specs.rules.Printers.{PrinterState, IsPrinted, IsSaid, SaysText, HeedsBoth}
+use Rattle.command_words.specs.rules.Printers.{printers}
 use Rattle.command_words.specs.rules.Texts.{named_number}
 use Rattle.command_words.specs.declared.status.Status.{Status}
 use Rattle.command_words.specs.declared.status.Status.TheVariants as exit
@@ -47,20 +47,9 @@ writes_so (Err why) old new text bytes steady = tt
 -- ---- exit statuses
 
 module _ (status : Status) (old : PrinterState) (answered : Status) (new : PrinterState) where
-  -- the status alone
-  pub said_plainly : IsSaid status old answered new → (answered ≡ status)
-      ⊎ (answered ≡ exit.Unwritten)
-  said_plainly (inl said) = inl said.0
-  said_plainly (inr unsaid) = inr unsaid.0
-
-  pub heeds_said : status ≢ exit.Unwritten → IsSaid status old answered new
-      → HeedsWrites old answered new
-  heeds_said other (inl said) = inl ((λ seven. other (sym said.0 ∙ seven)), said.1)
-  heeds_said other (inr unsaid) = inr unsaid
-
   -- the error output tells it
   pub heeds_err : (out : PrinterState) → status ≢ exit.Unwritten → IsSaid status old answered new
-      → HeedsBoth out out old new answered
+      → HeedsBoth (printers out old) (printers out new) answered
   heeds_err out other (inl said) =
       inl ((λ seven. other (sym said.0 ∙ seven)), refl, said.1)
   heeds_err out other (inr unsaid) = inr (unsaid.0, inr unsaid.1)
@@ -70,15 +59,10 @@ module _ (status : Status) (old : PrinterState) (answered : Status) (new : Print
     text_is_said (inl said) = inl (said.0, said.1.1)
     text_is_said (inr unsaid) = inr unsaid
 
-    -- where a status of no failed write is answered, the text is printed
-    pub text_told : answered ≢ exit.Unwritten → SaysText text status old answered new
-        → Appends old.contents new.contents text
-    text_told other (inl said) = said.1.0
-    text_told other (inr unsaid) = absurd (other unsaid.0)
-
     -- the output tells it
     pub heeds_out : (err : PrinterState) → status ≢ exit.Unwritten
-        → SaysText text status old answered new → HeedsBoth old new err err answered
+        → SaysText text status old answered new
+        → HeedsBoth (printers old err) (printers new err) answered
     heeds_out err other (inl said) =
         inl ((λ seven. other (sym said.0 ∙ seven)), said.1.1, refl)
     heeds_out err other (inr unsaid) = inr (unsaid.0, inl unsaid.1)

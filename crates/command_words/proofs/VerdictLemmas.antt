@@ -10,7 +10,7 @@ use Rattle.std.proofs.lemmas.Bool.Decides.{nat_tests}
 use Rattle.std.proofs.lemmas.Option.{slice_get_read}
 use Rattle.wasm_syntax.specs.declared.types.FunctionType.{FunctionType}
 use Rattle.wasm_syntax.specs.declared.module.Import.{Import}
-use Rattle.command_words.specs.rules.Printers.{PrinterState, IsPrinted}
+use Rattle.command_words.specs.rules.Printers.{PrinterState, IsPrinted, printers}
 use Rattle.wasm_syntax.specs.declared.module.Module.{Module}
 use Rattle.machine.specs.declared.instance.fault.LinkFault.{LinkFault}
 use Rattle.machine.specs.declared.instance.fault.LinkFault.TheVariants.{TooManyPages}
@@ -24,9 +24,8 @@ use Rattle.command_words.specs.declared.bounds.Bound.TheVariants as bound
 use Rattle.command_words.specs.rules.Bounds.{IsOutside, range_words}
 use Rattle.command_words.specs.rules.Reports.{SaysLine}
 use Rattle.command_words.specs.rules.Checks.{ChecksModule, EndsAsAsked, IsChecked, TellsWhy}
-use Rattle.command_words.specs.rules.Verdicts.{EndsWithMore, IsImportOffered, SaysMore}
-use Rattle.command_words.specs.rules.Verdicts.{TellsMore, TellsOfLink}
-use Rattle.command_words.specs.rules.Verdicts.{first_pages, pages_text}
+use Rattle.command_words.specs.rules.Verdicts.{EndsWithMore, IsImportOffered, SaysMore, TellsMore}
+use Rattle.command_words.specs.rules.Verdicts.{TellsOfLink, first_pages, pages_text}
 use Rattle.command_words.specs.declared.status.Status.{Status}
 use Rattle.command_words.specs.declared.status.Status.TheVariants as exit
 use Rattle.command_words.proofs.LineLemmas.Printed.{prints_both}
@@ -164,7 +163,7 @@ module _ (bytes : List ℕ) where
 
   pub checked : (lists_all : Bool) (pages n : ℕ) (out out' err : PrinterState) (status : Status)
       → n ≡ pages → 1 ≤ pages → pages ≤ 256 → IsChecked lists_all n bytes out status out'
-      → ChecksModule lists_all pages bytes out out' err err status
+      → ChecksModule lists_all pages bytes (printers out err) (printers out' err) status
   checked lists_all pages n out out' err status is least most h =
       inl (least, most, subst (λ k. IsChecked lists_all k bytes out status out') is h, refl)
 
@@ -172,6 +171,6 @@ module _ (bytes : List ℕ) where
       (line : List ℕ)
       → IsOutside 1 256 pages → line ≡ range_words bound.Pages
       → SaysLine line exit.Refused err status err'
-      → ChecksModule lists_all pages bytes out out err err' status
+      → ChecksModule lists_all pages bytes (printers out err) (printers out err') status
   unchecked lists_all pages out err err' status line outside is said =
       inr (outside, subst (λ l. SaysLine l exit.Refused err status err') is said, refl)

@@ -1,6 +1,5 @@
 -- What a clock shows.
-use Rattle.std.specs.Prelude.{ℕ, ⊤}
-use Rattle.std.specs.Prelude.{Bool, Option, Some}
+use Rattle.std.specs.Prelude.{ℕ, ⊤, Bool, Option, Some}
 use Rattle.wasi_abi.specs.declared.answer.Answer.{Answer}
 use Rattle.wasi_abi.specs.declared.answer.Answer.TheVariants as answer
 use Rattle.command_words.specs.rules.Outside.{IsRealTime}

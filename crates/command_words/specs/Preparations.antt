@@ -1,6 +1,5 @@
 -- The configuration that a measure of the module completes.
-use Rattle.std.specs.Prelude.{ℕ}
-use Rattle.std.specs.Prelude.{Result, Ok, Err}
+use Rattle.std.specs.Prelude.{ℕ, Result, Ok, Err}
 use Rattle.wasi_abi.specs.rules.Configs.{Settings}
 use Rattle.command_words.specs.declared.preparing.Prepared.{Prepared}
 use Rattle.command_words.specs.declared.preparing.Unprepared.{Unprepared}

@@ -8,8 +8,7 @@
 ghost use Rattle.std.specs.Prelude.{◌≡◌, ◌↔◌, ℕ, List, IfSome, IsNone, IsTrue};
 ghost use Rattle.std.specs.List.{AllByRecursion};
 ghost use Rattle.wasi_abi.specs.rules.Configs.{IsInRange, IsShortText, settings};
-ghost use Rattle.command_words.specs.rules.Bounds.{AreNumbersInRange, IsOutOfBounds};
-ghost use Rattle.command_words.specs.rules.Bounds.{range_words};
+ghost use Rattle.command_words.specs.rules.Bounds.{AreNumbersInRange, IsOutOfBounds, range_words};
 
 use crate::configuring::Sizes;
 use wasm_syntax::ItemList;

@@ -31,7 +31,7 @@ ghost use Rattle.command_words.specs.rules.Bounds.{IsOutside};
 ghost use Rattle.command_words.specs.rules.Checks.{ChecksModule, EndsAsAsked, TellsWhy};
 ghost use Rattle.command_words.specs.rules.Listings.{EndsWithList};
 ghost use Rattle.command_words.specs.rules.ModuleLimits.{TellsLimit};
-ghost use Rattle.command_words.specs.rules.Printers.{HeedsWrites};
+ghost use Rattle.command_words.specs.rules.Printers.{HeedsWrites, printers};
 ghost use Rattle.command_words.specs.Statuses.{IsRight, status_by};
 ghost use Rattle.command_words.specs.declared.status.Status.TheVariants as exit;
 ghost use Rattle.command_words.specs.rules.Verdicts.{EndsWithMore};
@@ -214,8 +214,8 @@ pub fn check_module<W: Write + Drop, E: Write + Drop>(
     out: &mut Printer<W>,
     err: &mut Printer<E>,
 ) -> Status
-    ensures { ChecksModule lists_all pages wasm.now out.old out.new err.old err.new
-        result }
+    ensures { ChecksModule lists_all pages wasm.now (printers out.old err.old)
+        (printers out.new err.new) result }
 {
     match allowed_pages(pages) {
         Some(pages) => check_bytes(alloc, wasm, pages, lists_all, out),

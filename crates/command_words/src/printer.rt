@@ -15,8 +15,7 @@
 
 ghost use Rattle.std.specs.Prelude.{◌≡◌, true, false, IfSome, OnErr, OnOk};
 ghost use Rattle.std.specs.Io.KnownBytes.{Appends, Keeps};
-ghost use Rattle.command_words.specs.rules.Printers.{printer_state, GrowsByFront};
-ghost use Rattle.command_words.specs.rules.Printers.{read_along};
+ghost use Rattle.command_words.specs.rules.Printers.{printer_state, GrowsByFront, read_along};
 ghost use Rattle.command_words.specs.rules.Printers.{IsPrinted, SaysText};
 ghost use Rattle.command_words.specs.declared.status.Status.TheVariants as exit;
 

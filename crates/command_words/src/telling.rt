@@ -9,7 +9,7 @@
 ghost use Rattle.std.specs.Prelude.{◌≡◌, ◌⊎◌, IfSome};
 ghost use Rattle.command_words.specs.declared.telling.Obstacle.TheVariants.{NoText};
 ghost use Rattle.command_words.specs.rules.Commands.{IsStatusOf};
-ghost use Rattle.command_words.specs.rules.Printers.{IsSaid, HeedsBoth};
+ghost use Rattle.command_words.specs.rules.Printers.{IsSaid, HeedsBoth, printers};
 ghost use Rattle.command_words.specs.rules.Reports.{SaysLine, obstacle_status};
 ghost use Rattle.command_words.specs.Reports.{IsAroundTip};
 ghost use Rattle.command_words.specs.rules.Reports.{SaysOfOutput, obstacle_words};
@@ -176,7 +176,7 @@ pub fn report_words<W: Write + Drop, E: Write + Drop>(
     err: &mut Printer<E>,
 ) -> Status
     ensures status { IsStatusOf fault.now result ⊎ (result ≡ exit.Unwritten) }
-    ensures heeded { HeedsBoth out.old out.new err.old err.new result }
+    ensures heeded { HeedsBoth (printers out.old err.old) (printers out.new err.new) result }
     ensures help { result ≡ exit.Done → err.new ≡ err.old }
     ensures mistake { result ≡ exit.Usage → out.new ≡ out.old }
 {

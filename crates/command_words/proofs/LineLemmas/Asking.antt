@@ -17,8 +17,7 @@ use Rattle.command_words.specs.rules.Outside.{words_in, words_of}
 use Rattle.command_words.specs.rules.Requests.{GiveUpTo, BeginsWithOther, BeginsWithNumber}
 use Rattle.command_words.specs.Lines.Reads.{AreSome}
 use Rattle.command_words.specs.Lines.Answers.{SourceState, HandsNext, HandsAnswer, TakesOther}
-use Rattle.command_words.specs.Lines.Answers.{Finds}
-use Rattle.command_words.specs.Lines.Answers.{IsNext, MissesNext, IsRefusedFor, IsRefusedAt}
+use Rattle.command_words.specs.Lines.Answers.{Finds, IsNext, MissesNext, IsRefusedFor, IsRefusedAt}
 use Rattle.command_words.specs.Lines.Answers.{IsClockless, IsWordless, LeavesFault}
 use Rattle.command_words.proofs.LineLemmas.Passing.{passed_nothing, up_to_on}
 
@@ -209,8 +208,8 @@ module _ (s u t : SourceState) (kept : List Kept) (before : HasAnswered s u kept
 
   -- why a question after them is refused
   abbrev IsRefused : Question → LineFault → Type 0
-  IsRefused k why = IsRefusedFor k s.outside s.limit (s.place + words_of kept) s.taken s.unread
-      (requests_in kept) s.failed t.failed why
+  IsRefused k why =
+      IsRefusedFor k s (s.place + words_of kept) (requests_in kept) t.failed why
 
   refused_behind : (k : Question) (why : LineFault) → IsRefusedAt k u t.failed why → IsRefused k why
   refused_behind questions.Request why h = misses_behind why h

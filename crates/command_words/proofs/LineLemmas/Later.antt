@@ -1,7 +1,7 @@
 -- Lines of requests that nobody took, counted one by one.
 use Rattle.std.proofs.Common.{◌≡◌, ℕ, suc, ◌+◌, ◌≤◌, ◌<◌, List, [], ◌∷◌, length, refl, sym, ap, ◌∙◌}
-use Rattle.std.proofs.Common.{subst, inl, inr, arith}
-use Rattle.command_words.specs.rules.Later.{CountsLater, IsLaterLine, IsOtherLine}
+use Rattle.std.proofs.Common.{subst, inl, arith}
+use Rattle.command_words.specs.rules.Later.{CountsLater, IsLaterLine}
 use Rattle.command_words.specs.rules.Pieces.{lines_of}
 
 -- Of the text's lines so many were counted in front of the rest, however many are in it.
@@ -9,12 +9,6 @@ pub record HasCounted (limit taken : ℕ) (text : List ℕ) (count : ℕ) (rest 
   pub within : count + length rest ≤ length text
   pub counts : (more : ℕ) → CountsLater limit taken (lines_of rest) more
       → CountsLater limit taken (lines_of text) (count + more)
-
-pub begun_counting : (limit taken : ℕ) (text : List ℕ) → HasCounted limit taken text 0 text
-begun_counting limit taken text = record {
-  within = omega arith;
-  counts = λ more h. subst (λ n. CountsLater limit taken (lines_of text) n) (omega arith) h;
-}
 
 module _ (limit taken : ℕ) (text : List ℕ) (count : ℕ) (rest line behind : List ℕ)
     (so_far : HasCounted limit taken text count rest) (cut : lines_of rest ≡ line ∷ lines_of behind)
@@ -28,14 +22,6 @@ module _ (limit taken : ℕ) (text : List ℕ) (count : ℕ) (rest line behind :
         let all = so_far.counts (suc more)
         (subst (λ l. CountsLater limit taken l (suc more)) (sym cut) one) in
         subst (λ n. CountsLater limit taken (lines_of text) n) (omega arith) all;
-  }
-
-  pub counted_other : IsOtherLine limit taken line → HasCounted limit taken text count behind
-  counted_other other = record {
-    within = (let room = so_far.within in omega (arith, room, shorter));
-    counts = λ more h.
-        let one : CountsLater limit taken (line ∷ lines_of behind) more = inr (other, h) in
-        so_far.counts more (subst (λ l. CountsLater limit taken l more) (sym cut) one);
   }
 
 no_lines : lines_of [] ≡ []

@@ -1,16 +1,15 @@
 -- Line after line of a reader.
 use Rattle.std.proofs.Common.{◌≡◌, ℕ, ◌+◌, ◌≤◌, List, [], ◌∷◌, ◌++◌, length, None, Some, refl, sym}
-use Rattle.std.proofs.Common.{ap, subst, ◌∙◌, arith, append_assoc, append-nil, length-append}
+use Rattle.std.proofs.Common.{subst, ◌∙◌, arith, append_assoc, append-nil, length-append}
 use Rattle.std.specs.Prelude.{Option, IfSome}
 use Rattle.std.specs.Io.BufRead.{first_piece, drop_through, DropsThrough}
-use Rattle.std.specs.Io.KnownBytes.{IsAtEnd}
 use Rattle.wasi_abi.specs.declared.answer.Answer.{Answer}
 use Rattle.wasi_abi.specs.rules.Answers.{newline}
 use Rattle.process_rules.specs.Runs.{Kept, Given}
 use Rattle.command_words.specs.declared.lines.request.Request.{Request}
 use Rattle.command_words.specs.rules.Numbers.{IsNumberedRequest, request_number}
 use Rattle.command_words.specs.rules.Requests.{answer_in, BeginsWithRequest, GivesAnswers, none}
-use Rattle.command_words.specs.rules.Requests.{passed, taken, GiveUpTo, BeginsWithNumber}
+use Rattle.command_words.specs.rules.Requests.{passed, taken, GiveUpTo}
 use Rattle.command_words.specs.rules.Texts.{IsShortRequest, request_line}
 
 -- answers behind others
@@ -103,19 +102,6 @@ module _ (limit before : ℕ) (line : List ℕ) (r : Request) (numbered : IsNumb
     taken [] bytes r none (begins bytes is) (omega (arith, next)),
     rest,
   )
-
-  pub begins_with_number : (given : ℕ) (b : Option (List ℕ))
-      → IfSome b (λ bytes. line ≡ first_piece newline bytes) → given ≡ request_number r
-      → IfSome b (BeginsWithNumber limit given)
-  begins_with_number given None is e = tt
-  begins_with_number given (Some bytes) is e = (r, begins bytes is, sym e)
-
--- there is no line
-pub comes_to_end : (limit before : ℕ) (b c : Option (List ℕ)) → IsAtEnd b → DropsThrough b c newline
-    → GiveUpTo limit before b [] (λ rest. (rest ≡ []) × (c ≡ Some rest))
-comes_to_end limit before None c end rest = tt
-comes_to_end limit before (Some bytes) c end rest =
-    (bytes, none, (end, rest ∙ ap (λ l. Some (drop_through newline l)) end ∙ sym (ap Some end)))
 
 -- an answer is the same under another name
 pub is_given : (limit before : ℕ) (lines : Option (List ℕ)) (a b : Answer) (P : List ℕ → Type 0)

@@ -4,7 +4,6 @@ use Rattle.std.proofs.Common.{List, [], ◌∷◌, ◌++◌, All, None, Some, co
 use Rattle.std.proofs.Common.{refl, sym, ap, subst, ◌∙◌, arith, take-append-drop, length-take-le}
 use Rattle.std.proofs.Common.{take-take, append_assoc, length-append}
 use Rattle.std.specs.Prelude.{Option, IfSome, OnSome}
-use Rattle.std.proofs.lemmas.Bool.{false≢true}
 use Rattle.std.specs.Fmt.{decimal}
 use Rattle.std.proofs.lemmas.Fmt.{length-decimal-le}
 use Rattle.std.proofs.BufReadLemmas.{take_through-append, take_through-nil}
@@ -206,17 +205,3 @@ module _ (limit before : ℕ) (a b : Option (List ℕ))
   misses_line failed now failed' fault.Clock e fails = absurd fails
   misses_line failed now failed' fault.Words e fails = absurd fails
   misses_line failed now failed' (fault.Number given wanted) e fails = absurd fails
-
--- a line that is there is no request line
-pub is_other_line : (limit : ℕ) (line : List ℕ) (b : Option (List ℕ))
-    → IfSome b (λ bytes. line ≡ first_piece newline bytes) → IfSome b AreSome
-    → (IsRequestLine limit line → ⊥) → IfSome b (BeginsWithOther limit)
-is_other_line limit line None is some other = tt
-is_other_line limit line (Some bytes) is some other =
-    (some, subst (λ l. IsRequestLine limit l → ⊥) is other)
-
--- what no request is read of is no request line
-pub no_line : (limit : ℕ) (line shown : List ℕ) → shown ≡ line
-    → (IsRequestLine limit shown → false ≡ true) → IsRequestLine limit line → ⊥
-no_line limit line shown same none is =
-    absurd (false≢true (none (subst (IsRequestLine limit) (sym same) is)))

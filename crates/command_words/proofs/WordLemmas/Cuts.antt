@@ -2,9 +2,8 @@
 use Rattle.std.proofs.Common.{◌≡◌, ℕ, Bool, ◌+◌, ◌-◌, map, ◌<◌, ◌≤◌, true, false, refl, sym, ap}
 use Rattle.std.proofs.Common.{subst, ◌∙◌, arith, List, [], ◌∷◌, ◌++◌, length, get_or, take, drop}
 use Rattle.std.proofs.Common.{codes}
-use Rattle.std.proofs.lemmas.List.{append-nil, append_assoc, take-append-drop, take_more, drop_more}
+use Rattle.std.proofs.lemmas.List.{append-nil, append_assoc, take_more, drop_more}
 use Rattle.std.proofs.lemmas.List.{drop-map, get_or-map, length-map, take-map, take_rest}
-use Rattle.std.proofs.Math.ListN.{drop_of_length-le}
 use Rattle.std.specs.Str.{bytes_eq}
 use Rattle.clap.specs.Words.{Text}
 use Rattle.command_words.specs.rules.Commands.{behind_dashes, before_dashes}
@@ -14,9 +13,6 @@ pub record HasPassed (words : List Text) (at : ℕ) : Type 0 where
   pub within : at ≤ length words
   pub front : before_dashes words ≡ take at words ++ before_dashes (drop at words)
   pub back : behind_dashes words ≡ behind_dashes (drop at words)
-
-pub passed_none : (words : List Text) → HasPassed words 0
-passed_none words = record { within = omega arith; front = refl; back = refl }
 
 module _ (words : List Text) (at : ℕ) (passed : HasPassed words at) where
   -- the next word, and those after it
@@ -67,20 +63,6 @@ module _ (words : List Text) (at : ℕ) (passed : HasPassed words at) where
       begins : (word : Text) (rest : List Text) → bytes_eq word (codes "--") ≡ true
           → behind_dashes (word ∷ rest) ≡ rest
       begins word rest e = rw e refl
-
-  -- there is none
-  pub uncut_front : length words ≤ at → words ≡ before_dashes words
-  uncut_front end =
-      let none : drop at words ≡ [] = drop_of_length-le words end in
-      let all : take at words ≡ words = sym (append-nil (take at words))
-      ∙ ap (λ z. take at words ++ z) (sym none) ∙ take-append-drop at words in
-      sym (passed.front ∙ ap (λ z. take at words ++ before_dashes z) none
-      ∙ append-nil (take at words) ∙ all)
-
-  pub uncut_back : length words ≤ at → drop at words ≡ behind_dashes words
-  uncut_back end =
-      let none : drop at words ≡ [] = drop_of_length-le words end in
-      none ∙ sym (passed.back ∙ ap behind_dashes none)
 
 -- ---- words as the code has them
 

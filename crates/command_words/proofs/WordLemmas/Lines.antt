@@ -7,9 +7,8 @@ use Rattle.std.specs.Option.{is_some, IsSomeAnd, option_map, option_map_or}
 use Rattle.std.specs.Str.{bytes_eq}
 use Rattle.std.specs.Cmp.Lexicographic.{bytes_decides}
 use Rattle.std.specs.Prelude.{IfSome, option_and_then}
-use Rattle.clap.specs.Walk.{Held, Names, one_of, Row, Rule, Text, Walk, default_rows}
-use Rattle.clap.specs.Walk.{reading_by, finished, has_row, nothing_held}
-use Rattle.clap.specs.Walk.{settled, walk, walk_from, with_default}
+use Rattle.clap.specs.Walk.{Held, Names, one_of, Row, Rule, Text, Walk, default_rows, reading_by}
+use Rattle.clap.specs.Walk.{finished, has_row, nothing_held, settled, walk, walk_from, with_default}
 use Rattle.clap.specs.Walk.{answers_to, with_values}
 use Rattle.clap.specs.Simple.{App, Shape, argument_words, built, entered, label_of, names_of}
 use Rattle.clap.specs.Simple.{rows_at, subcommand_of}
@@ -22,15 +21,13 @@ use Rattle.clap.specs.declared.builder.value_parser.Reading.TheVariants.{AsWritt
 use Rattle.clap.specs.declared.parser.matches.ValueSource.TheVariants.{DefaultValue}
 use Rattle.clap.specs.declared.error.kind.ErrorKind.TheVariants as kind
 use Rattle.command_words.specs.rules.CommandLine.{wasmhost}
-use Rattle.command_words.specs.rules.Commands.{IsNumberFrom, Meaning, check}
+use Rattle.command_words.specs.rules.Commands.{IsNumberFrom, Meaning, check, copy_in, create}
+use Rattle.command_words.specs.rules.Commands.{create_in, disk_in, flag_in, guest_words}
+use Rattle.command_words.specs.rules.Commands.{meaning_below, module_in, number_or, own_words, run}
+use Rattle.command_words.specs.rules.Commands.{run_in, script_in, show, spelled_number, story}
+use Rattle.command_words.specs.rules.Commands.{story_in, TakesOptions, files, files_in, history_in}
+use Rattle.command_words.specs.rules.Commands.{inspect_in, live_in, sweep, sweep_in, save, upgrade}
 use Rattle.command_words.specs.Commands.{HasPaths, IsTaken}
-use Rattle.command_words.specs.rules.Commands.{copy_in, create, create_in, disk_in, flag_in}
-use Rattle.command_words.specs.rules.Commands.{guest_words, meaning_below, module_in, number_or}
-use Rattle.command_words.specs.rules.Commands.{own_words, run, run_in, script_in, show}
-use Rattle.command_words.specs.rules.Commands.{spelled_number, story, story_in, TakesOptions}
-use Rattle.command_words.specs.rules.Commands.{files, files_in, history_in, inspect_in, live_in}
-use Rattle.command_words.specs.rules.Commands.{sweep, sweep_in}
-use Rattle.command_words.specs.rules.Commands.{save, upgrade}
 use Rattle.command_words.specs.laws.Words.{FaultlessWordsMean, NumbersFit}
 use Rattle.command_words.proofs.WordLemmas.Walks.{Keeps, found_each, no_first}
 use Rattle.command_words.proofs.WordLemmas.Walks.{no_second, settled_good, some_kind, walk_good}

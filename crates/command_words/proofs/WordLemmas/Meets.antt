@@ -1,9 +1,9 @@
 -- From what `clap` says of its matches to what the words mean.
 use Rattle.std.proofs.Common.{◌≡◌, ◌<◌, ◌≤◌, ℕ, Bool, true, false, refl, ap, ap₂, sym, ◌∙◌, subst}
 use Rattle.std.proofs.Common.{List, [], ◌∷◌, Option, Some, None, Result, Ok, Err, codes, inl, inr}
-use Rattle.std.proofs.Common.{true≢false, cond, not, ◌&&◌}
+use Rattle.std.proofs.Common.{true≢false, not, ◌&&◌}
 use Rattle.std.specs.Option.{IsSomeAnd, is_some, option_map, option_map_or, unwrap_or}
-use Rattle.std.specs.Prelude.{Box, IfSome, option_and_then}
+use Rattle.std.specs.Prelude.{Box, IfSome}
 use Rattle.std.specs.Str.{bytes_eq}
 use Rattle.std.specs.Str.Parse.{ParsesUnsigned}
 use Rattle.std.specs.Box.{box_value}
@@ -22,16 +22,11 @@ use Rattle.clap.specs.declared.parser.matches.SubCommand.{SubCommand}
 use Rattle.clap.specs.declared.parser.matches.Found.{Found}
 use Rattle.clap.proofs.WalkLemmas.{first_value-rows, one_text-rows, raw_values-rows}
 use Rattle.command_words.specs.rules.CommandLine.{wasmhost}
-use Rattle.command_words.specs.rules.Commands.{IsFaultOf, IsNumberFrom}
-use Rattle.command_words.specs.rules.Commands.{IsFlagText, TakesFlag, flag_in}
-use Rattle.command_words.specs.rules.Commands.{IsWordsFault, Meaning, conflict_in}
-use Rattle.command_words.specs.rules.Commands.{faults_in_own, has_conflict}
-use Rattle.command_words.specs.Commands.{IsConflictFault, IsTaken}
-use Rattle.command_words.specs.rules.Commands.{TakesNumber}
-use Rattle.command_words.specs.rules.Commands.{environment_in, faults_in_words, guest_words}
-use Rattle.command_words.specs.rules.Commands.{meaning_below, meaning_in, number_given}
-use Rattle.command_words.specs.rules.Commands.{number_or, own_words}
+use Rattle.command_words.specs.rules.Commands.{IsFaultOf, IsNumberFrom, IsFlagText, TakesFlag}
+use Rattle.command_words.specs.rules.Commands.{flag_in, IsWordsFault, conflict_in, faults_in_own}
+use Rattle.command_words.specs.rules.Commands.{TakesNumber, environment_in, number_given, number_or}
 use Rattle.command_words.specs.rules.Commands.{spelled_number}
+use Rattle.command_words.specs.Commands.{IsTaken}
 use Rattle.command_words.specs.declared.command_line.WordsFault.{WordsFault}
 use Rattle.command_words.specs.declared.command_line.WordsFault.TheVariants as fault
 use Rattle.command_words.proofs.WordLemmas.Lines.{words_taken}
@@ -144,61 +139,7 @@ module _ (words : List Text) (m : ArgMatches) (faultless : fault_of wasmhost wor
   met_is_taken name rows is met =
       subst (λ o. IsSomeAnd o IsTaken) (named_and_met m name rows is met) taken
 
-  pub met_is_named : (name : Text) (rows : List Row) → Some name ≡ subcommand_name_of m
-      → Some rows ≡ option_map (λ p. p.1) (subcommand_rows_of m)
-      → subcommand_of wasmhost words ≡ Some (name, rows)
-  met_is_named name rows is met = sym parsed ∙ named_and_met m name rows is met
-
 -- ---- the whole line
-
--- the words have no arguments that exclude each other, or they have
-conflict_met : (own : List Text) (met : Text × List Row) (b : Bool)
-    → subcommand_of wasmhost own ≡ Some met → has_conflict met ≡ b → conflict_in own ≡ b
-conflict_met own met b is e = ap (λ o. option_map_or has_conflict o false) is ∙ e
-
-no_faults : (own : List Text) (name : Text) (rows : List Row) → fault_of wasmhost own ≡ []
-    → subcommand_of wasmhost own ≡ Some (name, rows) → has_conflict (name, rows) ≡ false
-    → faults_in_own own ≡ []
-no_faults own name rows faultless met apart =
-    let apart' = conflict_met own (name, rows) false met apart in
-    ap₂ (λ (ks : Kinds) (b : Bool). or_else ks (cond b (kind.ArgumentConflict ∷ []) [])) faultless
-    apart'
-
--- what is told of arguments that exclude each other
-pub conflict_fault : (own : List Text) (met : Text × List Row) (f : WordsFault)
-    → fault_of wasmhost own ≡ [] → subcommand_of wasmhost own ≡ Some met → IsConflictFault met f
-    → IsFaultOf own f
-conflict_fault own met fault.Memory faultless is says = tt
-conflict_fault own met (fault.Words told) faultless is says =
-    let both : conflict_in own ≡ true = conflict_met own met true is says.1 in
-    let faults : faults_in_own own ≡ (kind.ArgumentConflict ∷ []) =
-    ap₂ (λ (ks : Kinds) (b : Bool). or_else ks (cond b (kind.ArgumentConflict ∷ []) [])) faultless
-    both in (
-      subst (IsAmong (kind_of told)) (sym faults) (inl says.0),
-      λ taken. is_taken (takes wasmhost own) (conflict_in own) both taken,
-    )
-  where
-    is_taken : (a b : Bool) → b ≡ true → (a && not b) ≡ true → ⊥
-    is_taken true true both taken = true≢false (sym taken)
-    is_taken false b both taken = true≢false (sym taken)
-    is_taken true false both taken = true≢false (sym both)
-
--- what the words mean, of which these are the command's own, and these its guest's
-pub reads_so : (words own guest arguments : List Text) (name : Text) (rows : List Row)
-    (meaning : Meaning) → own ≡ own_words words → guest ≡ guest_words words → arguments ≡ guest
-    → fault_of wasmhost own ≡ [] → subcommand_of wasmhost own ≡ Some (name, rows)
-    → has_conflict (name, rows) ≡ false
-    → meaning_below arguments (name, rows) ≡ Some meaning
-    → (faults_in_words words ≡ []) × (meaning_in words ≡ Some meaning)
-reads_so words own guest arguments name rows meaning own-is guest-is same faultless met apart
-    means = (
-      ap faults_in_own (sym own-is) ∙ no_faults own name rows faultless met apart,
-      ap (λ a. option_and_then (meaning_below a) (subcommand_of wasmhost (own_words words)))
-          (sym (same ∙ guest-is))
-          ∙ ap (λ o. option_and_then (meaning_below arguments) (subcommand_of wasmhost o))
-          (sym own-is)
-          ∙ ap (option_and_then (meaning_below arguments)) met ∙ means,
-    )
 
 -- ---- parses
 

@@ -79,24 +79,23 @@ IsWordless place n fault.Memory = ⊤
 IsWordless place n fault.Words = 2 ^ 64 ≤ place + words_for n
 IsWordless place n why = ⊥
 
--- Why a question is refused, where these requests and so many words were taken: the next request
--- isn't to be had, or there is no clock, or there are no random bytes.
-abbrev pub IsRefusedFor : Question → Outside → ℕ → ℕ → ℕ → Option (List ℕ) → List Kept → Bool → Bool
-    → LineFault → Type 0
-IsRefusedFor questions.Request outside limit place before lines kept failed failed' why =
-    MissesNext limit before lines kept failed failed' why
-IsRefusedFor questions.Realtime outside limit place before lines kept failed failed' why =
-    IsClockless outside why × (failed' ≡ failed)
-IsRefusedFor questions.Monotonic outside limit place before lines kept failed failed' why =
-    IsClockless outside why × (failed' ≡ failed)
-IsRefusedFor (questions.Random n) outside limit place before lines kept failed failed' why =
-    IsWordless place n why × (failed' ≡ failed)
+-- Why a question is refused by a source that was there, and has given these requests since, and
+-- words up to this place: the next request isn't to be had, or there is no clock, or there are no
+-- random bytes.
+abbrev pub IsRefusedFor : Question → SourceState → (place : ℕ) → List Kept → Bool → LineFault
+    → Type 0
+IsRefusedFor questions.Request old place requests failed' why =
+    MissesNext old.limit old.taken old.unread requests old.failed failed' why
+IsRefusedFor questions.Realtime old place requests failed' why =
+    IsClockless old.outside why × (failed' ≡ old.failed)
+IsRefusedFor questions.Monotonic old place requests failed' why =
+    IsClockless old.outside why × (failed' ≡ old.failed)
+IsRefusedFor (questions.Random n) old place requests failed' why =
+    IsWordless place n why × (failed' ≡ old.failed)
 
 -- why one that is there refuses
 abbrev pub IsRefusedAt : Question → SourceState → Bool → LineFault → Type 0
-IsRefusedAt question old failed' why =
-    IsRefusedFor question old.outside old.limit old.place old.taken old.unread []
-    old.failed failed' why
+IsRefusedAt question old failed' why = IsRefusedFor question old old.place [] failed' why
 
 -- the first fault stays, and where there was none there is one now
 abbrev pub LeavesFault : Question → SourceState → SourceState → Option LineFault → Type 0

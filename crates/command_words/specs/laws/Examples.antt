@@ -3,12 +3,11 @@ use Rattle.std.specs.Prelude.{◌≡◌, ◌-◌, ◌^◌, ℕ, true, false, Lis
 use Rattle.clap.specs.Words.{Text}
 use Rattle.clap.specs.Kinds.{Kinds}
 use Rattle.clap.specs.declared.error.ErrorKind.TheVariants as kind
-use Rattle.command_words.specs.rules.Commands.{CreateMeaning, Meaning, RunMeaning, check}
-use Rattle.command_words.specs.rules.Commands.{create}
-use Rattle.command_words.specs.rules.Commands.{StoryMeaning, faults_in_words, meaning_in}
-use Rattle.command_words.specs.rules.Commands.{own_words, run, show, story, takes_own}
-use Rattle.command_words.specs.rules.Commands.{SweepMeaning, file, files, history, inspect}
-use Rattle.command_words.specs.rules.Commands.{listing, save, sweep, tree, upgrade}
+use Rattle.command_words.specs.rules.Commands.{CreateMeaning, Meaning, RunMeaning, check, create}
+use Rattle.command_words.specs.rules.Commands.{StoryMeaning, faults_in_words, meaning_in, own_words}
+use Rattle.command_words.specs.rules.Commands.{run, show, story, takes_own, SweepMeaning, file}
+use Rattle.command_words.specs.rules.Commands.{files, history, inspect, listing, save, sweep, tree}
+use Rattle.command_words.specs.rules.Commands.{upgrade}
 
 -- the program's name, and words after it
 abbrev pub line : List Text → List Text

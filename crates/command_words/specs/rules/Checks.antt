@@ -6,7 +6,7 @@ use Rattle.machine.specs.rules.Acceptance.{HasAcceptedModule, HasNoAcceptedModul
 use Rattle.command_words.specs.declared.bounds.Bound.TheVariants.{Pages}
 use Rattle.command_words.specs.rules.Bounds.{IsOutside, range_words}
 use Rattle.command_words.specs.rules.Listings.{EndsWithList}
-use Rattle.command_words.specs.rules.Printers.{PrinterState, HeedsWrites}
+use Rattle.command_words.specs.rules.Printers.{PrinterState, Printers, HeedsWrites}
 use Rattle.command_words.specs.rules.Reports.{SaysLine}
 use Rattle.command_words.specs.rules.Verdicts.{EndsWithMore}
 use Rattle.command_words.specs.declared.status.Status.{Status}
@@ -36,9 +36,10 @@ pub record IsChecked (lists_all : Bool) (pages : ℕ) (bytes : List ℕ) (old : 
 
 -- A worker may have so many pages, and the module is checked with them. Or it may not, and their
 -- bounds are told.
-abbrev pub ChecksModule : Bool → ℕ → List ℕ → PrinterState → PrinterState → PrinterState
-    → PrinterState → Status → Type 0
-ChecksModule lists_all pages bytes out out' err err' status =
-    ((1 ≤ pages) × (pages ≤ 256) × IsChecked lists_all pages bytes out status out' × (err' ≡ err))
-    ⊎ (IsOutside 1 256 pages × SaysLine (range_words Pages) exit.Refused err status err'
-    × (out' ≡ out))
+abbrev pub ChecksModule : Bool → ℕ → List ℕ → Printers → Printers → Status → Type 0
+ChecksModule lists_all pages bytes before after status =
+    ((1 ≤ pages) × (pages ≤ 256)
+    × IsChecked lists_all pages bytes before.out status after.out × (after.err ≡ before.err))
+    ⊎ (IsOutside 1 256 pages
+    × SaysLine (range_words Pages) exit.Refused before.err status after.err
+    × (after.out ≡ before.out))

@@ -1,7 +1,6 @@
 -- The commands of the program, their arguments and their options.
 use Rattle.std.specs.Prelude.{ℕ, ◌-◌, ◌^◌, true, Some, codes}
-use Rattle.clap.specs.Words.{App, Rule, Text, new_app, new_rule}
-use Rattle.clap.specs.Words.{with_rule, with_subcommand}
+use Rattle.clap.specs.Words.{App, Rule, Text, new_app, new_rule, with_rule, with_subcommand}
 use Rattle.clap.specs.Simple.{on_top}
 use Rattle.clap.specs.declared.builder.action.ArgAction.TheVariants.{Append, Set, SetTrue}
 use Rattle.clap.specs.declared.builder.value_parser.ValueParser.TheVariants.{Unsigned}

@@ -23,9 +23,8 @@ use Rattle.command_words.specs.declared.command_line.StoryOrder.{StoryOrder}
 use Rattle.command_words.specs.declared.command_line.SweepOrder.{SweepOrder}
 use Rattle.command_words.specs.declared.command_line.Order.{Order}
 use Rattle.command_words.specs.declared.command_line.Order.TheVariants.{Check, Create, Run, Show}
-use Rattle.command_words.specs.declared.command_line.Order.TheVariants.{History, Save, Story}
-use Rattle.command_words.specs.declared.command_line.Order.TheVariants.{Sweep, Inspect, Files}
-use Rattle.command_words.specs.declared.command_line.Order.TheVariants.{Upgrade}
+use Rattle.command_words.specs.declared.command_line.Order.TheVariants.{History, Save, Story, Sweep}
+use Rattle.command_words.specs.declared.command_line.Order.TheVariants.{Inspect, Files, Upgrade}
 use Rattle.command_words.specs.declared.command_line.WordsFault.{WordsFault}
 use Rattle.command_words.specs.declared.command_line.WordsFault.TheVariants as fault
 use Rattle.command_words.specs.declared.status.Status.{Status}

@@ -1,6 +1,5 @@
 -- With what a creation is prepared, or why there is none (this project's own).
-use Rattle.std.specs.Prelude.{◌≡◌, ⊤, ℕ, false, List, ◌∷◌, Option, codes, length}
-use Rattle.std.specs.Prelude.{None, IfSome}
+use Rattle.std.specs.Prelude.{◌≡◌, ⊤, ℕ, false, List, ◌∷◌, Option, codes, length, None, IfSome}
 use Rattle.wasi_abi.specs.rules.Configs.{Settings, settings, AreSettingsWithinLimits, HasTexts}
 use Rattle.wasi_abi.specs.rules.Configs.{IsInRange}
 use Rattle.wasm_decode.specs.declared.items.limit.PassedLimit.{PassedLimit}

@@ -19,6 +19,15 @@ printer_state contents on_terminal failed = record {
   failed = failed;
 }
 
+-- the two printers of a command: of its output, and of its error output
+pub record Printers : Type 0 where
+  pub out : PrinterState
+  pub err : PrinterState
+
+-- these two
+abbrev pub printers : PrinterState → PrinterState → Printers
+printers out err = record { out = out; err = err }
+
 -- the same printer, on which a person reads along from now on, where that is so
 abbrev pub read_along : Bool → PrinterState → PrinterState
 read_along true old = printer_state old.contents true old.failed
@@ -66,12 +75,13 @@ HeedsWrites old status new =
     ((status ≢ exit.Unwritten) × (new.failed ≡ old.failed))
     ⊎ ((status ≡ exit.Unwritten) × (new.failed ≡ true))
 
--- a write of one of these two has failed
-abbrev pub HasOneFailed : PrinterState → PrinterState → Type 0
-HasOneFailed out err = (out.failed ≡ true) ⊎ (err.failed ≡ true)
+-- a write of one of the two has failed
+abbrev pub HasOneFailed : Printers → Type 0
+HasOneFailed now = (now.out.failed ≡ true) ⊎ (now.err.failed ≡ true)
 
 -- The status is `Unwritten` just where a write of one of the two printers has failed.
-abbrev pub HeedsBoth : PrinterState → PrinterState → PrinterState → PrinterState → Status → Type 0
-HeedsBoth out out' err err' status =
-    ((status ≢ exit.Unwritten) × (out'.failed ≡ out.failed) × (err'.failed ≡ err.failed))
-    ⊎ ((status ≡ exit.Unwritten) × HasOneFailed out' err')
+abbrev pub HeedsBoth : Printers → Printers → Status → Type 0
+HeedsBoth before after status =
+    ((status ≢ exit.Unwritten) × (after.out.failed ≡ before.out.failed)
+    × (after.err.failed ≡ before.err.failed))
+    ⊎ ((status ≡ exit.Unwritten) × HasOneFailed after)

@@ -4,7 +4,7 @@ use Rattle.std.specs.Fmt.{decimal}
 use Rattle.wasi_abi.specs.rules.Answers.{newline}
 use Rattle.command_words.specs.declared.telling.Obstacle.{Obstacle}
 use Rattle.command_words.specs.declared.telling.Obstacle.TheVariants as obstacle
-use Rattle.command_words.specs.rules.Printers.{PrinterState, IsPrinted, SaysText}
+use Rattle.command_words.specs.rules.Printers.{PrinterState, Printers, IsPrinted, SaysText}
 use Rattle.command_words.specs.declared.status.Status.{Status}
 use Rattle.command_words.specs.declared.status.Status.TheVariants as exit
 
@@ -39,12 +39,11 @@ obstacle_words obstacle.Unwritten = codes "failed N3 Outlet"
 
 -- The text is printed on the output, and the status is this one. Or a write of the output has
 -- failed: the status is `Unwritten`, and that is told on the error output.
-abbrev pub SaysOnOutput : List ℕ → Status → PrinterState → PrinterState → PrinterState
-    → PrinterState → Status → Type 0
-SaysOnOutput text status out out' err err' answered =
-    ((answered ≡ status) × IsPrinted out out' text × (err' ≡ err))
-    ⊎ ((out'.failed ≡ true)
-    × SaysLine (obstacle_words obstacle.Unwritten) exit.Unwritten err answered err')
+abbrev pub SaysOnOutput : List ℕ → Status → Printers → Printers → Status → Type 0
+SaysOnOutput text status before after answered =
+    ((answered ≡ status) × IsPrinted before.out after.out text × (after.err ≡ before.err))
+    ⊎ ((after.out.failed ≡ true)
+    × SaysLine (obstacle_words obstacle.Unwritten) exit.Unwritten before.err answered after.err)
 
 -- What is said after a command of its output: where a write of it has failed, that is told on the
 -- error output, with status `Unwritten`.

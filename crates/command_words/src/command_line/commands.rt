@@ -11,10 +11,9 @@ ghost use Rattle.command_words.specs.rules.CommandLine.{cares_app, history_app, 
 ghost use Rattle.command_words.specs.rules.CommandLine.{inspect_app, last_rule, looks_app};
 ghost use Rattle.command_words.specs.rules.CommandLine.{number_rule, paced_run_app, path_rule};
 ghost use Rattle.command_words.specs.rules.CommandLine.{range_rule, run_app, script_app};
-ghost use Rattle.command_words.specs.rules.CommandLine.{seeded_run_app};
-ghost use Rattle.command_words.specs.rules.CommandLine.{show_app, sized_create_app, story_app};
-ghost use Rattle.command_words.specs.rules.CommandLine.{sweep_app, text_rule, upgrade_app};
-ghost use Rattle.command_words.specs.rules.CommandLine.{wasmhost, watched_run_app};
+ghost use Rattle.command_words.specs.rules.CommandLine.{seeded_run_app, show_app, sized_create_app};
+ghost use Rattle.command_words.specs.rules.CommandLine.{story_app, sweep_app, text_rule};
+ghost use Rattle.command_words.specs.rules.CommandLine.{upgrade_app, wasmhost, watched_run_app};
 
 use clap::error::ErrorKind;
 use clap::{Arg, ArgAction, Command, Error, value_parser};
@@ -267,7 +266,7 @@ fn inspect_command<'a>(alloc: Global) -> Result<Command<'a>, AllocError>
 fn files_command<'a>(alloc: Global) -> Result<Command<'a>, AllocError>
     ensures { IfOk result (IsCommand files_app) }
 {
-    let about = "List the files of the worker of a disk, or write one of them";
+    let about = "List the files of the worker of a disk, or write one or all of them";
     let path = "Path of the file to write, as it is listed";
     disk_command(alloc, "files", about, WORKER_DISK)?
         .arg(last_argument(alloc, "PATH", path))?

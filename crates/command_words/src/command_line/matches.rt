@@ -4,17 +4,14 @@ ghost use Rattle.std.specs.Prelude.{◌≡◌, ◌<◌, ◌≤◌, IfOk, IsSome,
 ghost use Rattle.std.specs.Int.NonZero.{non_zero_u64_get};
 ghost use Rattle.clap.specs.Words.{first_of, found_of, rows_of};
 ghost use Rattle.command_words.specs.rules.Texts.{texts_in};
-ghost use Rattle.command_words.specs.rules.Commands.{TakesFlag, TakesNumber};
+ghost use Rattle.command_words.specs.rules.Commands.{TakesFlag, TakesNumber, TakesOptions};
+ghost use Rattle.command_words.specs.rules.Commands.{check_in, create_in, create_said};
+ghost use Rattle.command_words.specs.rules.Commands.{environment_in, files_in, files_said, flag_in};
+ghost use Rattle.command_words.specs.rules.Commands.{live_in, meaning_below, meaning_of};
+ghost use Rattle.command_words.specs.rules.Commands.{number_given, number_or, run_in, run_said};
+ghost use Rattle.command_words.specs.rules.Commands.{story_in, story_said, sweep_in, sweep_said};
 ghost use Rattle.command_words.specs.Commands.{IsTaken};
 ghost use Rattle.command_words.specs.declared.command_line.Order.TheVariants.{Check};
-ghost use Rattle.command_words.specs.rules.Commands.{TakesOptions, check_in, create_in};
-ghost use Rattle.command_words.specs.rules.Commands.{create_said};
-ghost use Rattle.command_words.specs.rules.Commands.{environment_in, files_in, files_said};
-ghost use Rattle.command_words.specs.rules.Commands.{flag_in, live_in, meaning_below};
-ghost use Rattle.command_words.specs.rules.Commands.{meaning_of, number_given, number_or};
-ghost use Rattle.command_words.specs.rules.Commands.{run_in};
-ghost use Rattle.command_words.specs.rules.Commands.{run_said, story_in, story_said};
-ghost use Rattle.command_words.specs.rules.Commands.{sweep_in, sweep_said};
 
 use super::{CheckOrder, CreateOrder, FilesOrder, Order, RunOrder, StoryOrder, SweepOrder};
 use crate::configuring::{FILES, JOURNAL, PAGES};

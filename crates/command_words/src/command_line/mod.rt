@@ -13,8 +13,7 @@
 //!   `--`.
 
 ghost use Rattle.std.specs.Prelude.{◌≡◌, map};
-ghost use Rattle.command_words.specs.rules.Commands.{IsParse, IsReading, IsStatusOf};
-ghost use Rattle.command_words.specs.rules.Commands.{IsWordsFault};
+ghost use Rattle.command_words.specs.rules.Commands.{IsParse, IsReading, IsStatusOf, IsWordsFault};
 ghost use Rattle.command_words.specs.declared.command_line.WordsFault.TheVariants as fault;
 
 mod commands;

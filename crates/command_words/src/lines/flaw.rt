@@ -2,8 +2,7 @@
 
 ghost use Rattle.std.specs.Prelude.{◌≡◌};
 ghost use Rattle.command_words.specs.declared.lines.flaw.LineFlaw.TheVariants.{Cut};
-ghost use Rattle.command_words.specs.rules.Flaws.{IsFlawIn, IsFlawOf, flaw_words};
-ghost use Rattle.command_words.specs.rules.Flaws.{text_limit_words};
+ghost use Rattle.command_words.specs.rules.Flaws.{IsFlawIn, IsFlawOf, flaw_words, text_limit_words};
 
 use crate::lines::fault::LineFault;
 use crate::lines::request::read_request;

@@ -24,8 +24,7 @@ use std::io::{BufReader, Read};
 /// still to come, and by whether a read of it has failed. Only a call can make it fail.
 pub trait LineReader {
     ghost use Rattle.std.specs.Prelude.{◌≡◌, ◌<◌, ℕ, Bool, List, Option, IfOk, IfErr, OnOk, IfSome};
-    ghost use Rattle.command_words.specs.Lines.Reads.{MovesPiece, IsFaultOfReading};
-    ghost use Rattle.command_words.specs.Lines.Reads.{GrowsTooLong};
+    ghost use Rattle.command_words.specs.Lines.Reads.{MovesPiece, IsFaultOfReading, GrowsTooLong};
     ghost use Rattle.command_words.specs.Lines.Reads.{AreSome};
 
     // The bytes that are still to come, where they are known.

@@ -27,8 +27,7 @@ ghost use Rattle.wasi_abi.specs.declared.answer.Question.TheVariants as question
 ghost use Rattle.wasi_abi.specs.declared.answer.Answer.TheVariants as answers;
 ghost use Rattle.wasi_abi.specs.declared.version.Version.TheVariants.{One};
 ghost use Rattle.wasi_abi.specs.rules.Versions.{text_limit};
-ghost use Rattle.command_words.specs.Lines.Answers.{Finds, IsRefusedAt, IsWordless};
-ghost use Rattle.command_words.specs.Lines.Answers.{source_state};
+ghost use Rattle.command_words.specs.Lines.Answers.{Finds, IsRefusedAt, IsWordless, source_state};
 ghost use Rattle.command_words.specs.rules.Outside.{random_stream};
 ghost use Rattle.command_words.specs.Outside.{ShowsRealTime};
 ghost use Rattle.command_words.specs.rules.Seeds.{seeded_bytes, words_for};

@@ -3,8 +3,7 @@ use Rattle.std.specs.Option.{unwrap_or}
 use Rattle.std.specs.Str.Parse.{ParsesUnsigned, ExplainsUnsignedError, HasUnsignedDigitsIfOk}
 use Rattle.clap.specs.Words.{found_of, rows_of}
 use Rattle.command_words.specs.rules.Commands.{number_or}
-use Rattle.command_words.proofs.WordLemmas.Meets.{number_is_positive, number_is_read}
-use Rattle.command_words.proofs.WordLemmas.Meets.{number_or_is}
+use Rattle.command_words.proofs.WordLemmas.Meets.{number_is_positive, number_is_read, number_or_is}
 use Rattle.command_words.proofs.command_line.matches.positive_or_else.Goals as goal
 
 pub unreachable-requires : goal.unreachable-requires

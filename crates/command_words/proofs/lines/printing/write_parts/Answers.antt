@@ -2,8 +2,7 @@ use Rattle.std.proofs.Common.{ℕ, List, [], ◌∷◌, ◌++◌, subst, ◌∙�
 use Rattle.std.specs.Fmt.{decimal}
 use Rattle.command_words.specs.rules.Texts.{letter_of}
 use Rattle.command_words.specs.rules.Printers.{IsPrinted, StopsPrinting}
-use Rattle.command_words.proofs.FrontLemmas.{writes, stops, stops_first, stops_then}
-use Rattle.command_words.proofs.FrontLemmas.{prints_then}
+use Rattle.command_words.proofs.FrontLemmas.{writes, stops, stops_first, stops_then, prints_then}
 use Rattle.command_words.proofs.LineLemmas.Printed.{prints_both}
 use Rattle.command_words.proofs.lines.printing.write_parts.Goals as goal
 
