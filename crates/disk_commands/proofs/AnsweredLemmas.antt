@@ -11,12 +11,10 @@ use Rattle.record_replay.specs.declared.fault.SourceFault.{SourceFault}
 use Rattle.record_replay.specs.rules.Calls.{Ask, AnswersInOrder}
 use Rattle.record_replay.specs.rules.Slices.{handed_by, handed}
 use Rattle.command_words.specs.declared.lines.fault.LineFault.{LineFault}
-use Rattle.command_words.specs.rules.Outside.{ComeFrom, request_in, requests_in}
-use Rattle.command_words.specs.rules.Outside.{words_in}
+use Rattle.command_words.specs.rules.Outside.{ComeFrom, request_in, requests_in, words_in}
 use Rattle.command_words.specs.rules.Requests.{GiveUpTo}
 use Rattle.command_words.specs.Lines.Answers.{SourceState, HandsNext, HandsAnswer, Finds}
-use Rattle.command_words.specs.Lines.Answers.{LeavesFault}
-use Rattle.command_words.specs.Lines.Answers.{IsRefusedAt}
+use Rattle.command_words.specs.Lines.Answers.{LeavesFault, IsRefusedAt}
 use Rattle.command_words.proofs.LineLemmas.Asking.{HandsOver, finds_hands}
 use Rattle.command_words.proofs.LineLemmas.Passing.{passed_nothing, up_to_on, up_to_map}
 use Rattle.command_words.proofs.LineLemmas.Passing.{behind_passed}

@@ -1,7 +1,6 @@
 -- Where slices and batches lead, and where one or the checkpoint after it has failed.
-use Rattle.std.proofs.Common.{◌≡◌, inl, inr, ℕ, ◌+◌, Bool, true, false, List, [], ◌∷◌, ◌++◌}
-use Rattle.std.proofs.Common.{None, Err, refl, sym, ap, subst, arith, append_assoc}
-use Rattle.std.proofs.Common.{append-nil}
+use Rattle.std.proofs.Common.{◌≡◌, inl, inr, ℕ, ◌+◌, Bool, true, false, List, [], ◌∷◌, ◌++◌, None}
+use Rattle.std.proofs.Common.{Err, refl, sym, ap, subst, arith, append_assoc, append-nil}
 use Rattle.std.specs.Prelude.{Result, replicate}
 use Rattle.std.proofs.lemmas.List.{replicate_more}
 use Rattle.wasi_abi.specs.declared.answer.Question.TheVariants as questions
@@ -9,7 +8,7 @@ use Rattle.process_rules.specs.Processes.{ProcessState, Guest}
 use Rattle.process_rules.specs.Runs.{none}
 use Rattle.process.specs.rules.Values.{ProcessValue, ShowsProcess}
 use Rattle.record_replay.specs.rules.Calls.{Giving, Taking, Asked, Released, AnswersInOrder}
-use Rattle.record_replay.specs.rules.Calls.{Releases, asks_of, releases_of}
+use Rattle.record_replay.specs.rules.Calls.{Releases, asks_of, releases_of, ports}
 use Rattle.record_replay.proofs.Following.{exchanges_join, leads_join as calls_join}
 use Rattle.record_replay.proofs.Following.{asks_of-append, releases_of-append}
 use Rattle.record_replay.specs.declared.slices.fault.SliceFault.TheVariants as slice
@@ -25,9 +24,8 @@ use Rattle.worker.specs.rules.DurableValues.{DurableValue, without_disk}
 use Rattle.worker.specs.rules.Batches.{BatchFails, HasUntakenAnswer, ToldUpTo}
 use Rattle.worker.specs.rules.DurableFailures.{SlicesOnDiskInVain, IsDiskCause}
 use Rattle.worker.specs.rules.LifeWords.{Act, Slice, Batch, Checkpoint, fuel_of}
-use Rattle.disk_commands.specs.rules.BrokenLives.{steps_among, in_act, in_checkpoint}
-use Rattle.disk_commands.specs.rules.BrokenLives.{SlicesLead, BreaksOff, BreaksOffFrom}
-use Rattle.disk_commands.specs.rules.BrokenLives.{BreaksInSlice, BreaksInSliceFrom}
+use Rattle.disk_commands.specs.rules.BrokenLives.{steps_among, in_act, in_checkpoint, SlicesLead}
+use Rattle.disk_commands.specs.rules.BrokenLives.{BreaksOff, BreaksInSlice, process_scene}
 use Rattle.disk_commands.specs.rules.Paces.{round_of}
 use Rattle.disk_commands.proofs.ToldLemmas.{told_as_taken}
 
@@ -84,7 +82,8 @@ fails_nowhere fuel guest p = (omega arith, inl (inr (up_to_nowhere guest p)))
 
 module _ {S O : Type 0} (gives : Giving S) (takes : Taking O) where
   pub lead_nowhere : (v : ProcessValue) (s : S) (o : O) (guest : Guest) (p : ProcessState)
-      → ShowsProcess v guest p → SlicesLead gives takes guest p s s o o 0 v
+      → ShowsProcess v guest p
+      → SlicesLead gives takes (process_scene guest p s o) (ports s o) 0 v
   lead_nowhere v s o guest p is = record {
     exchanges = [];
     exchanged = record { asked = refl; released = refl };
@@ -95,14 +94,21 @@ module _ {S O : Type 0} (gives : Giving S) (takes : Taking O) where
     shows = is;
   }
 
+  -- calls have failed so, whichever process the worker showed
+  abbrev pub BreaksBy : ProcessValue → Act → ℕ → WorkFault → S → S → O → O → Type 0
+  BreaksBy old act all why s t o p = (guest : Guest) (start : ProcessState)
+      → ShowsProcess old guest start
+      → BreaksOff gives takes (process_scene guest start s o) (ports t p) act all why
+
   -- ---- a slice
 
   module _ (fuel : ℕ) (s t : S) (o p : O) where
     -- one whose fuel is spent
     pub lead_by_slice : (w w' : DurableValue)
-        → Slices gives takes (without_disk w) fuel now.Spent (without_disk w') s t o p
+        → Slices gives takes (without_disk w) fuel now.Spent (without_disk w') (ports s o)
+        (ports t p)
         → (guest : Guest) (start : ProcessState) → ShowsProcess w.process guest start
-        → SlicesLead gives takes guest start s t o p fuel w'.process
+        → SlicesLead gives takes (process_scene guest start s o) (ports t p) fuel w'.process
     lead_by_slice w w' slices guest start is =
         let works = slices.shown guest start is in
         record {
@@ -118,11 +124,13 @@ module _ {S O : Type 0} (gives : Giving S) (takes : Taking O) where
 
     -- where it is the slice that has failed
     abbrev pub BreaksInBy : ProcessValue → WorkFault → Type 0
-    BreaksInBy old why = BreaksInSliceFrom gives takes old fuel fuel why s t o p
+    BreaksInBy old why = (guest : Guest) (start : ProcessState) → ShowsProcess old guest start
+        → BreaksInSlice gives takes (process_scene guest start s o) (ports t p) fuel fuel why
 
     -- one that fails
     breaks_in_slice : (old new : ProcessValue) (why : WorkFault)
-        → SlicesOnDiskInVain gives takes old fuel why new s t o p → BreaksInBy old why
+        → SlicesOnDiskInVain gives takes old fuel why new (ports s o) (ports t p) → BreaksInBy
+        old why
     breaks_in_slice old new why vain guest start is =
         let fails = vain guest start is in
         record {
@@ -147,8 +155,8 @@ module _ {S O : Type 0} (gives : Giving S) (takes : Taking O) where
 
     -- a batch that fails
     breaks_in_batch : (most : ℕ) (old new : ProcessValue) (why : WorkFault)
-        → BatchFails gives takes old fuel why new s t o p
-        → BreaksOffFrom gives takes old (Batch fuel most) fuel why s t o p
+        → BatchFails gives takes old fuel why new (ports s o) (ports t p)
+        → BreaksBy old (Batch fuel most) fuel why s t o p
     breaks_in_batch most old new why vain guest start is =
         let batch = vain guest start is in
         let fails = batch.1 in
@@ -176,8 +184,9 @@ module _ {S O : Type 0} (gives : Giving S) (takes : Taking O) where
   -- a checkpoint that fails after an act that doesn't
   module _ (act : Act) (s t : S) (o p : O) where
     pub breaks_in_checkpoint : (w w' : DurableValue) (said : Now) (why : WorkFault)
-        → Slices gives takes (without_disk w) (fuel_of act) said (without_disk w') s t o p
-        → BreaksOffFrom gives takes w.process act (fuel_of act) why s t o p
+        → Slices gives takes (without_disk w) (fuel_of act) said (without_disk w') (ports s o)
+        (ports t p)
+        → BreaksBy w.process act (fuel_of act) why s t o p
     breaks_in_checkpoint w w' said why slices guest start is =
         let works = slices.shown guest start is in
         record {
@@ -221,7 +230,7 @@ module _ {S O : Type 0} (gives : Giving S) (takes : Taking O) where
   }
 
   batch_failed_before : (fuel most : ℕ) (s : S) (o : O) (old : ProcessValue)
-      → BreaksOffFrom gives takes old (Batch fuel most) fuel (work.Work slice.Failed) s s o o
+      → BreaksBy old (Batch fuel most) fuel (work.Work slice.Failed) s s o o
   batch_failed_before fuel most s o old guest start is = record {
     front = [];
     answered = none_answered;
@@ -245,7 +254,8 @@ module _ {S O : Type 0} (gives : Giving S) (takes : Taking O) where
   module _ (fuel : ℕ) (s t : S) (o p : O) (old new : ProcessValue) (why : WorkFault) where
     -- a slice that fails, of a worker that had failed or not
     pub slice_breaks_in : (has_failed : Bool)
-        → (has_failed ≡ false → SlicesOnDiskInVain gives takes old fuel why new s t o p)
+        → (has_failed ≡ false → SlicesOnDiskInVain gives takes old fuel why new (ports s o)
+        (ports t p))
         → (has_failed ≡ true
         → ◌≡◌ {A = Result Now WorkFault} (Err why) (Err (work.Work slice.Failed)))
         → (has_failed ≡ true → t ≡ s) → (has_failed ≡ true → p ≡ o)
@@ -260,11 +270,12 @@ module _ {S O : Type 0} (gives : Giving S) (takes : Taking O) where
         (breaks_failed fuel s o old)))
 
     pub slice_breaks_off : (has_failed : Bool)
-        → (has_failed ≡ false → SlicesOnDiskInVain gives takes old fuel why new s t o p)
+        → (has_failed ≡ false → SlicesOnDiskInVain gives takes old fuel why new (ports s o)
+        (ports t p))
         → (has_failed ≡ true
         → ◌≡◌ {A = Result Now WorkFault} (Err why) (Err (work.Work slice.Failed)))
         → (has_failed ≡ true → t ≡ s) → (has_failed ≡ true → p ≡ o)
-        → BreaksOffFrom gives takes old (Slice fuel) fuel why s t o p
+        → BreaksBy old (Slice fuel) fuel why s t o p
     slice_breaks_off has_failed vain failed steady silent guest start is =
         let breaks = slice_breaks_in has_failed vain failed steady silent guest start is in
         breaks.broken
@@ -272,10 +283,11 @@ module _ {S O : Type 0} (gives : Giving S) (takes : Taking O) where
     -- so it is of a batch
     module _ (most : ℕ) where
       abbrev Breaks : S → O → WorkFault → Type 0
-      Breaks t p why = BreaksOffFrom gives takes old (Batch fuel most) fuel why s t o p
+      Breaks t p why = BreaksBy old (Batch fuel most) fuel why s t o p
 
       pub batch_breaks_off : (has_failed : Bool)
-          → (has_failed ≡ false → BatchFails gives takes old fuel why new s t o p)
+          → (has_failed ≡ false → BatchFails gives takes old fuel why new (ports s o)
+          (ports t p))
           → (has_failed ≡ true
           → ◌≡◌ {A = Result Now WorkFault} (Err why) (Err (work.Work slice.Failed)))
           → (has_failed ≡ true → t ≡ s) → (has_failed ≡ true → p ≡ o) → Breaks t p why
@@ -290,10 +302,11 @@ module _ {S O : Type 0} (gives : Giving S) (takes : Taking O) where
   -- ---- slices, and what comes behind them
 
   module _ (guest : Guest) (start : ProcessState) (s u t : S) (o q p : O) (n : ℕ)
-      (mid : ProcessValue) (first : SlicesLead gives takes guest start s u o q n mid) where
+      (mid : ProcessValue)
+      (first : SlicesLead gives takes (process_scene guest start s o) (ports u q) n mid) where
     pub lead_join : (m : ℕ) (new : ProcessValue)
-        → SlicesLead gives takes guest first.process u t q p m new
-        → SlicesLead gives takes guest start s t o p (n + m) new
+        → SlicesLead gives takes (process_scene guest first.process u q) (ports t p) m new
+        → SlicesLead gives takes (process_scene guest start s o) (ports t p) (n + m) new
     lead_join m new second = record {
       exchanges = first.exchanges ++ second.exchanges;
       exchanged = exchanges_join gives takes s t u o p q first.exchanges second.exchanges
@@ -308,8 +321,8 @@ module _ {S O : Type 0} (gives : Giving S) (takes : Taking O) where
     }
 
     pub breaks_join : (act : Act) (all : ℕ) (why : WorkFault)
-        → BreaksOff gives takes guest first.process u t q p act all why
-        → BreaksOff gives takes guest start s t o p act (n + all) why
+        → BreaksOff gives takes (process_scene guest first.process u q) (ports t p) act all why
+        → BreaksOff gives takes (process_scene guest start s o) (ports t p) act (n + all) why
     breaks_join act all why second =
         let counted = second.counted in
         let same = sym (append_assoc first.exchanges second.front second.back) in
@@ -343,8 +356,8 @@ module _ {S O : Type 0} (gives : Giving S) (takes : Taking O) where
 
     -- so it is where the slice itself has failed
     pub breaks_in_join : (fuel all : ℕ) (why : WorkFault)
-        → BreaksInSlice gives takes guest first.process u t q p fuel all why
-        → BreaksInSlice gives takes guest start s t o p fuel (n + all) why
+        → BreaksInSlice gives takes (process_scene guest first.process u q) (ports t p) fuel all why
+        → BreaksInSlice gives takes (process_scene guest start s o) (ports t p) fuel (n + all) why
     unfolding breaks_join
     breaks_in_join fuel all why second = record {
       broken = breaks_join (Slice fuel) all why second.broken;

@@ -1,7 +1,6 @@
 -- From what a run on a disk does to the cause of its exit status.
 use Rattle.std.proofs.Common.{◌≡◌, ◌⊎◌, inl, inr, ⊎_elim, ℕ, ◌+◌, ◌<◌, ◌≤◌, Bool, true, List, []}
-use Rattle.std.proofs.Common.{◌∷◌}
-use Rattle.std.proofs.Common.{length, Some, Ok, Err, refl, sym, ap, ◌∙◌, subst, arith}
+use Rattle.std.proofs.Common.{◌∷◌, length, Some, Ok, Err, refl, sym, ap, ◌∙◌, subst, arith}
 use Rattle.std.specs.Prelude.{Result, false, if◌then◌else◌}
 use Rattle.std.specs.List.{AllByRecursion}
 use Rattle.wasi_abi.specs.declared.answer.Question.{Question}
@@ -24,29 +23,24 @@ use Rattle.command_words.specs.declared.lines.fault.LineFault.TheVariants as lin
 use Rattle.command_words.specs.Lines.Answers.{SourceState, HandsNext, HandsAnswer, IsRefusedFor}
 use Rattle.command_words.specs.rules.Outside.{requests_in, words_of}
 use Rattle.command_words.specs.rules.Printers.{PrinterState, IsSaid}
-use Rattle.command_words.specs.rules.Requests.{BeginsWithOther, BeginsWithLater}
-use Rattle.command_words.specs.rules.Requests.{BeginsWithNumber}
+use Rattle.command_words.specs.rules.Requests.{BeginsWithOther, BeginsWithLater, BeginsWithNumber}
 use Rattle.command_words.specs.declared.status.Status.{Status}
 use Rattle.command_words.specs.declared.status.Status.TheVariants as exit
 use Rattle.command_words.proofs.LineLemmas.Passing.{up_to_map}
 use Rattle.disk_commands.specs.declared.on_disk.fault.OnDiskFault.{OnDiskFault}
 use Rattle.disk_commands.specs.declared.on_disk.fault.OnDiskFault.TheVariants as is_told
-use Rattle.disk_commands.specs.rules.DiskStatuses.{IsReportedOnDisk, opening_fault}
-use Rattle.disk_commands.specs.rules.DiskStatuses.{status_on_disk}
+use Rattle.disk_commands.specs.rules.DiskStatuses.{IsReportedOnDisk, opening_fault, status_on_disk}
 use Rattle.disk_commands.specs.rules.DiskStatuses.{status_of_call}
 use Rattle.disk_commands.specs.rules.Hearings.{WasHeard, AsksUnless, IsOfSource, MayRefuse}
 use Rattle.disk_commands.specs.rules.ServedOnDisk.{RunStart, RunEnd, act_given, source_behind}
-use Rattle.disk_commands.specs.rules.ServedOnDisk.{handing}
+use Rattle.disk_commands.specs.rules.ServedOnDisk.{handing, LivesOnDisk, HasBrokenOff, ServesOnDisk}
+use Rattle.disk_commands.specs.rules.ServedOnDisk.{over, broken, unopened as is_unopened}
 use Rattle.disk_commands.specs.rules.BrokenLives.{LeavesNoLine, steps_among}
-use Rattle.disk_commands.specs.rules.ServedOnDisk.{LivesOnDisk, HasBrokenOff}
-use Rattle.disk_commands.specs.rules.ServedOnDisk.{ServesOnDisk, over, broken}
-use Rattle.disk_commands.specs.rules.ServedOnDisk.{unopened as is_unopened}
 use Rattle.disk_commands.specs.laws.DiskCauses.{IsRefusedAmong, HasRefused, MeetsBadLineAt}
-use Rattle.disk_commands.specs.laws.DiskCauses.{LacksAnswerAt, LacksMemoryAt}
-use Rattle.disk_commands.specs.laws.DiskCauses.{IsStuck, IsFailing, IsWanting}
-use Rattle.disk_commands.specs.laws.DiskCauses.{IsAtItsEnd, IsUnanswering, HasToldItsLines}
-use Rattle.disk_commands.specs.laws.DiskCauses.{IsOverOnDisk, FailsOnDisk, opening, calling}
-use Rattle.disk_commands.specs.laws.DiskCauses.{AsksInVain, SaysOnDisk, StatusesHaveCauses}
+use Rattle.disk_commands.specs.laws.DiskCauses.{LacksAnswerAt, LacksMemoryAt, IsStuck, IsFailing}
+use Rattle.disk_commands.specs.laws.DiskCauses.{IsWanting, IsAtItsEnd, IsUnanswering}
+use Rattle.disk_commands.specs.laws.DiskCauses.{HasToldItsLines, IsOverOnDisk, FailsOnDisk, opening}
+use Rattle.disk_commands.specs.laws.DiskCauses.{calling, AsksInVain, SaysOnDisk, StatusesHaveCauses}
 use Rattle.disk_commands.proofs.HearingLemmas.{none_refused}
 use Rattle.disk_commands.proofs.PaceLemmas.{one_or_several}
 use Rattle.disk_commands.proofs.PrintedLemmas.{lines_told}
@@ -56,9 +50,8 @@ use Rattle.disk_commands.proofs.RefusalLemmas.{refusals_have_reasons}
 
 module _ (old : SourceState) (asks : List Ask) (failed' : Bool) where
   abbrev IsFor : Question → LineFault → Type 0
-  IsFor question why = IsRefusedFor question old.outside old.limit (old.place
-      + words_of (handed asks)) old.taken old.unread (requests_in (handed asks))
-      old.failed failed' why
+  IsFor question why = IsRefusedFor question old (old.place + words_of (handed asks))
+      (requests_in (handed asks)) failed' why
 
   lacks_read : (question : Question) → IsRefusedAmong asks question → IsFor question line.Read
       → LacksAnswerAt old asks failed'

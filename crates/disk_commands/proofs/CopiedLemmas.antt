@@ -19,20 +19,19 @@ use Rattle.disk_layout.specs.declared.reading.contents.Contents.{Contents}
 use Rattle.disk_layout.specs.rules.Places.{geometry_of, total_sectors}
 use Rattle.disk_layout.specs.rules.Sectors.{HasMarks}
 use Rattle.worker.specs.laws.Copies.{StandForTheSame, StandsFor}
-use Rattle.worker.proofs.CopyLemmas.{first_sectors_decide, opened_is_fresh}
-use Rattle.worker.proofs.CopyLemmas.{stands_by_its_contents}
+use Rattle.worker.proofs.CopyLemmas.{first_sectors_decide, opened_is_fresh, stands_by_its_contents}
 use Rattle.worker.specs.declared.inspection.Inspection.{Inspection}
 use Rattle.worker.specs.declared.recover_fault.RecoverFault.{RecoverFault}
 use Rattle.worker.specs.rules.Inspections.{Inspects}
 use Rattle.command_words.specs.declared.telling.Obstacle.TheVariants.{Unread}
-use Rattle.command_words.specs.rules.Printers.{IsSaid, PrinterState}
+use Rattle.command_words.specs.rules.Printers.{IsSaid, PrinterState, Printers}
 use Rattle.command_words.specs.rules.Reports.{SaysLine, obstacle_words}
 use Rattle.command_words.specs.declared.status.Status.{Status}
 use Rattle.command_words.specs.declared.status.Status.TheVariants as exit
 use Rattle.disk_commands.specs.laws.Copied.{CopiesStandForTheSame, CopiesWhatStands}
 use Rattle.disk_commands.specs.laws.Copied.{SavedFilesStandForTheSame, SavesWhatStands}
 use Rattle.disk_commands.specs.rules.DiskStatuses.{opening_fault, status_on_disk}
-use Rattle.disk_commands.specs.rules.Openings.{open_words}
+use Rattle.disk_commands.specs.rules.Openings.{open_words, command_run}
 use Rattle.disk_commands.specs.rules.SavedCopies.{IsSavedInFile, SavesCopy, SavesTold, SaysCopied}
 use Rattle.disk_commands.proofs.WatchingLemmas.{undone_on_disk}
 
@@ -50,20 +49,19 @@ no_line line old new (inl said) = let is = said.0 in cc
 no_line line old new (inr failed) = let is = failed.0 in cc
 
 -- what holds after Ok, where that is done
-if_done : (sectors : ℕ) (answer : Result (Unit {0}) CopyFault) (out out' err err' : PrinterState)
-    (P : Type 0) → SaysCopied sectors answer out out' err err' exit.Done → OnOk answer P → P
-if_done sectors (Ok done) out out' err err' P says on = on
-if_done sectors (Err why) out out' err err' P says on =
-    absurd (no_line (obstacle_words Unread) err err' says.0)
+if_done : (sectors : ℕ) (answer : Result (Unit {0}) CopyFault) (before after : Printers)
+    (P : Type 0) → SaysCopied sectors answer before after exit.Done → OnOk answer P → P
+if_done sectors (Ok done) before after P says on = on
+if_done sectors (Err why) before after P says on =
+    absurd (no_line (obstacle_words Unread) before.err after.err says.0)
 
 -- ---- a copy
 
 some_sectors : (g : Geometry) (sectors : ℕ) → total_sectors g ≤ sectors → 1 ≤ sectors
 some_sectors g sectors all = omega (arith, all)
 
-module _ (original original' copy copy' : Medium) (out out' err err' : PrinterState)
-    (status : Status)
-    (saves : SavesCopy original original' copy copy' out out' err err' status)
+module _ (original original' copy copy' : Medium) (before after : Printers) (status : Status)
+    (saves : SavesCopy original original' copy copy' before after status)
     (began : (image : DiskImage) → copy.crash_images image → image ≡ zeros copy.sectors)
     (shown : DiskImage) (shows : original'.shows shown) (m : Module) (config : Settings)
     (kept : List Kept) (n : ℕ) (stands : StandsFor shown m config kept n)
@@ -84,8 +82,8 @@ module _ (original original' copy copy' : Medium) (out out' err err' : PrinterSt
   same_when_done : status ≡ exit.Done → (image : DiskImage) → copy'.crash_images image
       → StandForTheSame shown image
   same_when_done done image crashed =
-      let copied = if_done copy.sectors saves.answer out out' err err' (IsCopied original' copy')
-      (subst (λ (s : Status). SaysCopied copy.sectors saves.answer out out' err err' s) done
+      let copied = if_done copy.sectors saves.answer before after (IsCopied original' copy')
+      (subst (λ (s : Status). SaysCopied copy.sectors saves.answer before after s) done
       saves.says) saves.copied in
       let passes = leaves_front.passes in
       front_stands image (copied shown image shows crashed
@@ -100,9 +98,9 @@ module _ (original original' copy copy' : Medium) (out out' err err' : PrinterSt
 
 module _ {D C : Type 0} (disks : D → Medium) (copies : C → Medium) where
   pub copies_stand_for_the_same : CopiesStandForTheSame disks copies
-  copies_stand_for_the_same disk disk' copy copy' out out' err err' status saves began shown shows
+  copies_stand_for_the_same disk disk' copy copy' before after status saves began shown shows
       m config kept n stands all =
-      copies_what_stands (disks disk) (disks disk') (copies copy) (copies copy') out out' err err'
+      copies_what_stands (disks disk) (disks disk') (copies copy) (copies copy') before after
       status saves began shown shows m config kept n stands all
 
 -- ---- a file
@@ -139,11 +137,11 @@ enough : (told needed sectors : ℕ) → told ≡ needed → sectors ≡ told �
 enough told needed sectors one two = omega (arith, one, two)
 
 module _ {D F : Type 0} (medium : D → Medium) (handles : KnownHandles F) (files : KnownFiles F)
-    (path : List ℕ) (out out' err err' : PrinterState) where
+    (path : List ℕ) (before after : Printers) where
   saved_in : (told : Inspection) (opened read disk' : D)
       → Inspects (Ok told) (medium opened) (medium read)
       → IsSavedInFile handles files path (total_sectors told.contents.geometry) (medium read)
-      (medium disk') out out' err err' exit.Done
+      (medium disk') (command_run before after exit.Done)
       → SavesWhatStands handles files path medium disk'
   saved_in told opened read disk' looks saved =
       let sectors : ℕ = total_sectors told.contents.geometry in
@@ -155,12 +153,12 @@ module _ {D F : Type 0} (medium : D → Medium) (handles : KnownHandles F) (file
         closed = saved.closed;
         kept = saved.keeps refl;
         copies = λ shown shows m config answers n stands.
-            let before = stays_shows (medium read) (medium disk') saved.saves.only_read.stays shown
+            let read_so = stays_shows (medium read) (medium disk') saved.saves.only_read.stays shown
             shows in
-            let same = told_sectors told (medium opened) (medium read) looks shown before m config
+            let same = told_sectors told (medium opened) (medium read) looks shown read_so m config
             answers n stands in
             copies_what_stands (medium read) (medium disk') (file_medium saved.copy)
-            (file_medium saved.copy') out out' err err' exit.Done saved.saves
+            (file_medium saved.copy') before after exit.Done saved.saves
             (began_as_zeros handles files path sectors saved.copy saved.made) shown shows m config
             answers n stands
             (enough sectors (total_sectors (geometry_of config (length stands.wasm)))
@@ -169,18 +167,18 @@ module _ {D F : Type 0} (medium : D → Medium) (handles : KnownHandles F) (file
 
   saved_told : (answer : Result Inspection RecoverFault) (opened read disk' : D)
       → Inspects answer (medium opened) (medium read)
-      → SavesTold handles files path medium answer read disk' out out' err err' exit.Done
+      → SavesTold handles files path medium answer read disk' (command_run before after exit.Done)
       → SavesWhatStands handles files path medium disk'
   saved_told (Ok told) opened read disk' looks (inl unmade) =
-      absurd (no_line (open_words path unmade.0) err err' unmade.3)
+      absurd (no_line (open_words path unmade.0) before.err after.err unmade.3)
   saved_told (Ok told) opened read disk' looks (inr saved) =
       saved_in told opened read disk' looks saved
   saved_told (Err why) opened read disk' looks refused =
-      absurd (none_said (status_on_disk (opening_fault why)) err err'
+      absurd (none_said (status_on_disk (opening_fault why)) before.err after.err
       (undone_on_disk (opening_fault why)) refused.1.0)
 
 module _ {D F : Type 0} (medium : D → Medium) where
   pub saved_files_stand_for_the_same : SavedFilesStandForTheSame medium F
-  saved_files_stand_for_the_same handles files path disk disk' out out' err err' saves =
-      saved_told medium handles files path out out' err err' saves.0 disk saves.1 disk' saves.2
+  saved_files_stand_for_the_same handles files path disk disk' before after saves =
+      saved_told medium handles files path before after saves.0 disk saves.1 disk' saves.2
       saves.3

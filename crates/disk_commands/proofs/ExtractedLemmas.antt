@@ -1,12 +1,11 @@
 -- Nodes that are made below a folder, one after another.
-use Rattle.std.proofs.Common.{◌≡◌, ◌≢◌, ℕ, ◌+◌, ◌<◌, ◌≤◌, List, length, subst, sym, arith}
-use Rattle.std.proofs.Common.{⊎_elim, inl}
-use Rattle.std.specs.Prelude.{IsTrue, slice_index_or}
+use Rattle.std.proofs.Common.{◌≡◌, ◌≢◌, ℕ, List, subst, sym, inl}
+use Rattle.std.specs.Prelude.{All, Contains, IsTrue}
 use Rattle.std.specs.List.Sorted.{IsPermutation}
 use Rattle.std.specs.declared.io.ErrorKind.{ErrorKind}
-use Rattle.std.proofs.lemmas.Bool.{cases_lt}
-use Rattle.std.proofs.lemmas.List.{get_or_read_under}
-use Rattle.command_words.specs.rules.Printers.{PrinterState}
+use Rattle.std.proofs.lemmas.List.Elements.{All-contains_itself}
+use Rattle.std.proofs.lemmas.List.Sorted.{All-permutation}
+use Rattle.command_words.specs.rules.Printers.{PrinterState, printers}
 use Rattle.command_words.specs.declared.status.Status.{Status}
 use Rattle.command_words.specs.declared.status.Status.TheVariants as exit
 use Rattle.file_tree.specs.rules.Files.{Files}
@@ -28,37 +27,41 @@ unmade_at trees asked told path kind old status new one other fails says = (
   subst (λ (p : List ℕ). SaysUnread p kind old status new) other says,
 )
 
--- what holds of the first nodes holds of one more
-pub holds_of_more : (P : ListedNode → Type 0) (nodes : List ListedNode) (i : ℕ) (node : ListedNode)
-    → i < length nodes → node ≡ slice_index_or nodes i node
-    → ((k : ℕ) (d : ListedNode) → k < i → P (slice_index_or nodes k d)) → P node
-    → (k : ℕ) (d : ListedNode) → k < i + 1 → P (slice_index_or nodes k d)
-holds_of_more P nodes i node within is before here k d under =
-    ⊎_elim (λ (less : k < i). before k d less)
-    (λ (least : i ≤ k). last (omega (arith, least, under))) (cases_lt k i)
-  where
-    last : k ≡ i → P (slice_index_or nodes k d)
-    last same = subst (λ (j : ℕ). P (slice_index_or nodes j d)) (sym same)
-        (subst P (get_or_read_under nodes i (length nodes) node d is within (omega arith)) here)
+-- nodes in some order are those of the tree
+pub are_of_tree : (fs : Files) (nodes : List ListedNode) → IsPermutation (listing_in fs) nodes
+    → All (Contains (listing_in fs)) nodes
+are_of_tree fs nodes order = All-permutation (Contains (listing_in fs)) (listing_in fs) nodes order
+    (All-contains_itself (listing_in fs))
 
--- a folder that was made and filled, by two names of its path and of its nodes
-pub writes_folder : (trees : KnownTrees) (folder at : List ℕ) (fs : Files)
+-- by two names of the tree and of its nodes
+pub all_of_tree : (fs tree : Files) (nodes given : List ListedNode) → tree ≡ fs → given ≡ nodes
+    → All (Contains (listing_in fs)) nodes → All (Contains (listing_in tree)) given
+all_of_tree fs tree nodes given whose same are =
+    subst (λ (f : Files). All (Contains (listing_in f)) given) (sym whose)
+    (subst (λ (ns : List ListedNode). All (Contains (listing_in fs)) ns) (sym same) are)
+
+-- a folder that was made and filled, by two names of its path, of its tree and of its nodes
+pub writes_folder : (trees : KnownTrees) (folder at : List ℕ) (fs tree : Files)
     (nodes given : List ListedNode) (out out' err err' : PrinterState) (status : Status)
-    → at ≡ folder
+    → at ≡ folder → tree ≡ fs
     → given ≡ nodes → IsTrue (trees.folder folder) → IsPermutation (listing_in fs) nodes
-    → FillsFolder trees at fs given out out' err err' status
+    → FillsFolder trees at tree given (printers out err) (printers out' err') status
     → (status ≡ exit.Done → IsTrue (trees.kept at))
     → (status ≢ exit.Done → IsTrue (trees.removed at))
-    → WritesTree trees folder fs out out' err err' status
-writes_folder trees folder at fs nodes given out out' err err' status is same made listed fills
-    keeps removes =
+    → WritesTree trees folder fs (printers out err) (printers out' err') status
+writes_folder trees folder at fs tree nodes given out out' err err' status is whose same made listed
+    fills keeps removes =
     inl (record {
       made = made;
       nodes = nodes;
       listed = listed;
-      fills = subst (λ (p : List ℕ). FillsFolder trees p fs nodes out out' err err' status) is
-          (subst (λ (n : List ListedNode). FillsFolder trees at fs n out out' err err' status) same
-          fills);
+      fills = subst (λ (p : List ℕ). FillsFolder trees p fs nodes (printers out err)
+          (printers out' err') status) is
+          (subst (λ (f : Files). FillsFolder trees at f nodes (printers out err)
+          (printers out' err') status) whose
+          (subst (λ (n : List ListedNode). FillsFolder trees at tree n (printers out err)
+          (printers out' err') status) same
+          fills));
       keeps = λ none. subst (λ (p : List ℕ). IsTrue (trees.kept p)) is (keeps none);
       removes = λ some. subst (λ (p : List ℕ). IsTrue (trees.removed p)) is (removes some);
     })

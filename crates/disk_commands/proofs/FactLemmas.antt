@@ -15,8 +15,7 @@ use Rattle.disk_commands.specs.declared.inspecting.fact.Fact.{Fact as LentFact}
 use Rattle.disk_commands.specs.declared.inspecting.fact.Field.{Field as LentField}
 use Rattle.disk_commands.specs.FactViews.{Adds, added_to, facts_of, field_of, scalar_of}
 use Rattle.disk_commands.specs.Members.{Puts}
-use Rattle.disk_commands.specs.rules.Facts.{Fact, Member, field_member, put_all}
-use Rattle.disk_commands.specs.rules.Facts.{scalar_data}
+use Rattle.disk_commands.specs.rules.Facts.{Fact, Member, field_member, put_all, scalar_data}
 
 -- ---- lists
 

@@ -14,7 +14,7 @@ use Rattle.sector_disk.specs.rules.Memory.{memory_medium}
 use Rattle.sector_disk.specs.rules.Open.{IsOpenedAt}
 use Rattle.sector_disk.specs.rules.Rewrite.{AddsNothing}
 use Rattle.command_words.specs.declared.telling.Obstacle.TheVariants.{Unread}
-use Rattle.command_words.specs.rules.Printers.{PrinterState}
+use Rattle.command_words.specs.rules.Printers.{PrinterState, printers}
 use Rattle.command_words.specs.rules.Reports.{SaysLine, obstacle_words}
 use Rattle.command_words.specs.declared.status.Status.{Status}
 use Rattle.command_words.specs.declared.status.Status.TheVariants as exit
@@ -96,8 +96,9 @@ pub tells_opened : {F : Type 0} (handles : KnownHandles F) (files : KnownFiles F
     (path : List ℕ) (opened disk : FileDisk F) (out out' err between err' : PrinterState)
     (status : Status) → IsOpenedAt handles files path opened → IsTrue (files.closed disk)
     → between ≡ err
-    → TellsLook what (file_medium opened) (file_medium disk) out out' between err' status
-    → TellsOpened handles files what path out out' err err' status
+    → TellsLook what (file_medium opened) (file_medium disk) (printers out between)
+    (printers out' err') status
+    → TellsOpened handles files what path (printers out err) (printers out' err') status
 tells_opened handles files what path opened disk out out' err between err' status at closed quiet
     tells =
     inl (
@@ -105,7 +106,8 @@ tells_opened handles files what path opened disk out out' err between err' statu
       disk,
       at,
       closed,
-      subst (λ old. TellsLook what (file_medium opened) (file_medium disk) out out' old err' status)
+      subst (λ old. TellsLook what (file_medium opened) (file_medium disk) (printers out old)
+          (printers out' err') status)
           quiet tells,
     )
 
@@ -113,14 +115,16 @@ tells_opened handles files what path opened disk out out' err between err' statu
 pub tells_picture : {F : Type 0} (handles : KnownHandles F) (files : KnownFiles F) (what : Look)
     (path : List ℕ) (picture after : MemDisk) (out out' err between err' : PrinterState)
     (status : Status) → IsPictureAt handles files path (Ok picture) → between ≡ err
-    → TellsLook what (memory_medium picture) (memory_medium after) out out' between err' status
-    → TellsPicture handles files what path out out' err err' status
+    → TellsLook what (memory_medium picture) (memory_medium after) (printers out between)
+    (printers out' err') status
+    → TellsPicture handles files what path (printers out err) (printers out' err') status
 tells_picture handles files what path picture after out out' err between err' status pictured quiet
     tells =
     inl (
       picture,
       after,
       pictured,
-      subst (λ old. TellsLook what (memory_medium picture) (memory_medium after) out out' old err'
+      subst (λ old. TellsLook what (memory_medium picture) (memory_medium after)
+          (printers out old) (printers out' err')
           status) quiet tells,
     )

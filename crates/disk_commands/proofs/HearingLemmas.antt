@@ -8,7 +8,7 @@ use Rattle.wasi_abi.specs.declared.answer.Question.{Question}
 use Rattle.wasi_calls_rules.specs.WasiStates.{Line}
 use Rattle.process_rules.specs.Processes.{ProcessState, Guest}
 use Rattle.record_replay.specs.rules.Calls.{Giving, Taking, Ask, Asked, Begun, Exchange, Asks}
-use Rattle.record_replay.specs.rules.Calls.{Tells, asks_of, last_refused}
+use Rattle.record_replay.specs.rules.Calls.{Tells, asks_of, last_refused, ports}
 use Rattle.record_replay.proofs.Following.{asks_of-append, leads_join}
 use Rattle.process.specs.rules.Values.{ProcessValue, IsProcess}
 use Rattle.record_replay.specs.declared.slices.fault.SliceFault.TheVariants as slice
@@ -181,7 +181,7 @@ module _ (guest : Guest) (p : ProcessState) (exchanges : List Exchange) (steps :
 module _ {S O : Type 0} (gives : Giving S) (takes : Taking O) (fuel : ℕ) (s t : S) (o p : O) where
   pub slice_hears : (old new : WorkerValue) (why : Now)
       → (old.failed ≡ false → IsProcess old.process)
-      → Slices gives takes old fuel why new s t o p → AsksUnless gives ⊥ s t
+      → Slices gives takes old fuel why new (ports s o) (ports t p) → AsksUnless gives ⊥ s t
   slice_hears old new why shows slices =
       let is = shows slices.had_not_failed in
       let works = slices.shown is.guest is.process is.shows in
@@ -196,7 +196,7 @@ module _ {S O : Type 0} (gives : Giving S) (takes : Taking O) (fuel : ℕ) (s t 
   HearsUpTo why = AsksUnless gives (IsOfSource (Err (recover.Worker why))) s t
 
   break_hears : (old new : ProcessValue) (why : WorkFault) → IsProcess old
-      → SlicesOnDiskInVain gives takes old fuel why new s t o p → HearsUpTo why
+      → SlicesOnDiskInVain gives takes old fuel why new (ports s o) (ports t p) → HearsUpTo why
   break_hears old new why is slices =
       let fails = slices is.guest is.process is.shows in
       record {
@@ -209,7 +209,8 @@ module _ {S O : Type 0} (gives : Giving S) (takes : Taking O) (fuel : ℕ) (s t 
   -- a worker that had failed asks nothing
   pub slice_hears_up_to : (old new : ProcessValue) (why : WorkFault)
       (has_failed : Bool) → (has_failed ≡ false → IsProcess old)
-      → (has_failed ≡ false → SlicesOnDiskInVain gives takes old fuel why new s t o p)
+      → (has_failed ≡ false → SlicesOnDiskInVain gives takes old fuel why new (ports s o)
+      (ports t p))
       → (has_failed ≡ true → t ≡ s) → HearsUpTo why
   slice_hears_up_to old new why false shows breaks none =
       break_hears old new why (shows refl) (breaks refl)
@@ -219,7 +220,7 @@ module _ {S O : Type 0} (gives : Giving S) (takes : Taking O) (fuel : ℕ) (s t 
   -- so it is of a batch
   pub batch_hears_up_to : (most : ℕ) (old new : ProcessValue) (why : WorkFault)
       (has_failed : Bool) → (has_failed ≡ false → IsProcess old)
-      → (has_failed ≡ false → BatchFails gives takes old fuel why new s t o p)
+      → (has_failed ≡ false → BatchFails gives takes old fuel why new (ports s o) (ports t p))
       → (has_failed ≡ true → t ≡ s)
       → AsksUnless gives (MayRefuse (Batch fuel most) (Err (recover.Worker why))) s t
   batch_hears_up_to most old new why false shows breaks none =

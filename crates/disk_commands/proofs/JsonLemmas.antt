@@ -11,9 +11,8 @@ use Rattle.serde_json.specs.Written.{has_float, items_have_float, members_have_f
 use Rattle.serde_json.specs.View.{items_of}
 use Rattle.disk_commands.specs.rules.Facts.{Scalar, Number, Word, Text, Field, FactValue, Plain}
 use Rattle.disk_commands.specs.rules.Facts.{Tagged, Fields, Fact, Single, Listed, Member, put_all}
-use Rattle.disk_commands.specs.rules.Facts.{list_data, number_data, text_data}
-use Rattle.disk_commands.specs.rules.Facts.{scalar_data, field_member, value_data, fact_member}
-use Rattle.disk_commands.specs.rules.Facts.{facts_data}
+use Rattle.disk_commands.specs.rules.Facts.{list_data, number_data, text_data, scalar_data}
+use Rattle.disk_commands.specs.rules.Facts.{field_member, value_data, fact_member, facts_data}
 
 -- ---- texts
 

@@ -9,7 +9,6 @@ pub mod UpgradingLemmas
 pub mod ReleasedLemmas
 pub mod ShownLemmas
 pub mod OnDiskLemmas
-pub mod CreationLemmas
 pub mod SuccessorLemmas
 mod SucceededLemmas
 pub mod AnsweredLemmas

@@ -1,7 +1,6 @@
 -- From the calls of a worker on its disk to what a run of it says.
-use Rattle.std.proofs.Common.{◌≡◌, ◌≢◌, inl, inr, ℕ, Bool, List, Option, None}
-use Rattle.std.proofs.Common.{Ok, Err}
-use Rattle.std.proofs.Common.{refl, sym, ◌∙◌, subst}
+use Rattle.std.proofs.Common.{◌≡◌, ◌≢◌, inl, inr, ℕ, Bool, List, Option, None, Ok, Err, refl, sym}
+use Rattle.std.proofs.Common.{◌∙◌, subst}
 use Rattle.std.specs.Prelude.{Result, IfOk}
 use Rattle.std.proofs.lemmas.Result.{IfErr-weaker}
 use Rattle.sector_disk.specs.declared.fault.DiskFault.{DiskFault}
@@ -16,32 +15,28 @@ use Rattle.worker.specs.declared.recover_fault.RecoverFault.TheVariants as recov
 use Rattle.worker.specs.rules.DurableValues.{DurableValue}
 use Rattle.worker.specs.rules.Outlets.{HeedsOutlet, IsOutletFault, SaysOutletFault}
 use Rattle.worker.specs.rules.Effects.{RecoversWorker}
-use Rattle.worker.specs.rules.Recoveries.{IsNoWorker, Recovers}
+use Rattle.worker.specs.rules.Recoveries.{IsNoWorker}
+use Rattle.worker.specs.rules.ShownDisks.{Recovers}
 use Rattle.worker.proofs.OutletLemmas.{heeds_on, each_taken}
-use Rattle.worker.specs.rules.OneLife.{recovered, opened, unopened}
+use Rattle.worker.specs.rules.OneLife.{CallsInOrder, recovered, opened, unopened}
 use Rattle.command_words.specs.declared.lines.fault.LineFault.{LineFault}
 use Rattle.command_words.specs.declared.lines.outside.Outside.{Outside}
 use Rattle.command_words.specs.Lines.Answers.{SourceState, source_state}
 use Rattle.command_words.specs.rules.Printers.{PrinterState, IsSaid, TellsPerson}
 use Rattle.command_words.specs.declared.status.Status.{Status}
 use Rattle.disk_commands.specs.declared.on_disk.fault.OnDiskFault.{OnDiskFault}
-use Rattle.worker.specs.rules.Scenes.{scene}
-use Rattle.disk_commands.specs.Livings.{undone_after, AreCalled, LivesAtPace, HasGoneOn}
-use Rattle.disk_commands.specs.Livings.{BreaksOffAt, SaysGone}
+use Rattle.worker.specs.rules.Scenes.{scene, surroundings}
+use Rattle.disk_commands.specs.Livings.{undone_after, LivesAtPace, HasGoneOn, SaysGone}
 use Rattle.disk_commands.specs.rules.BrokenLives.{BreaksOffFrom, steps_among}
-use Rattle.disk_commands.specs.rules.DiskStatuses.{IsReportedOnDisk, opening_fault}
-use Rattle.disk_commands.specs.rules.DiskStatuses.{status_on_disk}
+use Rattle.disk_commands.specs.rules.DiskStatuses.{IsReportedOnDisk, opening_fault, status_on_disk}
 use Rattle.disk_commands.specs.rules.LastWords.{SaysOver, ended_by}
 use Rattle.worker.specs.rules.Outcomes.{outcome_after}
 use Rattle.disk_commands.specs.rules.ServedOnDisk.{DiskJob, act_given, source_behind, handing}
 use Rattle.disk_commands.specs.rules.ServedOnDisk.{IsOnlySynced, IsUnopenedRun, LivesOnDisk}
-use Rattle.disk_commands.specs.rules.ServedOnDisk.{RunStart, RunEnd, ServesOnDisk}
-use Rattle.disk_commands.specs.rules.ServedOnDisk.{recovered_line}
-use Rattle.disk_commands.specs.rules.ServedOnDisk.{unopened as is_unopened}
-use Rattle.disk_commands.specs.rules.ServedOnDisk.{over, broken}
+use Rattle.disk_commands.specs.rules.ServedOnDisk.{RunStart, RunEnd, ServesOnDisk, recovered_line}
+use Rattle.disk_commands.specs.rules.ServedOnDisk.{unopened as is_unopened, over, broken}
 use Rattle.disk_commands.proofs.LivingLemmas.{carried_over}
-use Rattle.disk_commands.proofs.ShownLemmas.{gives_so, asked_so, calls_so, outcome_so}
-use Rattle.disk_commands.proofs.ShownLemmas.{broken_so}
+use Rattle.disk_commands.proofs.ShownLemmas.{gives_so, asked_so, calls_so, outcome_so, broken_so}
 
 -- ---- an open worker
 
@@ -60,24 +55,24 @@ module _ {D S O : Type 0} (medium : D → Medium) (state_of : S
   -- where it has failed, seen by where its source is
   breaks_so : (given : DiskJob) (w : DurableValue) (disk : D) (all : ℕ) (s t : S) (o p : O)
       (why : WorkFault) → state_of s ≡ source_behind given w
-      → BreaksOffAt (gives_so state_of handing takes) takes (act_given given) all
-      (scene w disk s o) why t p → BreaksOffAt handing takes (act_given given) all
+      → BreaksOffFrom (gives_so state_of handing takes) takes (act_given given) all
+      (scene w disk s o) why t p → BreaksOffFrom handing takes (act_given given) all
       (scene w disk (source_behind given w) o) why (state_of t) p
   breaks_so given w disk all s t o p why is breaks =
-      subst (λ (z : SourceState). BreaksOffFrom handing takes w.process (act_given given) all why z
-      (state_of t) o p) is
+      subst (λ (z : SourceState). BreaksOffFrom handing takes (act_given given) all
+      (scene w disk z o) why (state_of t) p) is
       (broken_so state_of handing takes w.process (act_given given) all why s t o p breaks)
 
   -- what was done of a worker, seen by where its source is
   lives_so : (given : DiskJob) (w : DurableValue) (disk last : D) (s t : S) (o p : O)
       (result : Result Now WorkFault) → state_of s ≡ source_behind given w
       → LivesAtPace medium (gives_so state_of handing takes) takes (act_given given) given.every
-      (scene w disk s o) result last t p
+      (scene w disk s o) result (surroundings last t p)
       → LivesAtPace medium handing takes (act_given given) given.every
-      (scene w disk (source_behind given w) o) result last (state_of t) p
+      (scene w disk (source_behind given w) o) result (surroundings last (state_of t) p)
   lives_so given w disk last s t o p result is lives =
-      let calls = calls_so state_of handing takes medium lives.acts w disk last s t o p
-      (undone_after result) lives.done in
+      let calls = calls_so state_of handing takes medium lives.acts (scene w disk s o)
+      (undone_after result) (surroundings last t p) lives.done in
       record {
         acts = lives.acts;
         paced = lives.paced;
@@ -89,18 +84,18 @@ module _ {D S O : Type 0} (medium : D → Medium) (state_of : S
           heard = lives.heard.heard;
         };
         heeded = lives.heeded;
-        done = subst (λ (z : SourceState). AreCalled medium handing takes lives.acts
-            (scene w disk z o) (undone_after result) last (state_of t) p) is calls;
+        done = subst (λ (z : SourceState). CallsInOrder medium handing takes lives.acts
+            (scene w disk z o) (undone_after result) (surroundings last (state_of t) p)) is calls;
         says = subst (λ z. IfOk result (λ told. z ≡ told))
-            (sym (carried_over (λ (z : SourceState). AreCalled medium handing takes lives.acts
-            (scene w disk z o) (undone_after result) last (state_of t) p)
+            (sym (carried_over (λ (z : SourceState). CallsInOrder medium handing takes lives.acts
+            (scene w disk z o) (undone_after result) (surroundings last (state_of t) p))
             (λ z done. outcome_after now.Spent done) (state_of s) (source_behind given w) is calls
-            ∙ outcome_so state_of handing takes medium now.Spent lives.acts w disk last s t o
-            p (undone_after result) lives.done)) lives.says;
+            ∙ outcome_so state_of handing takes medium now.Spent lives.acts (scene w disk s o)
+            (undone_after result) (surroundings last t p) lives.done)) lives.says;
         broken = IfErr-weaker result
-            (λ why. BreaksOffAt (gives_so state_of handing takes) takes (act_given given)
+            (λ why. BreaksOffFrom (gives_so state_of handing takes) takes (act_given given)
             (steps_among lives.acts) (scene w disk s o) why t p)
-            (λ why. BreaksOffAt handing takes (act_given given) (steps_among lives.acts)
+            (λ why. BreaksOffFrom handing takes (act_given given) (steps_among lives.acts)
             (scene w disk (source_behind given w) o) why (state_of t) p)
             (λ why. breaks_so given w disk (steps_among lives.acts) s t o p why is) lives.broken;
       }
@@ -109,18 +104,18 @@ module _ {D S O : Type 0} (medium : D → Medium) (state_of : S
       (is : state_of s ≡ source_behind given w) where
     pub has_gone : (why : Now) → why ≢ now.Spent
         → LivesAtPace medium (gives_so state_of handing takes) takes (act_given given) given.every
-        (scene w disk s o) (Ok why) last t p
-        → HasGoneOn medium takes given w disk last o p (state_of t).failed (state_of t).taken
-        (Ok why)
+        (scene w disk s o) (Ok why) (surroundings last t p)
+        → HasGoneOn medium takes (scene w disk given o) last p (state_of t).failed
+        (state_of t).taken (Ok why)
     has_gone why gone lives =
         (state_of t, gone, refl, refl, lives_so given w disk last s t o p (Ok why) is lives)
 
     pub has_failed : (why : WorkFault) (told : OnDiskFault)
         → IsReportedOnDisk why (state_of t).fault told
         → LivesAtPace medium (gives_so state_of handing takes) takes (act_given given) given.every
-        (scene w disk s o) (Err why) last t p
-        → HasGoneOn medium takes given w disk last o p (state_of t).failed (state_of t).taken
-        (Err told)
+        (scene w disk s o) (Err why) (surroundings last t p)
+        → HasGoneOn medium takes (scene w disk given o) last p (state_of t).failed
+        (state_of t).taken (Err told)
     has_failed why told tells lives = (
       state_of t,
       why,
@@ -171,7 +166,8 @@ module _ {D O : Type 0} (medium : D → Medium) (takes : Taking O) where
       → RecoversWorker medium takes (Ok w) before.disk opening before.outlet p
       → HeedsOutlet takes ⊥ before.outlet p
       → LivesAtPace medium handing takes (act_given before.given) before.given.every
-      (scene w opening (source_behind before.given w) p) result after.disk source' after.outlet
+      (scene w opening (source_behind before.given w) p) result
+      (surroundings after.disk source' after.outlet)
       → LivesOnDisk medium takes (undone_after result) before after source'
   lives_on before after w result opening p source' recovers heeds lives = record {
     worker = w;
@@ -211,8 +207,8 @@ module _ {D O : Type 0} (medium : D → Medium) (takes : Taking O) where
         (heeds : HeedsOutlet takes ⊥ before.outlet p)
         (tells : TellsPerson (recovered_line w) before.err between) (taken : ℕ) where
       abbrev Goes : Result Now OnDiskFault → Type 0
-      Goes result = HasGoneOn medium takes before.given w opening after.disk p after.outlet
-          after.failed taken result
+      Goes result = HasGoneOn medium takes (scene w opening before.given p) after.disk
+          after.outlet after.failed taken result
 
       serves_over : (why : Now) → Goes (Ok why)
           → SaysOver before.err.on_terminal (ended_by why) taken between status after.err → Serves

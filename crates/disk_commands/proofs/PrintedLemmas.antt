@@ -6,7 +6,7 @@ use Rattle.wasi_abi.specs.declared.answer.Answer.{Answer}
 use Rattle.wasi_abi.specs.declared.answer.Question.{Question}
 use Rattle.process_rules.specs.Processes.{ProcessState, Guest}
 use Rattle.record_replay.specs.rules.Calls.{Taking, Exchange, Asks, Released, Releases}
-use Rattle.record_replay.specs.rules.Calls.{releases_of, all_taken}
+use Rattle.record_replay.specs.rules.Calls.{releases_of, all_taken, ports}
 use Rattle.record_replay.proofs.Following.{leads_join as calls_join, releases_of-append}
 use Rattle.record_replay.specs.declared.slices.fault.SliceFault.TheVariants as slice
 use Rattle.record_replay.specs.declared.slices.fault.Refusal.TheVariants as refusal
@@ -19,9 +19,9 @@ use Rattle.worker.specs.rules.Batches.{HasUntakenAnswer, ToldUpTo, IsBatchCause}
 use Rattle.worker.specs.rules.DurableFailures.{IsDiskCause}
 use Rattle.worker.specs.rules.LifeWords.{Act, Slice, Batch, Checkpoint, Upgrade}
 use Rattle.command_words.specs.Lines.Answers.{SourceState}
-use Rattle.disk_commands.specs.rules.BrokenLives.{IsBrokenAt, in_act, in_checkpoint}
-use Rattle.disk_commands.specs.rules.BrokenLives.{BreaksOff}
-use Rattle.disk_commands.specs.rules.BrokenLives.{LeavesNoLine, TellsItsLines}
+use Rattle.disk_commands.specs.rules.BrokenLives.{IsBrokenAt, in_act, in_checkpoint, BreaksOff}
+use Rattle.disk_commands.specs.rules.BrokenLives.{LeavesNoLine, TellsItsLines, stretch}
+use Rattle.disk_commands.specs.rules.BrokenLives.{process_scene}
 use Rattle.disk_commands.specs.rules.ServedOnDisk.{handing}
 
 -- The calls but for the last ones, which tell no line, lead there.
@@ -91,7 +91,7 @@ module _ (guest : Guest) (p : ProcessState) (exchanges : List Exchange) (steps :
 module _ {O : Type 0} (takes : Taking O) (guest : Guest) (p : ProcessState)
     (exchanges : List Exchange) (steps : ℕ) (q : ProcessState) (outlet outlet' : O) where
   told_before : (act : Act) (why : WorkFault) → LeavesNoLine act why
-      → IsBrokenAt takes guest p act exchanges steps q why outlet outlet'
+      → IsBrokenAt takes guest p act (stretch exchanges steps q) why outlet outlet'
       → AllTold guest p exchanges q
   told_before act why none (in_checkpoint said leads answers released) = record {
     front = exchanges;
@@ -123,7 +123,7 @@ module _ {O : Type 0} (takes : Taking O) (guest : Guest) (p : ProcessState)
   batch_released fuel most untaken (work.Upgrade why) none told = absurd none
 
   all_released : (act : Act) (why : WorkFault) → LeavesNoLine act why
-      → IsBrokenAt takes guest p act exchanges steps q why outlet outlet'
+      → IsBrokenAt takes guest p act (stretch exchanges steps q) why outlet outlet'
       → Releases takes outlet (releases_of exchanges) outlet'
   all_released act why none (in_checkpoint said leads answers released) = released
   all_released (Slice fuel) why none (in_act cause told) = told
@@ -164,7 +164,8 @@ module _ (guest : Guest) (p : ProcessState) where
     -- each line was told that was written until a call failed
     pub lines_told : (source source' : SourceState) (outlet outlet' : O) (act : Act) (all : ℕ)
         (why : WorkFault) → LeavesNoLine act why
-        → (b : BreaksOff handing takes guest p source source' outlet outlet' act all why)
+        → (b : BreaksOff handing takes (process_scene guest p source outlet)
+        (ports source' outlet') act all why)
         → TellsItsLines takes p b.process outlet outlet'
     lines_told source source' outlet outlet' act all why none b =
         told_lines (b.front ++ b.back) b.process outlet outlet'

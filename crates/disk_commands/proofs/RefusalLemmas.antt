@@ -15,14 +15,12 @@ use Rattle.command_words.specs.rules.Outside.{ComeFrom, requests_in, words_of}
 use Rattle.command_words.specs.rules.Requests.{GiveUpTo}
 use Rattle.command_words.specs.Lines.Answers.{SourceState, HandsNext, HandsAnswer, LeavesFault}
 use Rattle.command_words.specs.Lines.Answers.{IsRefusedFor}
-use Rattle.command_words.proofs.LineLemmas.Asking.{HasAnswered, answered_nothing}
-use Rattle.command_words.proofs.LineLemmas.Asking.{answered_first}
+use Rattle.command_words.proofs.LineLemmas.Asking.{HasAnswered, answered_nothing, answered_first}
 use Rattle.command_words.proofs.LineLemmas.Asking.{none_left, refused_for, refused_so}
 use Rattle.command_words.proofs.LineLemmas.Passing.{behind_passed}
 use Rattle.disk_commands.specs.laws.Answered.{NoneIsLeftAtTheEnd}
 use Rattle.disk_commands.specs.rules.ServedOnDisk.{handing}
-use Rattle.disk_commands.specs.laws.DiskCauses.{IsRefusedAmong, HasRefused}
-use Rattle.disk_commands.specs.laws.DiskCauses.{RefusalsHaveReasons}
+use Rattle.disk_commands.specs.laws.DiskCauses.{IsRefusedAmong, HasRefused, RefusalsHaveReasons}
 use Rattle.disk_commands.proofs.AnsweredLemmas.{at_end, leaves_some}
 
 -- no request came, and the answers behind that
@@ -206,8 +204,8 @@ reason_of : (s t : SourceState) (asks : List Ask) (why : LineFault)
 reason_of s t asks why r = record {
   question = r.question;
   asked = r.asked;
-  reason = subst (λ f. IsRefusedFor r.question s.outside s.limit (s.place + words_of (handed asks))
-      s.taken s.unread (requests_in (handed asks)) s.failed f why) (sym r.steady)
+  reason = subst (λ f. IsRefusedFor r.question s (s.place + words_of (handed asks))
+      (requests_in (handed asks)) f why) (sym r.steady)
       (refused_for s r.between r.after (handed asks) r.before r.question r.fault why
       r.kept_fault r.hands);
 }

@@ -10,7 +10,7 @@ use Rattle.sector_disk.specs.rules.Open.{IsOpenedAt}
 use Rattle.record_replay.specs.rules.Calls.{Taking}
 use Rattle.command_words.specs.declared.lines.outside.Outside.{Outside}
 use Rattle.command_words.specs.rules.Commands.{RunMeaning}
-use Rattle.command_words.specs.rules.Printers.{PrinterState, read_along}
+use Rattle.command_words.specs.rules.Printers.{PrinterState, printers, read_along}
 use Rattle.command_words.specs.rules.Prints.{printing}
 use Rattle.command_words.specs.declared.status.Status.{Status}
 use Rattle.disk_commands.specs.declared.on_disk.running.RunJob.{RunJob}
@@ -18,11 +18,10 @@ use Rattle.disk_commands.specs.declared.on_disk.upgrading.Upgraded.{Upgraded}
 use Rattle.disk_commands.specs.rules.Openings.{IsOpenedFor}
 use Rattle.disk_commands.specs.rules.Refusals.{HeedsRefusal}
 use Rattle.disk_commands.specs.rules.ServedFiles.{IsJobOf, RunsFile, RunsJob, SaysUpgraded}
-use Rattle.disk_commands.specs.rules.ServedFiles.{ServesToEnd, named_metrics}
-use Rattle.disk_commands.specs.rules.SeedFiles.{SaysSeedless}
-use Rattle.disk_commands.specs.rules.ServedFiles.{seedless}
+use Rattle.disk_commands.specs.rules.ServedFiles.{ServesToEnd, named_metrics, run_input, seedless}
 use Rattle.disk_commands.specs.rules.ServedFiles.{UpgradesFile, job_given, named_status, opened}
-use Rattle.disk_commands.specs.rules.ServedOnDisk.{RunStart, disk_job, run_start}
+use Rattle.disk_commands.specs.rules.SeedFiles.{SaysSeedless}
+use Rattle.disk_commands.specs.rules.ServedOnDisk.{RunStart, disk_job, outputs, run_start}
 use Rattle.disk_commands.specs.rules.Upgradings.{UpgradesOnDisk, status_so_far}
 
 -- a worker that was served on the lines of a reader, of whose status file nothing was said
@@ -33,16 +32,16 @@ pub job_served : {D O : Type 0} (medium : D → Medium) (takes : Taking O)
     → broken ≡ failed → between ≡ err
     → ServesToEnd medium takes (run_start (disk_job (non_zero_u64_get job.pace.fuel)
     (non_zero_u64_get job.pace.every) (non_zero_u64_get job.pace.batch) found outside broken) disk
-    outlet between) disk' outlet' err' status
+    outlet between) disk' (outputs outlet' err') status
     → RunsJob medium takes path metrics (run_start (job_given job lines failed) disk outlet err)
-    disk' outlet' err' status
+    disk' (outputs outlet' err') status
 job_served {D} {O} medium takes path metrics job lines found failed broken outside disk disk' outlet
     outlet' err between err' status of_job of_lines of_failed quiet serves =
     let start : Outside → Option (List ℕ) → Bool → PrinterState → RunStart D O =
     λ o l f e. run_start (disk_job (non_zero_u64_get job.pace.fuel)
     (non_zero_u64_get job.pace.every) (non_zero_u64_get job.pace.batch) l o f) disk outlet e in
     let does : RunStart D O → Type 0 =
-    λ before. ServesToEnd medium takes before disk' outlet' err' status in
+    λ before. ServesToEnd medium takes before disk' (outputs outlet' err') status in
     inr (subst (λ e. does (start job.outside lines failed e)) quiet
     (subst (λ f. does (start job.outside lines f between)) of_failed
     (subst (λ l. does (start job.outside l broken between)) of_lines
@@ -53,16 +52,19 @@ module _ {F O : Type 0} (handles : KnownHandles F) (files : KnownFiles F) (takes
   -- a run before which nothing was said
   pub runs_quietly : (outlet outlet' : O) (err between err' : PrinterState) (status : Status)
       → between ≡ err
-      → RunsFile handles files takes said lines failed outlet outlet' between err' status
-      → RunsFile handles files takes said lines failed outlet outlet' err err' status
+      → RunsFile handles files takes said (run_input lines failed) (outputs outlet between)
+      (outputs outlet' err') status
+      → RunsFile handles files takes said (run_input lines failed) (outputs outlet err)
+      (outputs outlet' err') status
   runs_quietly outlet outlet' err between err' status quiet runs =
-      subst (λ old. RunsFile handles files takes said lines failed outlet outlet' old err' status)
-      quiet runs
+      subst (λ old. RunsFile handles files takes said (run_input lines failed)
+      (outputs outlet old) (outputs outlet' err') status) quiet runs
 
   -- a run without a seed
   pub runs_seedless : (outlet : O) (err err' : PrinterState) (status : Status)
       → SaysSeedless said.seed_file said.seed err status err'
-      → RunsFile handles files takes said lines failed outlet outlet err err' status
+      → RunsFile handles files takes said (run_input lines failed) (outputs outlet err)
+      (outputs outlet err') status
   runs_seedless outlet err err' status says = seedless says refl
 
   -- a run of a disk that was opened, of whose opening nothing was said
@@ -71,18 +73,20 @@ module _ {F O : Type 0} (handles : KnownHandles F) (files : KnownFiles F) (takes
       → IsOpenedFor handles files said.rewrites said.disk disk → IsTrue (files.closed disk')
       → between ≡ read_along said.is_verbose err
       → RunsJob file_medium takes (named_status job) (named_metrics job)
-      (run_start (job_given job lines failed) disk outlet between) disk' outlet' err' status
-      → RunsFile handles files takes said lines failed outlet outlet' err err' status
+      (run_start (job_given job lines failed) disk outlet between) disk' (outputs outlet' err')
+      status
+      → RunsFile handles files takes said (run_input lines failed) (outputs outlet err)
+      (outputs outlet' err') status
   runs_opened disk disk' outlet outlet' err between err' status job is for closed quiet runs =
       let of_path = subst (λ path. RunsJob file_medium takes path (named_metrics job)
-      (run_start (job_given job lines failed) disk outlet between) disk' outlet' err' status)
-      is.status runs in
+      (run_start (job_given job lines failed) disk outlet between) disk' (outputs outlet' err')
+      status) is.status runs in
       let of_both = subst (λ path. RunsJob file_medium takes said.status path
-      (run_start (job_given job lines failed) disk outlet between) disk' outlet' err' status)
-      is.metrics of_path in
+      (run_start (job_given job lines failed) disk outlet between) disk' (outputs outlet' err')
+      status) is.metrics of_path in
       opened job is disk disk' for closed (subst (λ old. RunsJob file_medium takes said.status
-      said.metrics (run_start (job_given job lines failed) disk outlet old) disk' outlet' err'
-      status) quiet of_both)
+      said.metrics (run_start (job_given job lines failed) disk outlet old) disk'
+      (outputs outlet' err') status) quiet of_both)
 
 module _ {F : Type 0} (handles : KnownHandles F) (files : KnownFiles F) (path : List ℕ)
     (disk disk' : FileDisk F) where
@@ -90,10 +94,11 @@ module _ {F : Type 0} (handles : KnownHandles F) (files : KnownFiles F) (path : 
   pub upgrades_opened : (out told out' err opening between err' : PrinterState)
       (status : Status) (upgraded : Result Upgraded Status) → IsOpenedAt handles files path disk
       → IsTrue (files.closed disk') → opening ≡ err
-      → UpgradesOnDisk file_medium printing upgraded disk disk' out told opening between
+      → UpgradesOnDisk file_medium printing upgraded disk disk' (outputs out opening)
+      (outputs told between)
       → HeedsRefusal printing out told between (status_so_far upgraded)
-      → SaysUpgraded upgraded told out' between err' status
-      → UpgradesFile handles files path out out' err err' status
+      → SaysUpgraded upgraded (printers told between) (printers out' err') status
+      → UpgradesFile handles files path (printers out err) (printers out' err') status
   upgrades_opened out told out' err opening between err' status upgraded at closed quiet does
       heeds says = inl (record {
         disk = disk;
@@ -101,10 +106,9 @@ module _ {F : Type 0} (handles : KnownHandles F) (files : KnownFiles F) (path : 
         at = at;
         closed = closed;
         upgraded = upgraded;
-        told = told;
-        between = between;
-        upgrades = subst (λ old. UpgradesOnDisk file_medium printing upgraded disk disk' out told
-            old between) quiet does;
+        between = printers told between;
+        upgrades = subst (λ old. UpgradesOnDisk file_medium printing upgraded disk disk'
+            (outputs out old) (outputs told between)) quiet does;
         heeds = heeds;
         says = says;
       })

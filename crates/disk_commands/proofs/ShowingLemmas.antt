@@ -1,7 +1,5 @@
 -- What is printed of a disk, by its survey.
-use Rattle.std.proofs.Common.{◌≡◌, ◌⊎◌, inl, inr, ◌<◌, refl, sym, ap}
-use Rattle.std.proofs.Common.{◌∙◌}
-use Rattle.std.proofs.Common.{subst}
+use Rattle.std.proofs.Common.{◌≡◌, ◌⊎◌, inl, inr, ◌<◌, refl, sym, ap, ◌∙◌, subst}
 use Rattle.std.specs.Prelude.{Result, Ok, Err, if◌then◌else◌}
 use Rattle.sector_disk.specs.declared.fault.DiskFault.{DiskFault}
 use Rattle.sector_disk.specs.declared.fault.DiskFault.TheVariants as disk
@@ -15,7 +13,7 @@ use Rattle.worker.specs.rules.RecoverFaults.{LayerWantsMemory, wants_memory}
 use Rattle.worker.specs.rules.Recoveries.{SaysNothing}
 use Rattle.worker.proofs.WantLemmas.{wanted_early}
 use Rattle.worker.specs.rules.Surveys.{Surveys, EachSurvey, TellsSurvey, survey_of}
-use Rattle.command_words.specs.rules.Printers.{PrinterState, IsSaid}
+use Rattle.command_words.specs.rules.Printers.{PrinterState, IsSaid, printers}
 use Rattle.command_words.specs.declared.status.Status.{Status}
 use Rattle.command_words.specs.declared.status.Status.TheVariants as exit
 use Rattle.disk_commands.specs.declared.on_disk.fault.OnDiskFault.{OnDiskFault}
@@ -77,14 +75,15 @@ module _ (old new : Medium) where
 
 module _ (old new : Medium) (out out' err err' : PrinterState) (status : Status) where
   pub shows_survey : (survey : Survey) → Surveys (Ok survey) old new
-      → SaysSurvey survey out status out' → err' ≡ err → ShowsDisk old new out out' err err' status
+      → SaysSurvey survey out status out' → err' ≡ err
+      → ShowsDisk old new (printers out err) (printers out' err') status
   shows_survey survey surveys says stays =
       record { result = Ok survey; surveys = surveys; says = (says, stays) }
 
   -- of a fault the output knows nothing
   pub shows_fault : (why : RecoverFault) (told : OnDiskFault) → Surveys (Err why) old new
       → told ≡ opening_fault why → IsSaid (status_on_disk told) err status err' → out' ≡ out
-      → ShowsDisk old new out out' err err' status
+      → ShowsDisk old new (printers out err) (printers out' err') status
   shows_fault why told surveys is said stays = record {
     result = Err why;
     surveys = surveys;
@@ -106,7 +105,7 @@ module _ (old new : Medium) (out out' err err' : PrinterState) (status : Status)
       → TellsSurvey result survey
       → ((fault : DiskFault) → result ≡ Err (recover.Worker (work.Disk fault))
       → old.faults < new.faults)
-      → SaysResult result out out' err err' status
+      → SaysResult result (printers out err) (printers out' err') status
       → ShowsSurvey old new out out' err' status survey
   says_as survey (Ok told) is failed says =
       inl (subst (λ (s : Survey). SaysSurvey s out status out') is says.0)
@@ -115,7 +114,8 @@ module _ (old new : Medium) (out out' err err' : PrinterState) (status : Status)
       (status_of_nothing old new why nothing
       (λ fault is. failed fault (ap (λ e. Err e) is))) says.0
 
-  pub shows_each : ShowsDisk old new out out' err err' status → (image : DiskImage)
+  pub shows_each : ShowsDisk old new (printers out err) (printers out' err') status
+      → (image : DiskImage)
       → new.shows image → EachSurvey old.sectors image (ShowsSurvey old new out out' err' status)
   shows_each shown image shows m config kept n stands room =
       says_as (survey_of stands) shown.result

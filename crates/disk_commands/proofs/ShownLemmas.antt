@@ -6,13 +6,13 @@ use Rattle.record_replay.specs.rules.Calls.{Giving, Taking, Ask, Exchange, Excha
 use Rattle.record_replay.specs.rules.Calls.{AnswersInOrder, asks_of}
 use Rattle.record_replay.specs.declared.slices.now.Now.{Now}
 use Rattle.worker.specs.declared.recover_fault.RecoverFault.{RecoverFault}
-use Rattle.worker.specs.rules.DurableValues.{DurableValue}
 use Rattle.worker.specs.rules.LifeWords.{Act}
 use Rattle.worker.specs.rules.OneLife.{CallsInOrder, no_more, called, call_failed}
 use Rattle.worker.specs.rules.Outcomes.{outcome_after, outcome_of_act}
+use Rattle.worker.specs.rules.Scenes.{Scene, scene, Surroundings, surroundings}
 use Rattle.process.specs.rules.Values.{ProcessValue}
 use Rattle.worker.specs.declared.fault.WorkFault.{WorkFault}
-use Rattle.disk_commands.specs.rules.BrokenLives.{BreaksOffFrom}
+use Rattle.disk_commands.proofs.BreakLemmas.{BreaksBy}
 
 module _ {S T O : Type 0} (state_of : S → T) (gives : Giving T) (takes : Taking O) where
   abbrev pub gives_so : Giving S
@@ -33,8 +33,8 @@ module _ {S T O : Type 0} (state_of : S → T) (gives : Giving T) (takes : Takin
 
   -- a call that has failed
   pub broken_so : (v : ProcessValue) (act : Act) (all : ℕ) (why : WorkFault) (s t : S) (o p : O)
-      → BreaksOffFrom gives_so takes v act all why s t o p
-      → BreaksOffFrom gives takes v act all why (state_of s) (state_of t) o p
+      → BreaksBy gives_so takes v act all why s t o p
+      → BreaksBy gives takes v act all why (state_of s) (state_of t) o p
   broken_so v act all why s t o p breaks guest start is =
       let b = breaks guest start is in
       record {
@@ -55,29 +55,39 @@ module _ {S T O : Type 0} (state_of : S → T) (gives : Giving T) (takes : Takin
       }
 
   module _ {D : Type 0} (medium : D → Medium) where
-    pub calls_so : (acts : List Act) (w : DurableValue) (disk last : D) (s t : S) (o p : O)
-        (undone : Result (List Act) RecoverFault)
-        → CallsInOrder medium gives_so takes acts w disk s o undone last t p
-        → CallsInOrder medium gives takes acts w disk (state_of s) o undone last (state_of t) p
-    calls_so acts w disk last s t o p undone no_more = no_more
-    calls_so acts w disk last s t o p undone
-        (called {acts = others} {w' = w'} {disk' = mid} {source' = u} {outlet' = q} said call
-        more) =
-        called said (call.0, exchanged_so call.0 s u o q call.1, call.2, call.3)
-        (calls_so others w' mid last u t q p undone more)
-    calls_so acts w disk last s t o p undone (call_failed call fails) =
-        call_failed (call.0, exchanged_so call.0 s t o p call.1, call.2, call.3) fails
+    abbrev pub scene_so : Scene D S O → Scene D T O
+    scene_so at = scene at.worker at.disk (state_of at.source) at.outlet
+
+    abbrev pub left_so : Surroundings D S O → Surroundings D T O
+    left_so at = surroundings at.disk (state_of at.source) at.outlet
+
+    pub calls_so : (acts : List Act) (from : Scene D S O) (undone : Result (List Act) RecoverFault)
+        (last : Surroundings D S O) → CallsInOrder medium gives_so takes acts from undone last
+        → CallsInOrder medium gives takes acts (scene_so from) undone (left_so last)
+    calls_so acts from undone last no_more = no_more
+    calls_so acts from undone last (called {acts = others} {after = mid} said call more) =
+        called {after = scene_so mid} said (
+          call.0,
+          exchanged_so call.0 from.source mid.source from.outlet mid.outlet call.1,
+          call.2,
+          call.3,
+        ) (calls_so others mid undone last more)
+    calls_so acts from undone last (call_failed {after = after} call fails) =
+        call_failed {after = scene_so after} (
+          call.0,
+          exchanged_so call.0 from.source after.source from.outlet after.outlet call.1,
+          call.2,
+          call.3,
+        ) fails
 
     -- they say the same
-    pub outcome_so : (before : Now) (acts : List Act) (w : DurableValue) (disk last : D) (s t : S)
-        (o p : O) (undone : Result (List Act) RecoverFault)
-        (calls : CallsInOrder medium gives_so takes acts w disk s o undone last t p)
-        → outcome_after before (calls_so acts w disk last s t o p undone calls)
-        ≡ outcome_after before calls
+    pub outcome_so : (before : Now) (acts : List Act) (from : Scene D S O)
+        (undone : Result (List Act) RecoverFault) (last : Surroundings D S O)
+        (calls : CallsInOrder medium gives_so takes acts from undone last)
+        → outcome_after before (calls_so acts from undone last calls) ≡ outcome_after before calls
     unfolding calls_so
-    outcome_so before acts w disk last s t o p undone no_more = refl
-    outcome_so before acts w disk last s t o p undone
-        (called {act = act} {acts = others} {w' = w'} {disk' = mid} {source' = u} {outlet' = q}
-        said call more) =
-        outcome_so (outcome_of_act act before said) others w' mid last u t q p undone more
-    outcome_so before acts w disk last s t o p undone (call_failed call fails) = refl
+    outcome_so before acts from undone last no_more = refl
+    outcome_so before acts from undone last
+        (called {act = act} {acts = others} {after = mid} said call more) =
+        outcome_so (outcome_of_act act before said) others mid undone last more
+    outcome_so before acts from undone last (call_failed call fails) = refl

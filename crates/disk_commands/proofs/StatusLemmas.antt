@@ -8,8 +8,7 @@ use Rattle.std.proofs.lemmas.List.{length-append}
 use Rattle.wasm_syntax.specs.declared.value.Trap.{Trap}
 use Rattle.wasm_syntax.specs.declared.value.Trap.TheVariants as trap
 use Rattle.process.specs.declared.stop.ProcessEnd.TheVariants as end
-use Rattle.command_words.specs.rules.Texts.{named_number}
-use Rattle.command_words.specs.rules.Texts.{trap_text}
+use Rattle.command_words.specs.rules.Texts.{named_number, trap_text}
 use Rattle.disk_commands.specs.declared.on_disk.sighting.WatchedState.{WatchedState}
 use Rattle.disk_commands.specs.declared.on_disk.sighting.WatchedState.TheVariants as state
 use Rattle.disk_commands.specs.StatusLines.{IsBehindNumber, IsBehindNumbers, IsExitWords}
@@ -19,10 +18,6 @@ use Rattle.disk_commands.specs.rules.Watchings.{HasCodeInRange, IsStatusLine, st
 use Rattle.disk_commands.specs.rules.Watchings.{left_words, state_words, watch_words}
 
 -- ---- words
-
-pub goes_on : (words : List ℕ) → IsOnWords words → IsWatchWords words
-goes_on words (inl is) = (state.Running, tt, is)
-goes_on words (inr is) = (state.Waiting, tt, is)
 
 pub parks : (words : List ℕ) → words ≡ codes "parked\n" → IsWatchWords words
 parks words is = (state.Parked, tt, is)

@@ -1,7 +1,6 @@
 -- What is read of a status line.
-use Rattle.std.proofs.Common.{◌≡◌, ◌≢◌, ◌∙◌, ap, sym, subst, ℕ, ◌<◌, ◌^◌, ◌+◌, ◌-◌, List}
-use Rattle.std.proofs.Common.{[], ◌∷◌, ◌++◌, true, false, length}
-use Rattle.std.proofs.Common.{arith, codes, get_or, lit<}
+use Rattle.std.proofs.Common.{◌≡◌, ◌∙◌, ap, sym, ℕ, ◌<◌, ◌^◌, ◌+◌, ◌-◌, List, [], ◌∷◌, ◌++◌, true}
+use Rattle.std.proofs.Common.{false, length, arith, codes}
 use Rattle.std.specs.Prelude.{Option, Some, None, IfSome, IsSomeAnd, MatchOption, take, drop}
 use Rattle.std.specs.Prelude.{nat_eq}
 use Rattle.std.specs.Borrow.{Bor}
@@ -9,9 +8,6 @@ use Rattle.std.specs.Cmp.Lexicographic.{pointwise, same_text, other_text}
 use Rattle.std.specs.Fmt.{decimal}
 use Rattle.std.proofs.Math.Seq.{take-append_seam, drop-append_seam}
 use Rattle.std.proofs.lemmas.List.{take-append-drop, length-append}
-use Rattle.wasm_syntax.specs.declared.value.Trap.{Trap}
-use Rattle.wasm_syntax.specs.declared.value.Trap.TheVariants as trap
-use Rattle.command_words.specs.rules.Texts.{trap_text}
 use Rattle.disk_commands.specs.StatusLines.{IsBehindNumber, IsBehindNumbers}
 
 -- ---- a front
@@ -115,29 +111,3 @@ numbers_spelled bytes steps answers lines (Some rest) g s a l =
     }
 
 -- ---- traps
-
--- A name that isn't that of any of these eight is no trap's.
-pub no_trap_name : (name : List ℕ) (all : List Trap) (d : Trap)
-    → all ≡ trap.Unreachable ∷ trap.DivideByZero ∷ trap.IntegerOverflow ∷ trap.MemoryOutOfBounds
-    ∷ trap.UndefinedElement ∷ trap.UninitializedElement ∷ trap.IndirectCallTypeMismatch
-    ∷ trap.StackExhausted ∷ []
-    → ((k : ℕ) → k < 8 → trap_text (get_or all k d) ≢ name) → (why : Trap) → name ≡ trap_text why
-    → ⊥
-no_trap_name name all d is none why named =
-    by why (λ k less. subst (λ l. trap_text (get_or l k d) ≢ name) is (none k less)) named
-  where
-    the_list : List Trap
-    the_list = trap.Unreachable ∷ trap.DivideByZero ∷ trap.IntegerOverflow ∷ trap.MemoryOutOfBounds
-        ∷ trap.UndefinedElement ∷ trap.UninitializedElement ∷ trap.IndirectCallTypeMismatch
-        ∷ trap.StackExhausted ∷ []
-
-    by : (why : Trap) → ((k : ℕ) → k < 8 → trap_text (get_or the_list k d) ≢ name)
-        → name ≡ trap_text why → ⊥
-    by trap.Unreachable none named = none 0 (lit< tt) (sym named)
-    by trap.DivideByZero none named = none 1 (lit< tt) (sym named)
-    by trap.IntegerOverflow none named = none 2 (lit< tt) (sym named)
-    by trap.MemoryOutOfBounds none named = none 3 (lit< tt) (sym named)
-    by trap.UndefinedElement none named = none 4 (lit< tt) (sym named)
-    by trap.UninitializedElement none named = none 5 (lit< tt) (sym named)
-    by trap.IndirectCallTypeMismatch none named = none 6 (lit< tt) (sym named)
-    by trap.StackExhausted none named = none 7 (lit< tt) (sym named)

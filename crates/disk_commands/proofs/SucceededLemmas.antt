@@ -1,6 +1,5 @@
 -- What the status of a creation says, whose worker goes on from another one.
-use Rattle.std.proofs.Common.{◌≡◌, ◌⊎◌, ℕ, List, Ok, Err, ap, refl, inl, inr, ⊎_elim}
-use Rattle.std.proofs.Common.{◌∙◌}
+use Rattle.std.proofs.Common.{◌≡◌, ◌⊎◌, ℕ, List, Ok, Err, ap, refl, inl, inr, ⊎_elim, ◌∙◌}
 use Rattle.wasi_abi.specs.rules.Configs.{Settings}
 use Rattle.sector_disk.specs.rules.Medium.{Medium}
 use Rattle.record_replay.specs.declared.slices.fault.Refusal.TheVariants as refusal
@@ -13,14 +12,14 @@ use Rattle.worker.specs.rules.Successions.{IsCreatedFrom, IsNotCreatedFrom, IsRe
 use Rattle.worker.specs.rules.Successions.{SuccessionCalls, SuccessionKeeps}
 use Rattle.worker.proofs.RefusedCreations.{store_lacks_sectors}
 use Rattle.command_words.specs.rules.Preparations.{disk_sectors}
-use Rattle.command_words.specs.rules.Printers.{PrinterState, HeedsBoth, IsSaid}
+use Rattle.command_words.specs.rules.Printers.{PrinterState, HeedsBoth, IsSaid, printers}
 use Rattle.command_words.specs.rules.Reports.{SaysOnOutput}
 use Rattle.command_words.specs.declared.status.Status.{Status}
 use Rattle.command_words.specs.declared.status.Status.TheVariants as exit
 use Rattle.disk_commands.specs.rules.Creations.{HasDiskFailed}
 use Rattle.disk_commands.specs.rules.DiskStatuses.{status_of_call}
-use Rattle.disk_commands.specs.rules.SuccessorDisks.{IsSuccessorRefused, SucceedsOn}
-use Rattle.disk_commands.specs.rules.SuccessorDisks.{handover_text}
+use Rattle.disk_commands.specs.rules.SuccessorDisks.{IsSuccessorRefused, SucceedsOn, handover_text}
+use Rattle.disk_commands.specs.rules.SuccessorDisks.{successor}
 
 module _ {D : Type 0} (medium : D → Medium) (bytes : List ℕ) (config : Settings)
     (left : Handover) (old new : D) where
@@ -29,8 +28,10 @@ module _ {D : Type 0} (medium : D → Medium) (bytes : List ℕ) (config : Setti
       → SuccessionKeeps {E = WorkFault} bytes config left.legacy (Ok tt) (medium old) (medium new)
       → SuccessionCalls {T = Unit {0}} {E = WorkFault} bytes config (Ok tt) (medium old)
       (medium new) → IsCreatedFrom bytes config (medium new)
-      → SaysOnOutput (handover_text (disk_sectors config bytes) left) exit.Done out out' err err'
-      status → SucceedsOn medium bytes config left old new out out' err err' status
+      → SaysOnOutput (handover_text (disk_sectors config bytes) left) exit.Done (printers out err)
+      (printers out' err') status
+      → SucceedsOn medium (successor bytes config left) old new (printers out err)
+      (printers out' err') status
   successor_said out out' err err' status keeps calls created (inl says) =
       let is = says.0 in
       let printed = says.1 in
@@ -98,9 +99,10 @@ module _ {D : Type 0} (medium : D → Medium) (bytes : List ℕ) (config : Setti
   module _ (why : WorkFault) (out err err' : PrinterState) (status : Status)
       (keeps : SuccessionKeeps bytes config left.legacy (Err why) (medium old) (medium new))
       (calls : SuccessionCalls {T = Unit {0}} bytes config (Err why) (medium old) (medium new))
-      (heeded : HeedsBoth out out err err' status) where
+      (heeded : HeedsBoth (printers out err) (printers out err') status) where
     said_so : Refused why ⊎ Failed why ⊎ Starved why → status ≡ status_of_call why
-        → SucceedsOn medium bytes config left old new out out err err' status
+        → SucceedsOn medium (successor bytes config left) old new (printers out err)
+        (printers out err') status
     said_so (inl refused) at =
         let is = at ∙ refused.0 in
         record {
@@ -146,7 +148,8 @@ module _ {D : Type 0} (medium : D → Medium) (bytes : List ℕ) (config : Setti
 
     pub refusal_said : IsNotCreatedFrom bytes config left.legacy (medium old) (medium new) why
         → (IsRefusedBefore why → new ≡ old) → IsSaid (status_of_call why) err status err'
-        → SucceedsOn medium bytes config left old new out out err err' status
+        → SucceedsOn medium (successor bytes config left) old new (printers out err)
+        (printers out err') status
     refusal_said is same (inl told) = said_so (cause_of why is same) told.0
     refusal_said is same (inr told) =
         let seven = told.0 in

@@ -18,20 +18,18 @@ use Rattle.worker.specs.declared.fault.WorkFault.TheVariants as work
 use Rattle.worker.specs.declared.handover.Handover.{Handover}
 use Rattle.worker.specs.declared.leave_fault.LeaveFault.{LeaveFault}
 use Rattle.worker.specs.rules.Successions.{IsNotCreatedFrom, ReadsLegacy}
-use Rattle.command_words.specs.declared.preparing.Prepared.{Prepared}
-use Rattle.command_words.specs.rules.Printers.{PrinterState, HeedsBoth, IsPrinted, IsSaid, SaysText}
+use Rattle.command_words.specs.rules.Printers.{PrinterState, HeedsBoth, IsPrinted, IsSaid, printers}
 use Rattle.command_words.specs.rules.Reports.{SaysLine}
 use Rattle.command_words.specs.declared.status.Status.{Status}
 use Rattle.command_words.specs.declared.status.Status.TheVariants as exit
 use Rattle.command_words.proofs.LineLemmas.Printed.{prints_both}
-use Rattle.command_words.proofs.PrinterLemmas.{heeds_out, heeds_err}
+use Rattle.command_words.proofs.PrinterLemmas.{heeds_err}
 use Rattle.disk_commands.specs.declared.on_disk.fault.OnDiskFault.{OnDiskFault}
-use Rattle.disk_commands.specs.rules.Creations.{created_line}
+use Rattle.disk_commands.specs.rules.Creations.{NewDiskValue, created_line}
 use Rattle.disk_commands.specs.rules.DiskStatuses.{status_of_call, status_on_disk, call_fault}
 use Rattle.disk_commands.specs.rules.SuccessorDisks.{MakesSuccessor, SucceedsDisk, crowded_words}
 use Rattle.disk_commands.specs.rules.SuccessorDisks.{dropped_line, goes_on_line, restless_words}
-use Rattle.disk_commands.specs.rules.SuccessorDisks.{successor_text}
-use Rattle.disk_commands.specs.rules.SuccessorDisks.{units_for}
+use Rattle.disk_commands.specs.rules.SuccessorDisks.{succession_of, successor_text, units_for}
 use Rattle.disk_commands.specs.SuccessorDisks.{IsTakenOver, SucceedsOpened, TakesLegacy}
 
 module _ (bytes : List ℕ) (config : Settings) (left : LegacyValue) (old new : Medium) where
@@ -50,61 +48,57 @@ module _ (bytes : List ℕ) (config : Settings) (left : LegacyValue) (old new : 
   pub unsucceeded_heeded : (why : WorkFault) → IsNotCreatedFrom bytes config left old new why
       → (told : OnDiskFault) → told ≡ call_fault why → (out err : PrinterState) (status : Status)
       (err' : PrinterState) → IsSaid (status_on_disk told) err status err'
-      → HeedsBoth out out err err' status
+      → HeedsBoth (printers out err) (printers out err') status
   unsucceeded_heeded why refused told tells out err status err' says =
       heeds_err (status_of_call why) err status err' out (none_released why refused)
       (subst (λ (t : OnDiskFault). IsSaid (status_on_disk t) err status err') tells says)
 
-pub succeeded_heeded : (sectors requests lines dropped : ℕ) (out : PrinterState) (status : Status)
-    (out' err : PrinterState)
-    → SaysText (successor_text sectors requests lines dropped) exit.Done out status out'
-    → HeedsBoth out out' err err status
-succeeded_heeded sectors requests lines dropped out status out' err says =
-    heeds_out exit.Done out status out' (successor_text sectors requests lines dropped) err
-    (λ is. cc) says
-
 module _ {F : Type 0} (handles : KnownHandles F) (files : KnownFiles F) (from : List ℕ)
-    (on_device : Bool) (path bytes : List ℕ) (prepared : Prepared) (old new : FileDisk F) where
+    (on_device : Bool) (made : NewDiskValue) (old new : FileDisk F) where
+  abbrev Opened : PrinterState → PrinterState → PrinterState → PrinterState → Status → Type 0
+  Opened out out' err err' status =
+      SucceedsOpened handles files (succession_of from on_device made) old new (printers out err)
+      (printers out' err') status
+
   -- what was left was taken over, and a worker goes on from it
   pub succeeds_taken : (left : Handover) (out out' err between err' : PrinterState)
       (status : Status)
-      → IsTakenOver from prepared.config (file_medium old) (file_medium new) err (Ok left) between
-      → MakesSuccessor handles files on_device path bytes prepared left out out' between err' status
-      → SucceedsOpened handles files from on_device path bytes prepared old new out out' err err'
-      status
+      → IsTakenOver from made.prepared.config (file_medium old) (file_medium new) err (Ok left)
+      between
+      → MakesSuccessor handles files on_device made left (printers out between)
+      (printers out' err') status
+      → Opened out out' err err' status
   succeeds_taken left out out' err between err' status taken makes =
       go taken.left taken.reads taken.takes
     where
       go : (read : Result Handover LeaveFault)
           → ReadsLegacy read (file_medium old) (file_medium new)
-          → TakesLegacy from prepared.config read err (Ok left) between
-          → SucceedsOpened handles files from on_device path bytes prepared old new out out' err
-          err' status
+          → TakesLegacy from made.prepared.config read err (Ok left) between
+          → Opened out out' err err' status
       go (Err why) reads takes = absurd takes
       go (Ok was) reads takes = record {
         left = Ok was;
         reads = reads;
         goes_on = inr (
           takes.1,
-          subst (λ (l : Handover). MakesSuccessor handles files on_device path bytes prepared l out
-              out' err err' status) takes.0
-              (subst (λ (e : PrinterState). MakesSuccessor handles files on_device path bytes
-              prepared left out out' e err' status) takes.2 makes),
+          subst (λ (l : Handover). MakesSuccessor handles files on_device made l
+              (printers out err) (printers out' err') status) takes.0
+              (subst (λ (e : PrinterState). MakesSuccessor handles files on_device made left
+              (printers out e) (printers out' err') status) takes.2 makes),
         );
       }
 
   -- nothing was left, or it doesn't fit
   pub succeeds_none : (out err err' : PrinterState) (status : Status)
-      → IsTakenOver from prepared.config (file_medium old) (file_medium new) err (Err status) err'
-      → SucceedsOpened handles files from on_device path bytes prepared old new out out err err'
-      status
+      → IsTakenOver from made.prepared.config (file_medium old) (file_medium new) err (Err status)
+      err'
+      → Opened out out err err' status
   succeeds_none out err err' status taken = go taken.left taken.reads taken.takes
     where
       go : (read : Result Handover LeaveFault)
           → ReadsLegacy read (file_medium old) (file_medium new)
-          → TakesLegacy from prepared.config read err (Err status) err'
-          → SucceedsOpened handles files from on_device path bytes prepared old new out out err err'
-          status
+          → TakesLegacy from made.prepared.config read err (Err status) err'
+          → Opened out out err err' status
       go (Err why) reads takes = record {
         left = Err why;
         reads = reads;
@@ -119,12 +113,11 @@ module _ {F : Type 0} (handles : KnownHandles F) (files : KnownFiles F) (from : 
   -- the old disk was opened, without a word
   pub succeeds_on_opened : (out out' err between err' : PrinterState) (status : Status)
       → IsOpenedAt handles files from old → IsTrue (files.closed new) → between ≡ err
-      → SucceedsOpened handles files from on_device path bytes prepared old new out out' between
-      err' status
-      → SucceedsDisk handles files from on_device path bytes prepared out out' err err' status
+      → Opened out out' between err' status
+      → SucceedsDisk handles files (succession_of from on_device made) (printers out err)
+      (printers out' err') status
   succeeds_on_opened out out' err between err' status opened closed quiet succeeds =
-      let here = subst (λ (e : PrinterState). SucceedsOpened handles files from on_device path
-      bytes prepared old new out out' e err' status) quiet succeeds in
+      let here = subst (λ (e : PrinterState). Opened out out' e err' status) quiet succeeds in
       inr (record {
         old = old;
         old' = new;

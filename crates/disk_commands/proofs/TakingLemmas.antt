@@ -1,7 +1,6 @@
 -- Which lines of slices were taken, and which of them was refused.
-use Rattle.std.proofs.Common.{◌≡◌, inl, inr, ⊎_elim, ℕ, suc, Bool, true, false, List, [], ◌∷◌}
-use Rattle.std.proofs.Common.{◌++◌, length, None, Some, Err, refl, sym, ap, ◌∙◌, subst}
-use Rattle.std.proofs.Common.{append-nil}
+use Rattle.std.proofs.Common.{◌≡◌, inl, inr, ⊎_elim, ℕ, suc, Bool, true, false, List, [], ◌∷◌, ◌++◌}
+use Rattle.std.proofs.Common.{length, None, Some, Err, refl, sym, ap, ◌∙◌, subst, append-nil}
 use Rattle.std.specs.Prelude.{map, Option, Result}
 use Rattle.std.specs.List.{AllByRecursion}
 use Rattle.wasi_abi.specs.declared.answer.Answer.{Answer}
@@ -10,7 +9,7 @@ use Rattle.process_rules.specs.Processes.{ProcessState, Guest}
 use Rattle.process.specs.rules.Values.{ProcessValue, IsProcess}
 use Rattle.sector_disk.specs.rules.Medium.{Medium}
 use Rattle.record_replay.specs.rules.Calls.{Giving, Taking, Begun, Exchange, Asks, Tells, Released}
-use Rattle.record_replay.specs.rules.Calls.{Releases, releases_of, all_taken, last_refused}
+use Rattle.record_replay.specs.rules.Calls.{Releases, releases_of, all_taken, last_refused, ports}
 use Rattle.record_replay.proofs.Following.{leads_before, leads_split, releases_of-append}
 use Rattle.record_replay.specs.declared.slices.fault.SliceFault.TheVariants as slice
 use Rattle.record_replay.specs.declared.slices.fault.Refusal.TheVariants as refusal
@@ -22,18 +21,14 @@ use Rattle.worker.specs.declared.fault.WorkFault.{WorkFault}
 use Rattle.worker.specs.declared.fault.WorkFault.TheVariants as work
 use Rattle.worker.specs.declared.recover_fault.RecoverFault.TheVariants as recover
 use Rattle.record_replay.specs.declared.line_list.NumberedLine.{NumberedLine}
-use Rattle.worker.specs.rules.Batches.{BatchFails, HasUntakenAnswer, TellsFront, ToldUpTo}
-use Rattle.worker.specs.rules.Batches.{taking}
-use Rattle.worker.proofs.StopLemmas.{store_tells_front}
+use Rattle.worker.specs.rules.Batches.{BatchFails, HasUntakenAnswer, TellsFront, ToldUpTo, taking}
+use Rattle.worker.proofs.StopLemmas.{store_tells_front, stops_at_store}
 use Rattle.worker.specs.rules.Checkpoints.{HasCheckpointCause}
 use Rattle.worker.specs.rules.DurableFailures.{SlicesOnDiskInVain, IsDiskCause}
 use Rattle.worker.specs.rules.DurableFailures.{StopsAtDisk, StopsAtStore}
 use Rattle.worker.specs.rules.DurableValues.{DurableValue}
-use Rattle.worker.specs.rules.Outlets.{TakesEach, RefusesLast, HeedsOutlet, IsOutletFault}
-use Rattle.worker.specs.rules.Outlets.{WasTaken}
-use Rattle.worker.proofs.OutletLemmas.{none_told, refuses_then, lines_taken}
-use Rattle.worker.proofs.OutletLemmas.{last_is_refused}
-use Rattle.worker.proofs.StopLemmas.{stops_at_store}
+use Rattle.worker.specs.rules.Outlets.{TakesEach, RefusesLast, HeedsOutlet, IsOutletFault, WasTaken}
+use Rattle.worker.proofs.OutletLemmas.{none_told, refuses_then, lines_taken, last_is_refused}
 use Rattle.disk_commands.proofs.BreakLemmas.{same_fault}
 use Rattle.disk_commands.proofs.ToldLemmas.{AllTaken, releases_told, taken_then, by_leads, up_to}
 use Rattle.disk_commands.proofs.ToldLemmas.{emits, at_disk, at_store}
@@ -111,7 +106,7 @@ module _ {O : Type 0} (takes : Taking O) where
 module _ {S O : Type 0} (gives : Giving S) (takes : Taking O) (fuel : ℕ) (s t : S) (o p : O) where
   pub slice_takes : (old new : WorkerValue) (why : Now)
       → (old.failed ≡ false → IsProcess old.process)
-      → Slices gives takes old fuel why new s t o p → TakesEach takes o p
+      → Slices gives takes old fuel why new (ports s o) (ports t p) → TakesEach takes o p
   slice_takes old new why shows slices =
       let is = shows slices.had_not_failed in
       let works = slices.shown is.guest is.process is.shows in
@@ -122,7 +117,8 @@ module _ {S O : Type 0} (gives : Giving S) (takes : Taking O) (fuel : ℕ) (s t 
   -- a slice that fails, of a worker that had failed or not
   pub slice_heeds : (old new : ProcessValue) (why : WorkFault) (has_failed : Bool)
       → (has_failed ≡ false → IsProcess old)
-      → (has_failed ≡ false → SlicesOnDiskInVain gives takes old fuel why new s t o p)
+      → (has_failed ≡ false → SlicesOnDiskInVain gives takes old fuel why new (ports s o)
+      (ports t p))
       → (has_failed ≡ true
       → ◌≡◌ {A = Result Now WorkFault} (Err why) (Err (work.Work slice.Failed)))
       → (has_failed ≡ true → p ≡ o) → HeedsOutlet takes (IsOutletsCall why) o p
@@ -212,7 +208,7 @@ module _ {O : Type 0} (takes : Taking O) (told : List NumberedLine) (o p : O) wh
 module _ {S O : Type 0} (gives : Giving S) (takes : Taking O) (fuel : ℕ) (s t : S) (o p : O) where
   pub batch_heeds : (old new : ProcessValue) (why : WorkFault) (has_failed : Bool)
       → (has_failed ≡ false → IsProcess old)
-      → (has_failed ≡ false → BatchFails gives takes old fuel why new s t o p)
+      → (has_failed ≡ false → BatchFails gives takes old fuel why new (ports s o) (ports t p))
       → (has_failed ≡ true
       → ◌≡◌ {A = Result Now WorkFault} (Err why) (Err (work.Work slice.Failed)))
       → (has_failed ≡ true → p ≡ o) → HeedsOutlet takes (IsOutletsCall why) o p

@@ -8,8 +8,7 @@ use Rattle.wasi_calls_rules.specs.WasiStates.{Line}
 use Rattle.process_rules.specs.Processes.{ProcessState, Guest}
 use Rattle.record_replay.specs.declared.line_list.NumberedLine.{NumberedLine}
 use Rattle.record_replay.specs.rules.Calls.{Ask, Begun, Exchange, Asks, Tells, Releases}
-use Rattle.record_replay.specs.rules.Calls.{releases_of}
-use Rattle.record_replay.specs.rules.Calls.{all_taken}
+use Rattle.record_replay.specs.rules.Calls.{releases_of, all_taken}
 use Rattle.record_replay.specs.rules.Lists.{numbered}
 use Rattle.record_replay.proofs.Following.{releases_of-append}
 use Rattle.record_replay.specs.declared.slices.fault.SliceFault.TheVariants as slice

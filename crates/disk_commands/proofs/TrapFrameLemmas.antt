@@ -132,7 +132,3 @@ no_frames old new same = (
   },
   prints_nothing old new same,
 )
-
-pub untold : (how : Option Ending) (old new : PrinterState) → new ≡ old
-    → TellsFrames how [] → (text : List ℕ) × TellsFrames how text × IsPrinted old new text
-untold how old new same none = ([], none, prints_nothing old new same)

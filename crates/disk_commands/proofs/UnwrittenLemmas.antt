@@ -26,15 +26,13 @@ use Rattle.command_words.specs.declared.status.Status.TheVariants as exit
 use Rattle.disk_commands.specs.declared.on_disk.fault.OnDiskFault.{OnDiskFault}
 use Rattle.disk_commands.specs.declared.on_disk.upgrading.Upgraded.{Upgraded}
 use Rattle.disk_commands.specs.declared.on_disk.upgrading.Upgraded.TheVariants as upgraded
-use Rattle.disk_commands.specs.rules.DiskStatuses.{IsReportedOnDisk, opening_fault}
-use Rattle.disk_commands.specs.rules.DiskStatuses.{status_on_disk}
+use Rattle.disk_commands.specs.rules.DiskStatuses.{IsReportedOnDisk, opening_fault, status_on_disk}
 use Rattle.disk_commands.specs.rules.DiskStatuses.{status_of_call}
 use Rattle.disk_commands.specs.rules.LastWords.{ended_by}
 use Rattle.disk_commands.specs.laws.Released.{UnwrittenIsAFailedWrite}
 use Rattle.disk_commands.specs.rules.Refusals.{HeedsRefusal}
-use Rattle.disk_commands.specs.rules.ServedOnDisk.{RunStart, RunEnd, ServesOnDisk}
-use Rattle.disk_commands.specs.rules.ServedOnDisk.{over, broken}
-use Rattle.disk_commands.specs.rules.ServedOnDisk.{unopened as is_unopened}
+use Rattle.disk_commands.specs.rules.ServedOnDisk.{RunStart, RunEnd, ServesOnDisk, over, broken}
+use Rattle.disk_commands.specs.rules.ServedOnDisk.{unopened as is_unopened, outputs}
 use Rattle.disk_commands.specs.rules.Upgradings.{UpgradesOnDisk, status_so_far}
 use Rattle.disk_commands.proofs.TrapFrameLemmas.{over_is_said}
 
@@ -150,7 +148,7 @@ module _ {D O : Type 0} (medium : D → Medium) (takes : Taking O) (before : Run
 -- so is an upgrade
 pub heeds_in_upgrade : {D O : Type 0} (medium : D → Medium) (takes : Taking O) (found last : D)
     (o o' : O) (err err' : PrinterState) (result : Result Upgraded Status)
-    → UpgradesOnDisk medium takes result found last o o' err err'
+    → UpgradesOnDisk medium takes result found last (outputs o err) (outputs o' err')
     → HeedsRefusal takes o o' err' (status_so_far result)
 heeds_in_upgrade medium takes found last o o' err err' (Ok upgraded.Now) does =
     inl (each_taken takes ⊥ o o' (λ told. told) does.0.heeded, λ e. absurd cc)

@@ -8,7 +8,7 @@ use Rattle.wasi_calls.specs.rules.Held.{HeldWasiState}
 use Rattle.process.specs.rules.Values.{ProcessValue, IsProcess}
 use Rattle.sector_disk.specs.rules.Medium.{Medium}
 use Rattle.disk_layout.specs.rules.Places.{total_sectors}
-use Rattle.record_replay.specs.rules.Calls.{Giving, Taking}
+use Rattle.record_replay.specs.rules.Calls.{Giving, Taking, ports}
 use Rattle.record_replay.specs.declared.slices.now.Now.{Now}
 use Rattle.record_replay.specs.declared.slices.now.Now.TheVariants as now
 use Rattle.record_replay.specs.declared.slices.fault.SliceFault.TheVariants as slice
@@ -24,23 +24,23 @@ use Rattle.worker.specs.rules.LifeWords.{Slice, Upgrade}
 use Rattle.worker.specs.rules.Outlets.{TakesEach, HeedsOutlet, IsOutletFault, SaysOutletFault}
 use Rattle.worker.specs.rules.Effects.{RecoversWorker}
 use Rattle.worker.specs.rules.Upgrades.{UpgradeFails, HasUpgradeCause, IsNotCaughtUp}
-use Rattle.worker.specs.rules.OneLife.{no_more, called, call_failed}
+use Rattle.worker.specs.rules.OneLife.{CallsInOrder, no_more, called, call_failed}
 use Rattle.worker.specs.rules.OneLife.{recovered, opened}
 use Rattle.worker.specs.rules.Outcomes.{outcome_after}
 use Rattle.worker.proofs.OutletLemmas.{takes_both, heeds_on, each_taken}
 use Rattle.command_words.specs.rules.Printers.{PrinterState, IsSaid, TellsPerson}
 use Rattle.command_words.specs.declared.status.Status.{Status}
-use Rattle.worker.specs.rules.Scenes.{Scene, scene}
-use Rattle.disk_commands.specs.Livings.{AreCalled, HasDoneOnce}
+use Rattle.worker.specs.rules.Scenes.{Scene, scene, ports_of, surroundings_of}
+use Rattle.disk_commands.specs.Livings.{HasDoneOnce}
 use Rattle.disk_commands.specs.ComingUp.{ComesUp, EndsRun, IsUpgradedFrom, UpgradesOpen}
 use Rattle.disk_commands.specs.declared.on_disk.fault.OnDiskFault.{OnDiskFault}
 use Rattle.disk_commands.specs.declared.on_disk.upgrading.Upgraded.{Upgraded}
 use Rattle.disk_commands.specs.declared.on_disk.upgrading.Upgraded.TheVariants as upgraded
 use Rattle.disk_commands.specs.rules.BrokenLives.{BreaksInSlice, BreaksInSliceFrom, steps_among}
-use Rattle.disk_commands.specs.rules.DiskStatuses.{opening_fault, call_fault}
-use Rattle.disk_commands.specs.rules.DiskStatuses.{status_on_disk}
+use Rattle.disk_commands.specs.rules.BrokenLives.{process_scene}
+use Rattle.disk_commands.specs.rules.DiskStatuses.{opening_fault, call_fault, status_on_disk}
 use Rattle.disk_commands.specs.rules.Hearings.{AsksUnless, IsOfSource}
-use Rattle.disk_commands.specs.rules.ServedOnDisk.{recovered_line}
+use Rattle.disk_commands.specs.rules.ServedOnDisk.{outputs, recovered_line}
 use Rattle.disk_commands.specs.rules.Upgradings.{LivesToUpgrade, UpgradesOnDisk, from_list}
 use Rattle.disk_commands.specs.rules.Upgradings.{IsOfUpgrade, IsOfCaughtUp, undone_then}
 use Rattle.disk_commands.proofs.BreakLemmas.{act_more, breaks_in_join}
@@ -116,7 +116,7 @@ module _ {D S O : Type 0} (medium : D → Medium) (gives : Giving S) (takes : Ta
     -- what a slice does, where it has no error
     abbrev Sliced : Now → Type 0
     Sliced said = Slices gives takes (without_disk here.worker) fuel said (without_disk w')
-        here.source source' here.outlet outlet'
+        (ports_of here) (ports source' outlet')
 
     -- until a call has failed it shows a process
     abbrev Shows : Type 0
@@ -184,8 +184,7 @@ module _ {D S O : Type 0} (medium : D → Medium) (gives : Giving S) (takes : Ta
     pub come_broken : (why : WorkFault) → Slicing (Err why)
         → AsksUnless gives (IsOfSource (Err (recover.Worker why))) here.source source'
         → HeedsOutlet takes (IsOutletsCall why) here.outlet outlet'
-        → BreaksInSliceFrom gives takes here.worker.process fuel fuel why here.source source'
-        here.outlet outlet'
+        → BreaksInSliceFrom gives takes fuel fuel here why source' outlet'
         → HasSliceCause here.worker (medium here.disk) (medium disk') why
         → ComesUp medium gives takes fuel from (Err why) (scene w' disk' source' outlet')
     come_broken why carries heard heeded breaks cause = record {
@@ -196,18 +195,18 @@ module _ {D S O : Type 0} (medium : D → Medium) (gives : Giving S) (takes : Ta
           heeded;
       breaks = λ guest p is.
           let first = so_many.lead guest p is in
-          subst (λ k. BreaksInSlice gives takes guest p from.source source' from.outlet outlet'
-          fuel k why) (sym (act_more (Slice fuel) so_far.count))
+          subst (λ k. BreaksInSlice gives takes (process_scene guest p from.source from.outlet)
+          (ports source' outlet') fuel k why) (sym (act_more (Slice fuel) so_far.count))
           (breaks_in_join gives takes guest p from.source here.source source' from.outlet
           here.outlet outlet' (steps_among (replicate so_far.count (Slice fuel)))
           here.worker.process first fuel fuel why (breaks guest first.process first.shows));
       done = λ rest.
-          called_as medium gives takes from (Err (recover.Worker why)) disk' source' outlet'
+          called_as medium gives takes from (Err (recover.Worker why)) (surroundings_of reached)
           (replicate so_far.count (Slice fuel) ++ (Slice fuel ∷ rest))
           (replicate (so_far.count + 1) (Slice fuel) ++ rest)
           (turned so_far.count (Slice fuel) rest)
-          (so_many.leads.behind (Slice fuel ∷ rest) (Err (recover.Worker why)) disk' source'
-          outlet' (call_failed carries tt));
+          (so_many.leads.behind (Slice fuel ∷ rest) (Err (recover.Worker why))
+          (surroundings_of reached) (call_failed {after = reached} carries tt));
       caught_up = of_slice here.worker (medium here.disk) (medium disk') why cause;
     }
 
@@ -216,28 +215,31 @@ module _ {D S O : Type 0} (medium : D → Medium) (gives : Giving S) (takes : Ta
   module _ (from to : Scene D S O) (said : Now)
       (comes : ComesUp medium gives takes 100000 from (Ok said) to) (over : said ≢ now.Spent)
       (w' : DurableValue) (disk' : D) where
+    abbrev upgraded_to : Scene D S O
+    upgraded_to = scene w' disk' to.source to.outlet
+
     -- it, or its error, and nothing after it
     abbrev Last : Result (Unit {0}) WorkFault → Type 0
-    Last result = AreCalled medium gives takes (Upgrade ∷ []) to (undone_then result)
-        disk' to.source to.outlet
+    Last result = CallsInOrder medium gives takes (Upgrade ∷ []) to (undone_then result)
+        (surroundings_of upgraded_to)
 
     abbrev after_slices : (result : Result (Unit {0}) WorkFault) → Last result
-        → AreCalled medium gives takes (replicate comes.count (Slice 100000) ++ (Upgrade ∷ [])) from
-        (undone_then result) disk' to.source to.outlet
+        → CallsInOrder medium gives takes (replicate comes.count (Slice 100000) ++ (Upgrade ∷ []))
+        from (undone_then result) (surroundings_of upgraded_to)
     after_slices result last =
-        comes.leads.behind (Upgrade ∷ []) (undone_then result) disk' to.source to.outlet last
+        comes.leads.behind (Upgrade ∷ []) (undone_then result) (surroundings_of upgraded_to) last
 
     -- it doesn't change what the slices have answered
     run_on : (result : Result (Unit {0}) WorkFault) (last : Last result)
         → outcome_after said last ≡ said
         → outcome_after now.Spent (after_slices result last) ≢ now.Spent
     run_on result last same = λ spent.
-        over (sym (comes.leads.says (Upgrade ∷ []) (undone_then result) disk' to.source
-        to.outlet last ∙ same) ∙ spent)
+        over (sym (comes.leads.says (Upgrade ∷ []) (undone_then result)
+        (surroundings_of upgraded_to) last ∙ same) ∙ spent)
 
     ended : (result : Result (Unit {0}) WorkFault) (last : Last result)
         → (SaysOutletFault (undone_then result) → ⊥)
-        → EndsRun medium gives takes from result comes.count to.source to.outlet
+        → EndsRun medium gives takes from result comes.count (ports_of to)
         (outcome_after now.Spent (after_slices result last))
         → IfErr result IsOfCaughtUp
         → IsUpgradedFrom medium gives takes from result disk' to.outlet
@@ -255,7 +257,7 @@ module _ {D S O : Type 0} (medium : D → Medium) (gives : Giving S) (takes : Ta
     keeps_so : (result : Result (Unit {0}) WorkFault)
         → ActCarries Upgrade [] to.worker result w' (medium to.disk) (medium disk')
         → CallKeeps medium gives takes Upgrade
-        (scene to.worker to.disk to.source to.outlet) result (scene w' disk' to.source to.outlet)
+        (scene to.worker to.disk to.source to.outlet) result upgraded_to
     keeps_so result carries = ([], record { asked = refl; released = refl }, carries, refl)
 
     pub then_ended : (result : Result (Unit {0}) WorkFault) (outlet' : O) → outlet' ≡ to.outlet
@@ -264,14 +266,20 @@ module _ {D S O : Type 0} (medium : D → Medium) (gives : Giving S) (takes : Ta
         → IfErr result (HasUpgradeCause to.worker (medium to.disk) (medium disk'))
         → IsUpgradedFrom medium gives takes from result disk' outlet'
     then_ended (Ok done) outlet' quiet carries fails cause =
-        rw quiet (ended (Ok done) (called done (keeps_so (Ok done) carries) no_more) (λ told. told)
-        (run_on (Ok done) (called done (keeps_so (Ok done) carries) no_more) refl) tt)
+        rw quiet (ended (Ok done)
+        (called {after = upgraded_to} done (keeps_so (Ok done) carries) no_more) (λ told. told)
+        (run_on (Ok done) (called {after = upgraded_to} done (keeps_so (Ok done) carries) no_more)
+        refl) tt)
     then_ended (Err why) outlet' quiet carries fails cause =
         let is : IsOfUpgrade why =
         of_upgrade to.worker (medium to.disk) (medium disk') why comes.unfailed cause in
-        rw quiet (ended (Err why) (call_failed (keeps_so (Err why) carries) fails)
-        (upgrade_is_other why is)
-        (inr (is, run_on (Err why) (call_failed (keeps_so (Err why) carries) fails) refl))
+        rw quiet (ended (Err why)
+        (call_failed {after = upgraded_to} (keeps_so (Err why) carries) fails)
+        (upgrade_is_other why is) (inr (
+          is,
+          run_on (Err why) (call_failed {after = upgraded_to} (keeps_so (Err why) carries) fails)
+              refl,
+        ))
         (of_caught_up to.worker (medium to.disk) (medium disk') why (comes.abreast over) cause))
 
   pub not_come : (from to : Scene D S O) (why : WorkFault)
@@ -319,7 +327,7 @@ module _ {D O : Type 0} (medium : D → Medium) (takes : Taking O) where
       → RecoversWorker medium takes (Err why) found last o q
       → HeedsOutlet takes (IsOutletFault why) o q → told ≡ opening_fault why
       → IsSaid (status_on_disk told) err status err'
-      → UpgradesOnDisk medium takes (Err status) found last o q err err'
+      → UpgradesOnDisk medium takes (Err status) found last (outputs o err) (outputs q err')
   none_upgraded why told found last o q err err' status recovers heeds tells says =
       inl (
         why,
@@ -331,7 +339,8 @@ module _ {D O : Type 0} (medium : D → Medium) (takes : Taking O) where
   was_of_two : (w : DurableValue) (found last : D) (o p : O) (err err' : PrinterState)
       → RecoversWorker medium takes (Ok w) found last o p → HeedsOutlet takes ⊥ o p
       → w.process.host.host.version ≡ Two → TellsPerson (recovered_line w) err err'
-      → UpgradesOnDisk medium takes (Ok upgraded.Before) found last o p err err'
+      → UpgradesOnDisk medium takes (Ok upgraded.Before) found last (outputs o err)
+      (outputs p err')
   was_of_two w found last o p err err' recovers heeds version tells = (
     record {
       worker = w;
@@ -348,7 +357,8 @@ module _ {D O : Type 0} (medium : D → Medium) (takes : Taking O) where
       (heeds : HeedsOutlet takes ⊥ o p) (narrow : w.process.host.host.version ≡ One)
       (tells : TellsPerson (recovered_line w) err between) where
     is_upgraded : IsUpgradedFrom medium from_list takes (scene w opening [] p) (Ok tt) last q
-        → UpgradesOnDisk medium takes (Ok upgraded.Now) found last o q err between
+        → UpgradesOnDisk medium takes (Ok upgraded.Now) found last (outputs o err)
+        (outputs q between)
     unfolding lives_to_upgrade
     is_upgraded done = (
       lives_to_upgrade w (Ok tt) found opening last o p q recovers heeds narrow done,
@@ -359,7 +369,7 @@ module _ {D O : Type 0} (medium : D → Medium) (takes : Taking O) where
     not_upgraded : (why : WorkFault) (err' : PrinterState) (status : Status)
         → IsUpgradedFrom medium from_list takes (scene w opening [] p) (Err why) last q
         → IsSaid (status_on_disk (call_fault why)) between status err'
-        → UpgradesOnDisk medium takes (Err status) found last o q err err'
+        → UpgradesOnDisk medium takes (Err status) found last (outputs o err) (outputs q err')
     unfolding lives_to_upgrade
     not_upgraded why err' status done says = inr (
       why,
@@ -378,8 +388,8 @@ module _ {D O : Type 0} (medium : D → Medium) (takes : Taking O) where
       (err err' : PrinterState)
       → RecoversWorker medium takes (Ok w) found opening o p → HeedsOutlet takes ⊥ o p
       → (result : Result Upgraded Status)
-      → UpgradesOpen medium takes w result opening last p q err err'
-      → UpgradesOnDisk medium takes result found last o q err err'
+      → UpgradesOpen medium takes w result opening last (outputs p err) (outputs q err')
+      → UpgradesOnDisk medium takes result found last (outputs o err) (outputs q err')
   open_upgraded w found opening last o p q err err' recovers heeds (Ok upgraded.Now) does =
       is_upgraded w found opening last o p q err err' recovers heeds does.0 does.1 does.2
   open_upgraded w found opening last o p q err err' recovers heeds (Ok upgraded.Before) does =

@@ -3,7 +3,7 @@ use Rattle.std.specs.Prelude.{◌≡◌, ◌≢◌, ◌⊎◌, ℕ, List, ◌++�
 use Rattle.std.specs.Prelude.{false, true, []}
 use Rattle.wasi_abi.specs.declared.version.Version.TheVariants.{One, Two}
 use Rattle.sector_disk.specs.rules.Medium.{Medium}
-use Rattle.record_replay.specs.rules.Calls.{Giving, Taking}
+use Rattle.record_replay.specs.rules.Calls.{Giving, Taking, Ports, ports}
 use Rattle.record_replay.specs.declared.slices.now.Now.{Now}
 use Rattle.record_replay.specs.declared.slices.now.Now.TheVariants as now
 use Rattle.worker.specs.declared.fault.WorkFault.{WorkFault}
@@ -11,17 +11,18 @@ use Rattle.worker.specs.declared.recover_fault.RecoverFault.TheVariants as recov
 use Rattle.worker.specs.rules.DurableValues.{DurableValue}
 use Rattle.worker.specs.rules.LifeWords.{Act, Slice}
 use Rattle.worker.specs.rules.Outlets.{TakesEach, HeedsOutlet, IsOutletFault, SaysOutletFault}
+use Rattle.worker.specs.rules.OneLife.{CallsInOrder}
 use Rattle.worker.specs.rules.Outcomes.{outcome_after}
 use Rattle.command_words.specs.rules.Printers.{PrinterState, IsSaid, TellsPerson}
 use Rattle.command_words.specs.declared.status.Status.{Status}
-use Rattle.worker.specs.rules.Scenes.{Scene, scene}
-use Rattle.disk_commands.specs.Livings.{AreCalled, ActsLead}
+use Rattle.worker.specs.rules.Scenes.{Scene, scene, surroundings, surroundings_of}
+use Rattle.disk_commands.specs.Livings.{ActsLead}
 use Rattle.disk_commands.specs.declared.on_disk.upgrading.Upgraded.{Upgraded}
 use Rattle.disk_commands.specs.declared.on_disk.upgrading.Upgraded.TheVariants as upgraded
 use Rattle.disk_commands.specs.rules.BrokenLives.{BreaksInSliceFrom, steps_among}
 use Rattle.disk_commands.specs.rules.DiskStatuses.{call_fault, status_on_disk}
 use Rattle.disk_commands.specs.rules.Hearings.{AsksUnless, IsOfSource}
-use Rattle.disk_commands.specs.rules.ServedOnDisk.{recovered_line}
+use Rattle.disk_commands.specs.rules.ServedOnDisk.{Outputs, recovered_line}
 use Rattle.disk_commands.specs.rules.Upgradings.{IsOfUpgrade, undone_then, upgrade_slices}
 use Rattle.disk_commands.specs.rules.Upgradings.{upgrade_acts, from_list, IsOfCaughtUp}
 
@@ -45,11 +46,10 @@ module _ {D S O : Type 0} (medium : D → Medium) (gives : Giving S) (takes : Ta
     pub count : ℕ
     pub heard : AsksUnless gives (IsOfSource (Err (recover.Worker why))) from.source to.source
     pub heeded : HeedsOutlet takes (IsOutletFault (recover.Worker why)) from.outlet to.outlet
-    pub breaks : BreaksInSliceFrom gives takes from.worker.process fuel
-        (steps_among (replicate count (Slice fuel))) why from.source to.source from.outlet to.outlet
-    pub done : (rest : List Act) → AreCalled medium gives takes
-        (replicate count (Slice fuel) ++ rest) from (Err (recover.Worker why)) to.disk to.source
-        to.outlet
+    pub breaks : BreaksInSliceFrom gives takes fuel
+        (steps_among (replicate count (Slice fuel))) from why to.source to.outlet
+    pub done : (rest : List Act) → CallsInOrder medium gives takes
+        (replicate count (Slice fuel) ++ rest) from (Err (recover.Worker why)) (surroundings_of to)
     pub caught_up : IsOfCaughtUp why
 
   -- the one or the other
@@ -58,11 +58,11 @@ module _ {D S O : Type 0} (medium : D → Medium) (gives : Giving S) (takes : Ta
   ComesUp fuel from (Err why) to = HasStoppedShort fuel from why to
 
   -- How slices, of which the last one has answered this, and an upgrade have ended.
-  abbrev pub EndsRun : Scene D S O → Result (Unit {0}) WorkFault → ℕ → S → O → Now → Type 0
-  EndsRun from (Ok done) count source outlet said = said ≢ now.Spent
-  EndsRun from (Err why) count source outlet said =
-      BreaksInSliceFrom gives takes from.worker.process 100000
-      (steps_among (upgrade_slices count)) why from.source source from.outlet outlet
+  abbrev pub EndsRun : Scene D S O → Result (Unit {0}) WorkFault → ℕ → Ports S O → Now → Type 0
+  EndsRun from (Ok done) count to said = said ≢ now.Spent
+  EndsRun from (Err why) count to said =
+      BreaksInSliceFrom gives takes 100000 (steps_among (upgrade_slices count)) from why to.source
+      to.outlet
       ⊎ (IsOfUpgrade why × (said ≢ now.Spent))
 
   -- All that an upgrade needs was done, and then it; or so much of that, up to this error. No
@@ -74,24 +74,25 @@ module _ {D S O : Type 0} (medium : D → Medium) (gives : Giving S) (takes : Ta
     pub source : S
     pub heard : AsksUnless gives (IsOfSource (undone_then result)) from.source source
     pub heeded : HeedsOutlet takes (SaysOutletFault (undone_then result)) from.outlet outlet
-    pub done : AreCalled medium gives takes (upgrade_acts count) from (undone_then result) disk
-        source outlet
-    pub ends : EndsRun from result count source outlet (outcome_after now.Spent done)
+    pub done : CallsInOrder medium gives takes (upgrade_acts count) from (undone_then result)
+        (surroundings disk source outlet)
+    pub ends : EndsRun from result count (ports source outlet) (outcome_after now.Spent done)
     pub caught_up : IfErr result IsOfCaughtUp
 
 -- A person is told that this worker is recovered, where one reads along. It is open on the disk,
 -- and of version 1: it is upgraded, or a call of that has failed, and the status says why. Or it is
 -- of version 2, and nothing is done.
 abbrev pub UpgradesOpen : {D O : Type 0} → (D → Medium) → Taking O → DurableValue
-    → Result Upgraded Status → D → D → O → O → PrinterState → PrinterState → Type 0
-UpgradesOpen medium takes w (Ok upgraded.Now) disk disk' outlet outlet' err err' =
-    (w.process.host.host.version ≡ One) × TellsPerson (recovered_line w) err err'
-    × IsUpgradedFrom medium from_list takes (scene w disk [] outlet) (Ok tt) disk' outlet'
-UpgradesOpen medium takes w (Ok upgraded.Before) disk disk' outlet outlet' err err' =
-    (w.process.host.host.version ≡ Two) × TellsPerson (recovered_line w) err err'
-    × (disk' ≡ disk) × (outlet' ≡ outlet)
-UpgradesOpen medium takes w (Err status) disk disk' outlet outlet' err err' =
+    → Result Upgraded Status → D → D → Outputs O → Outputs O → Type 0
+UpgradesOpen medium takes w (Ok upgraded.Now) disk disk' before after =
+    (w.process.host.host.version ≡ One) × TellsPerson (recovered_line w) before.err after.err
+    × IsUpgradedFrom medium from_list takes (scene w disk [] before.outlet) (Ok tt) disk'
+    after.outlet
+UpgradesOpen medium takes w (Ok upgraded.Before) disk disk' before after =
+    (w.process.host.host.version ≡ Two) × TellsPerson (recovered_line w) before.err after.err
+    × (disk' ≡ disk) × (after.outlet ≡ before.outlet)
+UpgradesOpen medium takes w (Err status) disk disk' before after =
     (why : WorkFault) × (between : PrinterState) × (w.process.host.host.version ≡ One)
-    × TellsPerson (recovered_line w) err between
-    × IsUpgradedFrom medium from_list takes (scene w disk [] outlet) (Err why) disk' outlet'
-    × IsSaid (status_on_disk (call_fault why)) between status err'
+    × TellsPerson (recovered_line w) before.err between
+    × IsUpgradedFrom medium from_list takes (scene w disk [] before.outlet) (Err why) disk'
+    after.outlet × IsSaid (status_on_disk (call_fault why)) between status after.err

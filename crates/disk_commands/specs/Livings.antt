@@ -16,17 +16,17 @@ use Rattle.worker.specs.rules.DurableValues.{DurableValue, without_disk}
 use Rattle.worker.specs.rules.DurableCalls.{ActCarries}
 use Rattle.worker.specs.rules.Checkpoints.{CheckpointFails, HasCheckpointCause}
 use Rattle.worker.specs.rules.LifeWords.{Act, Checkpoint, fuel_of}
-use Rattle.worker.specs.rules.Outlets.{TakesEach, HeedsOutlet, IsOutletFault}
-use Rattle.worker.specs.rules.Outlets.{SaysOutletFault}
+use Rattle.worker.specs.rules.Outlets.{TakesEach, HeedsOutlet, IsOutletFault, SaysOutletFault}
 use Rattle.worker.specs.rules.OneLife.{CallsInOrder}
-use Rattle.worker.specs.rules.Scenes.{Scene, scene}
+use Rattle.worker.specs.rules.Scenes.{Scene, scene, ports_of, Surroundings, surroundings}
 use Rattle.command_words.specs.Lines.Answers.{SourceState}
 use Rattle.command_words.specs.rules.Printers.{PrinterState, IsSaid, TellsPerson}
 use Rattle.command_words.specs.declared.status.Status.{Status}
 use Rattle.disk_commands.specs.declared.on_disk.fault.OnDiskFault.{OnDiskFault}
 use Rattle.disk_commands.specs.rules.DiskStatuses.{IsReportedOnDisk, status_on_disk}
 use Rattle.worker.specs.rules.Outcomes.{outcome_after}
-use Rattle.disk_commands.specs.rules.BrokenLives.{BreaksOffFrom, SlicesLead, steps_among}
+use Rattle.disk_commands.specs.rules.BrokenLives.{BreaksOffFrom, SlicesLead, process_scene}
+use Rattle.disk_commands.specs.rules.BrokenLives.{steps_among}
 use Rattle.disk_commands.specs.rules.Hearings.{AsksUnless, MayRefuse}
 use Rattle.disk_commands.specs.rules.LastWords.{SaysOver, ended_by}
 use Rattle.disk_commands.specs.rules.Paces.{round_of, IsPaced}
@@ -38,15 +38,8 @@ abbrev pub SlicesLeadOn : {D S O : Type 0} → Giving S → Taking O → Scene D
     → Type 0
 SlicesLeadOn gives takes from steps to =
     (guest : Guest) (p : ProcessState) → ShowsProcess from.worker.process guest p
-    → SlicesLead gives takes guest p from.source to.source from.outlet to.outlet steps
+    → SlicesLead gives takes (process_scene guest p from.source from.outlet) (ports_of to) steps
     to.worker.process
-
--- Calls from there on, of this act, which may take so many steps, have failed so.
-abbrev pub BreaksOffAt : {D S O : Type 0} → Giving S → Taking O → Act → ℕ → Scene D S O
-    → WorkFault → S → O → Type 0
-BreaksOffAt gives takes act all from why source outlet =
-    BreaksOffFrom gives takes from.worker.process act all why from.source source from.outlet
-    outlet
 
 -- nothing is left to be done, or there was this error
 abbrev pub undone_after : Result Now WorkFault → Result (List Act) RecoverFault
@@ -58,24 +51,16 @@ abbrev pub steps_left : DurableValue → ℕ
 steps_left w = 2 ^ 63 - w.process.steps
 
 module _ {D S O : Type 0} (medium : D → Medium) (gives : Giving S) (takes : Taking O) where
-  -- These acts are done in order, from there to there, or up to the first error.
-  abbrev pub AreCalled : List Act → Scene D S O → Result (List Act) RecoverFault → D → S → O
-      → Type 0
-  AreCalled acts from undone disk source outlet =
-      CallsInOrder medium gives takes acts from.worker from.disk from.source from.outlet undone disk
-      source outlet
-
   -- These acts lead from there to there: whatever is done then is done after them. Their last slice
   -- has answered this; where there is none, it is that the worker goes on.
   pub record ActsLead (acts : List Act) (from : Scene D S O) (said : Now) (to : Scene D S O)
       : Type 0 where
-    pub behind : (rest : List Act) (undone : Result (List Act) RecoverFault) (disk : D) (source : S)
-        (outlet : O) → AreCalled rest to undone disk source outlet
-        → AreCalled (acts ++ rest) from undone disk source outlet
-    pub says : (rest : List Act) (undone : Result (List Act) RecoverFault) (disk : D) (source : S)
-        (outlet : O) (done : AreCalled rest to undone disk source outlet)
-        → outcome_after now.Spent (behind rest undone disk source outlet done)
-        ≡ outcome_after said done
+    pub behind : (rest : List Act) (undone : Result (List Act) RecoverFault)
+        (last : Surroundings D S O) → CallsInOrder medium gives takes rest to undone last
+        → CallsInOrder medium gives takes (acts ++ rest) from undone last
+    pub says : (rest : List Act) (undone : Result (List Act) RecoverFault)
+        (last : Surroundings D S O) (done : CallsInOrder medium gives takes rest to undone last)
+        → outcome_after now.Spent (behind rest undone last done) ≡ outcome_after said done
 
   -- This act was done, and has answered this: what is done then is done after it. The worker had
   -- not failed, and ran as a slice does. No question was refused, and no line. The disk has room
@@ -87,18 +72,18 @@ module _ {D S O : Type 0} (medium : D → Medium) (gives : Giving S) (takes : Ta
       pub leads : ActsLead (act ∷ []) from said to
       pub shows : from.worker.has_failed ≡ false → IsProcess from.worker.process
       pub slices : Slices gives takes (without_disk from.worker) (fuel_of act) said
-          (without_disk to.worker) from.source to.source from.outlet to.outlet
+          (without_disk to.worker) (ports_of from) (ports_of to)
       pub room : total_sectors to.worker.store.geometry ≤ (medium to.disk).sectors
 
   -- It has failed so, whatever was to be done after it. No question was refused, unless its error
   -- allows that, and no line, unless it is the outlet's.
-  pub record HasFailedOnce (act : Act) (from : Scene D S O) (why : WorkFault) (disk : D)
-      (source : S) (outlet : O) : Type 0 where
-    pub heard : AsksUnless gives (MayRefuse act (Err (recover.Worker why))) from.source source
-    pub heeded : HeedsOutlet takes (IsOutletFault (recover.Worker why)) from.outlet outlet
+  pub record HasFailedOnce (act : Act) (from : Scene D S O) (why : WorkFault)
+      (last : Surroundings D S O) : Type 0 where
+    pub heard : AsksUnless gives (MayRefuse act (Err (recover.Worker why))) from.source last.source
+    pub heeded : HeedsOutlet takes (IsOutletFault (recover.Worker why)) from.outlet last.outlet
     pub done : (rest : List Act)
-        → AreCalled (act ∷ rest) from (Err (recover.Worker why)) disk source outlet
-    pub broken : BreaksOffAt gives takes act (fuel_of act) from why source outlet
+        → CallsInOrder medium gives takes (act ∷ rest) from (Err (recover.Worker why)) last
+    pub broken : BreaksOffFrom gives takes act (fuel_of act) from why last.source last.outlet
 
   -- At most so many of this act, with a checkpoint after them. The last one has answered this. They
   -- are just as many where its fuel is spent, and have taken all of their steps. No question was
@@ -117,30 +102,31 @@ module _ {D S O : Type 0} (medium : D → Medium) (gives : Giving S) (takes : Ta
 
   -- One within which there was an error. No question was refused, unless it allows that, and no
   -- line, unless it is the outlet's.
-  pub record IsBrokenRound (act : Act) (every : ℕ) (from : Scene D S O) (why : WorkFault) (disk : D)
-      (source : S) (outlet : O) : Type 0 where
+  pub record IsBrokenRound (act : Act) (every : ℕ) (from : Scene D S O) (why : WorkFault)
+      (last : Surroundings D S O) : Type 0 where
     pub count : ℕ
     pub some : 1 ≤ count
     pub within : count ≤ every
-    pub heard : AsksUnless gives (MayRefuse act (Err (recover.Worker why))) from.source source
-    pub heeded : HeedsOutlet takes (IsOutletFault (recover.Worker why)) from.outlet outlet
-    pub done : AreCalled (round_of act count) from (Err (recover.Worker why)) disk source outlet
-    pub broken : BreaksOffAt gives takes act (steps_among (round_of act count)) from why source
-        outlet
+    pub heard : AsksUnless gives (MayRefuse act (Err (recover.Worker why))) from.source last.source
+    pub heeded : HeedsOutlet takes (IsOutletFault (recover.Worker why)) from.outlet last.outlet
+    pub done : CallsInOrder medium gives takes (round_of act count) from
+        (Err (recover.Worker why)) last
+    pub broken : BreaksOffFrom gives takes act (steps_among (round_of act count)) from why
+        last.source last.outlet
 
   -- All that a worker is told at this pace is done, and the last act has answered this; or it is
   -- done up to this error. No question was refused, unless that allows it, and no line, unless it
   -- is the outlet's.
   pub record LivesAtPace (act : Act) (every : ℕ) (from : Scene D S O)
-      (result : Result Now WorkFault) (disk : D) (source : S) (outlet : O) : Type 0 where
+      (result : Result Now WorkFault) (last : Surroundings D S O) : Type 0 where
     pub acts : List Act
     pub paced : IsPaced act every acts
-    pub heard : AsksUnless gives (MayRefuse act (undone_after result)) from.source source
-    pub heeded : HeedsOutlet takes (SaysOutletFault (undone_after result)) from.outlet outlet
-    pub done : AreCalled acts from (undone_after result) disk source outlet
+    pub heard : AsksUnless gives (MayRefuse act (undone_after result)) from.source last.source
+    pub heeded : HeedsOutlet takes (SaysOutletFault (undone_after result)) from.outlet last.outlet
+    pub done : CallsInOrder medium gives takes acts from (undone_after result) last
     pub says : IfOk result (λ told. outcome_after now.Spent done ≡ told)
-    pub broken : IfErr result (λ why. BreaksOffAt gives takes act (steps_among acts) from why
-        source outlet)
+    pub broken : IfErr result (λ why. BreaksOffFrom gives takes act (steps_among acts) from why
+        last.source last.outlet)
 
 -- a checkpoint of a worker whose slice has answered this
 abbrev pub IsRested : Now → Result Now WorkFault → DurableValue → DurableValue → Medium → Medium
@@ -151,19 +137,24 @@ IsRested why (Err fault) old new disk disk' =
     ActCarries Checkpoint [] old (Err fault) new disk disk'
     × CheckpointFails old disk disk' fault × HasCheckpointCause old disk disk' fault
 
--- An open worker has lived at its pace, on answers of a source that begins after the requests that
--- it has taken. It is over, as its last slice has answered, and the source has handed out so many
--- requests in all. Or an error is told.
-abbrev pub HasGoneOn : {D O : Type 0} → (D → Medium) → Taking O → DiskJob → DurableValue → D → D
-    → O → O → Bool → ℕ → Result Now OnDiskFault → Type 0
-HasGoneOn medium takes given w disk disk' outlet outlet' failed' taken' (Ok why) =
+-- The scene of a worker that was given a job. Its source begins after the requests that it has
+-- taken.
+abbrev pub with_source : {D O : Type 0} → Scene D DiskJob O → Scene D SourceState O
+with_source from = scene from.worker from.disk (source_behind from.source from.worker) from.outlet
+
+-- An open worker has lived at the pace of its job, which is in the scene where its source will be.
+-- It is over, as its last slice has answered, and the source has handed out so many requests in
+-- all. Or an error is told.
+abbrev pub HasGoneOn : {D O : Type 0} → (D → Medium) → Taking O → Scene D DiskJob O → D → O → Bool
+    → ℕ → Result Now OnDiskFault → Type 0
+HasGoneOn medium takes from disk' outlet' failed' taken' (Ok why) =
     (source' : SourceState) × (why ≢ now.Spent) × (source'.failed ≡ failed')
-    × (source'.taken ≡ taken') × LivesAtPace medium handing takes (act_given given) given.every
-    (scene w disk (source_behind given w) outlet) (Ok why) disk' source' outlet'
-HasGoneOn medium takes given w disk disk' outlet outlet' failed' taken' (Err told) =
+    × (source'.taken ≡ taken') × LivesAtPace medium handing takes (act_given from.source)
+    from.source.every (with_source from) (Ok why) (surroundings disk' source' outlet')
+HasGoneOn medium takes from disk' outlet' failed' taken' (Err told) =
     (source' : SourceState) × (why : WorkFault) × IsReportedOnDisk why source'.fault told
-    × (source'.failed ≡ failed') × LivesAtPace medium handing takes (act_given given) given.every
-    (scene w disk (source_behind given w) outlet) (Err why) disk' source' outlet'
+    × (source'.failed ≡ failed') × LivesAtPace medium handing takes (act_given from.source)
+    from.source.every (with_source from) (Err why) (surroundings disk' source' outlet')
 
 -- What is said of a worker that has gone on so, with so many requests: its last words, where a
 -- person may read along, or its error.
@@ -180,5 +171,6 @@ abbrev pub RunsOpen : {D O : Type 0} → (D → Medium) → Taking O → Durable
 RunsOpen medium takes w before after status =
     (between : PrinterState) × (gone : Result Now OnDiskFault) × (taken : ℕ)
     × TellsPerson (recovered_line w) before.err between
-    × HasGoneOn medium takes before.given w before.disk after.disk before.outlet after.outlet
-    after.failed taken gone × SaysGone before.err.on_terminal taken gone between status after.err
+    × HasGoneOn medium takes (scene w before.disk before.given before.outlet) after.disk
+    after.outlet after.failed taken gone
+    × SaysGone before.err.on_terminal taken gone between status after.err

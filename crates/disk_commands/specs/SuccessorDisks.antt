@@ -1,5 +1,5 @@
 -- Steps of a succession: what was left is read, and fits.
-use Rattle.std.specs.Prelude.{◌≡◌, ℕ, Bool, List, Result, Ok, Err}
+use Rattle.std.specs.Prelude.{◌≡◌, ℕ, List, Result, Ok, Err}
 use Rattle.wasi_abi.specs.rules.Configs.{Settings}
 use Rattle.sector_disk.specs.declared.file.FileDisk.{FileDisk}
 use Rattle.sector_disk.specs.rules.File.{file_medium}
@@ -8,11 +8,10 @@ use Rattle.sector_disk.specs.rules.Medium.{Medium}
 use Rattle.worker.specs.declared.handover.Handover.{Handover}
 use Rattle.worker.specs.declared.leave_fault.LeaveFault.{LeaveFault}
 use Rattle.worker.specs.rules.Successions.{ReadsLegacy}
-use Rattle.command_words.specs.declared.preparing.Prepared.{Prepared}
-use Rattle.command_words.specs.rules.Printers.{PrinterState}
+use Rattle.command_words.specs.rules.Printers.{PrinterState, Printers}
 use Rattle.command_words.specs.declared.status.Status.{Status}
 use Rattle.disk_commands.specs.rules.SuccessorDisks.{HasRoomFor, SaysRoomless, SaysUnleft}
-use Rattle.disk_commands.specs.rules.SuccessorDisks.{SucceedsAsLeft}
+use Rattle.disk_commands.specs.rules.SuccessorDisks.{SuccessionValue, SucceedsAsLeft}
 
 -- what was left is handed on, or it is said what doesn't fit
 abbrev pub FitsOrSays : Settings → Handover → PrinterState → Result Handover Status → PrinterState
@@ -35,11 +34,10 @@ pub record IsTakenOver (path : List ℕ) (config : Settings) (old new : Medium)
   pub reads : ReadsLegacy left old new
   pub takes : TakesLegacy path config left err result err'
 
--- An old disk that was opened is read, and the new worker succeeds the one on it.
-pub record SucceedsOpened {F : Type 0} (handles : KnownHandles F) (files : KnownFiles F)
-    (from : List ℕ) (on_device : Bool) (path bytes : List ℕ) (prepared : Prepared)
-    (old old' : FileDisk F) (out out' err err' : PrinterState) (status : Status) : Type 0 where
-  pub left : Result Handover LeaveFault
-  pub reads : ReadsLegacy left (file_medium old) (file_medium old')
-  pub goes_on : SucceedsAsLeft handles files from on_device path bytes prepared left out out' err
-      err' status
+module _ {F : Type 0} (handles : KnownHandles F) (files : KnownFiles F) where
+  -- An old disk that was opened is read, and the new worker succeeds the one on it.
+  pub record SucceedsOpened (given : SuccessionValue) (disk disk' : FileDisk F)
+      (before after : Printers) (status : Status) : Type 0 where
+    pub left : Result Handover LeaveFault
+    pub reads : ReadsLegacy left (file_medium disk) (file_medium disk')
+    pub goes_on : SucceedsAsLeft handles files given left before after status

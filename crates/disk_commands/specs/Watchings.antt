@@ -1,6 +1,5 @@
 -- When a status line is due.
-use Rattle.std.specs.Prelude.{◌⊎◌, ⊤, ◌+◌, ◌≤◌, ◌<◌, ℕ}
-use Rattle.std.specs.Prelude.{Option, None, Some}
+use Rattle.std.specs.Prelude.{◌⊎◌, ⊤, ◌+◌, ◌≤◌, ◌<◌, ℕ, Option, None, Some}
 use Rattle.process.specs.declared.stop.ProcessEnd.TheVariants as end
 use Rattle.record_replay.specs.declared.slices.now.Now.TheVariants as now
 

@@ -18,10 +18,8 @@
 ghost use Rattle.worker.specs.laws.Replies.{LivesEndAsSaid};
 ghost use Rattle.worker.specs.laws.Uncut.{LivesGoOnUncut};
 ghost use Rattle.command_words.specs.laws.Printed.{TakenLinesArePrinted};
-ghost use Rattle.disk_commands.specs.laws.Answered.{AnswersComeFromTheLines};
-ghost use Rattle.disk_commands.specs.laws.Answered.{NoneIsLeftAtTheEnd};
-ghost use Rattle.disk_commands.specs.laws.Copied.{CopiesStandForTheSame};
-ghost use Rattle.disk_commands.specs.laws.Copied.{SavedFilesStandForTheSame};
+ghost use Rattle.disk_commands.specs.laws.Answered.{AnswersComeFromTheLines, NoneIsLeftAtTheEnd};
+ghost use Rattle.disk_commands.specs.laws.Copied.{CopiesStandForTheSame, SavedFilesStandForTheSame};
 ghost use Rattle.disk_commands.specs.laws.DiskCauses.{RefusalsHaveReasons, StatusesHaveCauses};
 ghost use Rattle.disk_commands.specs.laws.LargestDisks.{LargestDisksArePictured};
 ghost use Rattle.disk_commands.specs.laws.Released.{ReleasedLinesArePrinted};

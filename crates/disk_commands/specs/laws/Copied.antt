@@ -11,9 +11,10 @@ use Rattle.sector_disk.specs.rules.Medium.{LeavesOnly, Medium}
 use Rattle.sector_disk.specs.rules.Open.{IsMadeAt}
 use Rattle.disk_layout.specs.rules.Places.{geometry_of, total_sectors}
 use Rattle.worker.specs.laws.Copies.{IsBlank, StandForTheSame, StandsFor}
-use Rattle.command_words.specs.rules.Printers.{PrinterState}
+use Rattle.command_words.specs.rules.Printers.{Printers}
 use Rattle.command_words.specs.declared.status.Status.{Status}
 use Rattle.command_words.specs.declared.status.Status.TheVariants as exit
+use Rattle.disk_commands.specs.rules.Openings.{command_run}
 use Rattle.disk_commands.specs.rules.SavedCopies.{SavesCopy, SavesInspected}
 
 -- A disk shows this image, and is copied. At whatever moment the power is cut, the copy has no
@@ -28,8 +29,8 @@ pub record CopiesWhatStands (shown : DiskImage) (copy copy' : Medium) (status : 
 -- all sectors of the worker.
 abbrev pub CopiesStandForTheSame : {D C : Type 0} → (D → Medium) → (C → Medium) → Type 0
 CopiesStandForTheSame {D} {C} disks copies =
-    (disk disk' : D) (copy copy' : C) (out out' err err' : PrinterState) (status : Status)
-    → SavesCopy (disks disk) (disks disk') (copies copy) (copies copy') out out' err err' status
+    (disk disk' : D) (copy copy' : C) (before after : Printers) (status : Status)
+    → SavesCopy (disks disk) (disks disk') (copies copy) (copies copy') before after status
     → ((image : DiskImage) → (copies copy).crash_images image
     → image ≡ zeros (copies copy).sectors)
     → (shown : DiskImage) → (disks disk').shows shown
@@ -57,6 +58,6 @@ pub record SavesWhatStands {D F : Type 0} (handles : KnownHandles F) (files : Kn
 abbrev pub SavedFilesStandForTheSame : {D : Type 0} → (D → Medium) → Type 0 → Type 0
 SavedFilesStandForTheSame {D} medium F =
     (handles : KnownHandles F) (files : KnownFiles F) (path : List ℕ) (disk disk' : D)
-    (out out' err err' : PrinterState)
-    → SavesInspected handles files path medium disk disk' out out' err err' exit.Done
+    (before after : Printers)
+    → SavesInspected handles files path medium disk disk' (command_run before after exit.Done)
     → SavesWhatStands handles files path medium disk'

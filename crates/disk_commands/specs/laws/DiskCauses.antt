@@ -9,7 +9,7 @@ use Rattle.process_rules.specs.Processes.{ProcessState, Guest}
 use Rattle.process.specs.rules.Values.{ShowsProcess}
 use Rattle.record_replay.specs.declared.fault.ReplayFault.TheVariants as replay
 use Rattle.record_replay.specs.declared.fault.SourceFault.{SourceFault}
-use Rattle.record_replay.specs.rules.Calls.{Taking, Ask, AnswersInOrder}
+use Rattle.record_replay.specs.rules.Calls.{Taking, Ask, AnswersInOrder, ports}
 use Rattle.record_replay.specs.declared.slices.fault.SliceFault.TheVariants as slice
 use Rattle.record_replay.specs.declared.slices.now.Now.{Now}
 use Rattle.record_replay.specs.declared.slices.now.Now.TheVariants.{Spent}
@@ -31,11 +31,10 @@ use Rattle.command_words.specs.rules.Seeds.{words_for}
 use Rattle.command_words.specs.declared.status.Status.{Status}
 use Rattle.command_words.specs.declared.status.Status.TheVariants as exit
 use Rattle.disk_commands.specs.rules.BrokenLives.{BreaksOff, LeavesNoLine, TellsItsLines}
-use Rattle.disk_commands.specs.rules.BrokenLives.{steps_among}
+use Rattle.disk_commands.specs.rules.BrokenLives.{process_scene, steps_among}
 use Rattle.disk_commands.specs.rules.LastWords.{PrintsOver, ended_by}
 use Rattle.disk_commands.specs.rules.ServedOnDisk.{RunStart, RunEnd, act_given, source_behind}
-use Rattle.disk_commands.specs.rules.ServedOnDisk.{handing}
-use Rattle.disk_commands.specs.rules.ServedOnDisk.{IsUnopenedRun, LivesOnDisk, HasOutcome}
+use Rattle.disk_commands.specs.rules.ServedOnDisk.{handing, IsUnopenedRun, LivesOnDisk, HasOutcome}
 use Rattle.disk_commands.specs.rules.ServedOnDisk.{ServesOnDisk, recovered_line}
 
 -- ---- a source that refuses
@@ -53,8 +52,8 @@ pub record HasRefused (old : SourceState) (asks : List Ask) (failed' : Bool) (wh
     : Type 0 where
   pub question : Question
   pub asked : IsRefusedAmong asks question
-  pub reason : IsRefusedFor question old.outside old.limit (old.place + words_of (handed asks))
-      old.taken old.unread (requests_in (handed asks)) old.failed failed' why
+  pub reason : IsRefusedFor question old (old.place + words_of (handed asks))
+      (requests_in (handed asks)) failed' why
 
 -- Whatever a source of the program was asked: where it had no fault and now has one, one of these
 -- questions was refused for it.
@@ -97,8 +96,9 @@ abbrev pub HasToldItsLines : {D O : Type 0} {medium : D → Medium} {takes : Tak
     → WorkFault → Type 0
 HasToldItsLines {takes = takes} {before = before} {after = after} {source' = source'} lives why =
     (guest : Guest) (p : ProcessState) → ShowsProcess lives.worker.process guest p
-    → (broken : BreaksOff handing takes guest p (source_behind before.given lives.worker) source'
-    lives.retold after.outlet (act_given before.given) (steps_among lives.acts) why)
+    → (broken : BreaksOff handing takes
+    (process_scene guest p (source_behind before.given lives.worker) lives.retold)
+    (ports source' after.outlet) (act_given before.given) (steps_among lives.acts) why)
     × TellsItsLines takes p broken.process lives.retold after.outlet
 
 -- ---- faults of a call

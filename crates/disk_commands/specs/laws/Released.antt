@@ -4,7 +4,7 @@ use Rattle.record_replay.specs.rules.Calls.{Exchange, Releases, releases_of}
 use Rattle.worker.specs.laws.OneLife.{released_in, taken_in}
 use Rattle.worker.specs.laws.Uncut.{AreTrue}
 use Rattle.worker.specs.rules.LifeWords.{Release}
-use Rattle.command_words.specs.rules.Printers.{PrinterState, IsPrinted, HasOneFailed}
+use Rattle.command_words.specs.rules.Printers.{PrinterState, IsPrinted, HasOneFailed, printers}
 use Rattle.command_words.specs.rules.Prints.{printing}
 use Rattle.command_words.specs.rules.Texts.{printed}
 use Rattle.command_words.specs.declared.status.Status.{Status}
@@ -30,4 +30,4 @@ abbrev pub UnwrittenIsAFailedWrite : Type 0
 UnwrittenIsAFailedWrite = (out out' err' : PrinterState) (status : Status) → out.failed ≡ false
     → HeedsRefusal printing out out' err' status
     → (out'.failed ≡ true → status ≡ exit.Unwritten)
-    × (status ≡ exit.Unwritten → HasOneFailed out' err')
+    × (status ≡ exit.Unwritten → HasOneFailed (printers out' err'))

@@ -5,7 +5,7 @@ use Rattle.process_rules.specs.Processes.{ProcessState, Guest}
 use Rattle.process.specs.rules.Values.{ProcessValue, ShowsProcess}
 use Rattle.record_replay.specs.rules.Calls.{Giving, Taking, Begun, Exchange, Exchanges}
 use Rattle.record_replay.specs.rules.Calls.{AnswersInOrder, Releases, all_taken, asks_of}
-use Rattle.record_replay.specs.rules.Calls.{releases_of}
+use Rattle.record_replay.specs.rules.Calls.{releases_of, Ports, ports}
 use Rattle.record_replay.specs.declared.slices.now.Now.{Now}
 use Rattle.record_replay.specs.declared.slices.fault.SliceFault.TheVariants as slice
 use Rattle.record_replay.specs.rules.Slices.{SliceLeadsTo, AreAnswered, AreWanted, IsNow}
@@ -14,6 +14,7 @@ use Rattle.worker.specs.declared.fault.WorkFault.TheVariants as work
 use Rattle.worker.specs.rules.Batches.{HasUntakenAnswer, ToldUpTo, IsBatchCause}
 use Rattle.worker.specs.rules.DurableFailures.{IsDiskCause, StopsAtQuestion}
 use Rattle.worker.specs.rules.LifeWords.{Act, Slice, Batch, Checkpoint, Upgrade, fuel_of}
+use Rattle.worker.specs.rules.Scenes.{Scene}
 
 -- how many steps these acts may take
 abbrev pub steps_among : List Act → ℕ
@@ -39,32 +40,61 @@ IsToldBy takes (Batch fuel most) untaken why all outlet outlet' =
     ToldUpTo takes untaken why all outlet outlet'
 IsToldBy takes act untaken why all outlet outlet' = Releases takes outlet all outlet'
 
+-- how far a process has come: by these exchanges and so many steps, to this one
+pub record Stretch : Type 0 where
+  pub exchanges : List Exchange
+  pub steps : ℕ
+  pub process : ProcessState
+
+-- a stretch of these
+abbrev pub stretch : List Exchange → ℕ → ProcessState → Stretch
+stretch exchanges steps process = record {
+  exchanges = exchanges;
+  steps = steps;
+  process = process;
+}
+
 -- This act has failed there. Or it has answered there, when no line waits, and the checkpoint after
 -- it has failed (by what, `CallsInOrder` says).
 pub data IsBrokenAt {O : Type 0} (takes : Taking O) (guest : Guest) (p : ProcessState) (act : Act)
-    (exchanges : List Exchange) (steps : ℕ) (q : ProcessState) (why : WorkFault)
-    (outlet outlet' : O) : Type 0 where
-  in_act : IsActCause act guest p exchanges steps q why
-      → IsToldBy takes act (HasUntakenAnswer guest p exchanges steps q) why
-      (releases_of exchanges) outlet outlet'
-      → IsBrokenAt takes guest p act exchanges steps q why outlet outlet'
-  in_checkpoint : (said : Now) → SliceLeadsTo guest p exchanges steps q
-      → IsNow guest q exchanges steps (fuel_of act) said
-      → Releases takes outlet (releases_of exchanges) outlet'
-      → IsBrokenAt takes guest p act exchanges steps q why outlet outlet'
+    (to : Stretch) (why : WorkFault) (outlet outlet' : O) : Type 0 where
+  in_act : IsActCause act guest p to.exchanges to.steps to.process why
+      → IsToldBy takes act (HasUntakenAnswer guest p to.exchanges to.steps to.process) why
+      (releases_of to.exchanges) outlet outlet'
+      → IsBrokenAt takes guest p act to why outlet outlet'
+  in_checkpoint : (said : Now) → SliceLeadsTo guest p to.exchanges to.steps to.process
+      → IsNow guest to.process to.exchanges to.steps (fuel_of act) said
+      → Releases takes outlet (releases_of to.exchanges) outlet'
+      → IsBrokenAt takes guest p act to why outlet outlet'
 
-module _ {S O : Type 0} (gives : Giving S) (takes : Taking O) (guest : Guest) (p : ProcessState)
-    (source source' : S) (outlet outlet' : O) where
+-- a process of a guest between two acts, with its source and its outlet
+pub record ProcessScene (S O : Type 0) : Type 0 where
+  pub guest : Guest
+  pub process : ProcessState
+  pub source : S
+  pub outlet : O
+
+-- of these
+abbrev pub process_scene : {S O : Type 0} → Guest → ProcessState → S → O → ProcessScene S O
+process_scene guest process source outlet = record {
+  guest = guest;
+  process = process;
+  source = source;
+  outlet = outlet;
+}
+
+module _ {S O : Type 0} (gives : Giving S) (takes : Taking O) (from : ProcessScene S O)
+    (to : Ports S O) where
   -- Slices have led the process to one that is then shown, by all of these steps. Each question was
   -- answered. Each line that was emitted was released, and taken.
   pub record SlicesLead (steps : ℕ) (new : ProcessValue) : Type 0 where
     pub exchanges : List Exchange
-    pub exchanged : Exchanges gives takes source outlet exchanges source' outlet'
-    pub wanted : AreWanted guest p exchanges
+    pub exchanged : Exchanges gives takes from.source from.outlet exchanges to.source to.outlet
+    pub wanted : AreWanted from.guest from.process exchanges
     pub answered : AreAnswered exchanges
     pub process : ProcessState
-    pub leads : SliceLeadsTo guest p exchanges steps process
-    pub shows : ShowsProcess new guest process
+    pub leads : SliceLeadsTo from.guest from.process exchanges steps process
+    pub shows : ShowsProcess new from.guest process
 
   -- Acts have led the process to where the last one began, by all of their steps. From there the
   -- last one has led it to where it, or the checkpoint after it, has failed. All lines of the ones
@@ -74,35 +104,39 @@ module _ {S O : Type 0} (gives : Giving S) (takes : Taking O) (guest : Guest) (p
     pub answered : AreAnswered front
     pub steps : ℕ
     pub begun : ProcessState
-    pub leads : SliceLeadsTo guest p front steps begun
+    pub leads : SliceLeadsTo from.guest from.process front steps begun
     pub between : O
-    pub told : Releases takes outlet (releases_of front) between
+    pub told : Releases takes from.outlet (releases_of front) between
     pub back : List Exchange
-    pub asked : AnswersInOrder gives source (asks_of (front ++ back)) source'
-    pub wanted : AreWanted guest p (front ++ back)
+    pub asked : AnswersInOrder gives from.source (asks_of (front ++ back)) to.source
+    pub wanted : AreWanted from.guest from.process (front ++ back)
     pub more : ℕ
     pub process : ProcessState
-    pub broken : IsBrokenAt takes guest begun act back more process why between outlet'
+    pub broken : IsBrokenAt takes from.guest begun act (stretch back more process) why between
+        to.outlet
     pub counted : steps + fuel_of act ≡ all
 
   -- so it is, and the last slice itself has failed
   pub record BreaksInSlice (fuel all : ℕ) (why : WorkFault) : Type 0 where
     pub broken : BreaksOff (Slice fuel) all why
-    pub cause : IsDiskCause guest broken.begun fuel broken.back broken.more broken.process why
+    pub cause : IsDiskCause from.guest broken.begun fuel broken.back broken.more broken.process why
 
--- so it is whichever process the worker showed
-abbrev pub BreaksOffFrom : {S O : Type 0} → Giving S → Taking O → ProcessValue → Act → ℕ
-    → WorkFault → S → S → O → O → Type 0
-BreaksOffFrom gives takes old act all why source source' outlet outlet' =
-    (guest : Guest) (p : ProcessState) → ShowsProcess old guest p
-    → BreaksOff gives takes guest p source source' outlet outlet' act all why
+-- Calls from there on, of this act, which may take so many steps, have failed so, whichever process
+-- the worker showed.
+abbrev pub BreaksOffFrom : {D S O : Type 0} → Giving S → Taking O → Act → ℕ → Scene D S O
+    → WorkFault → S → O → Type 0
+BreaksOffFrom gives takes act all from why source' outlet' =
+    (guest : Guest) (p : ProcessState) → ShowsProcess from.worker.process guest p
+    → BreaksOff gives takes (process_scene guest p from.source from.outlet)
+    (ports source' outlet') act all why
 
--- so it is where the slice itself has failed
-abbrev pub BreaksInSliceFrom : {S O : Type 0} → Giving S → Taking O → ProcessValue → ℕ → ℕ
-    → WorkFault → S → S → O → O → Type 0
-BreaksInSliceFrom gives takes old fuel all why source source' outlet outlet' =
-    (guest : Guest) (p : ProcessState) → ShowsProcess old guest p
-    → BreaksInSlice gives takes guest p source source' outlet outlet' fuel all why
+-- so it is of slices, where the last one itself has failed
+abbrev pub BreaksInSliceFrom : {D S O : Type 0} → Giving S → Taking O → (fuel all : ℕ)
+    → Scene D S O → WorkFault → S → O → Type 0
+BreaksInSliceFrom gives takes fuel all from why source' outlet' =
+    (guest : Guest) (p : ProcessState) → ShowsProcess from.worker.process guest p
+    → BreaksInSlice gives takes (process_scene guest p from.source from.outlet)
+    (ports source' outlet') fuel all why
 
 -- ---- lines
 

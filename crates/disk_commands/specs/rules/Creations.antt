@@ -1,6 +1,5 @@
 -- A worker that is created on a disk by a command (this project's own).
-use Rattle.std.specs.Prelude.{◌≡◌, ◌⊎◌, ℕ, ◌<◌, List, ◌++◌, Option, codes}
-use Rattle.std.specs.Prelude.{Result, Ok}
+use Rattle.std.specs.Prelude.{◌≡◌, ◌⊎◌, ℕ, ◌<◌, List, ◌++◌, Option, codes, Result, Ok}
 use Rattle.std.specs.Fmt.{decimal}
 use Rattle.std.specs.Io.KnownBytes.{Appends}
 use Rattle.wasi_abi.specs.rules.Configs.{Settings}
@@ -11,12 +10,24 @@ use Rattle.worker.specs.declared.fault.WorkFault.{WorkFault}
 use Rattle.worker.specs.rules.DurableCreations.{CreationCalls, CreationKeeps, IsCreatedOn}
 use Rattle.worker.specs.rules.DurableCreations.{places_for}
 use Rattle.worker.specs.rules.DurableValues.{DurableValue}
+use Rattle.command_words.specs.declared.preparing.Prepared.{Prepared}
 use Rattle.command_words.specs.declared.telling.Obstacle.TheVariants.{Unwritten}
-use Rattle.command_words.specs.rules.Printers.{PrinterState, HeedsBoth}
+use Rattle.command_words.specs.rules.Printers.{Printers, HeedsBoth}
 use Rattle.command_words.specs.rules.Reports.{SaysLine, obstacle_words}
 use Rattle.command_words.specs.rules.Preparations.{disk_sectors}
 use Rattle.command_words.specs.declared.status.Status.{Status}
 use Rattle.command_words.specs.declared.status.Status.TheVariants as exit
+
+-- a disk that is to be made: the path of its file or of its device, the bytes of the worker's
+-- module, and what the worker is created with
+pub record NewDiskValue : Type 0 where
+  pub path : List ℕ
+  pub bytes : List ℕ
+  pub prepared : Prepared
+
+-- a disk of these
+abbrev pub new_disk : List ℕ → List ℕ → Prepared → NewDiskValue
+new_disk path bytes prepared = record { path = path; bytes = bytes; prepared = prepared }
 
 -- the line that a creation prints
 abbrev pub created_line : ℕ → List ℕ
@@ -50,19 +61,19 @@ HasDiskFailed bytes config old new = (spare old ≡ 0)
 -- other, in their order: the super comes last. Where the output can't be written, that is told on
 -- the error output.
 pub record CreatesOn {D : Type 0} (medium : D → Medium) (bytes : List ℕ) (config : Settings)
-    (old new : D) (out out' err err' : PrinterState) (status : Status) : Type 0 where
+    (old new : D) (before after : Printers) (status : Status) : Type 0 where
   pub answer : Result DurableValue WorkFault
   pub keeps : CreationKeeps bytes config answer (medium old) (medium new)
   pub calls : CreationCalls bytes config answer (medium old) (medium new)
   pub made : status ≡ exit.Done
-      → IsCreatedAndPrinted bytes config answer (medium new) out.contents out'.contents
+      → IsCreatedAndPrinted bytes config answer (medium new) before.out.contents after.out.contents
   pub refused : status ≡ exit.Refused → IsCreationRefused bytes config (medium old) × (new ≡ old)
-      × (out' ≡ out)
+      × (after.out ≡ before.out)
   pub failed : status ≡ exit.IoError → HasDiskFailed bytes config (medium old) (medium new)
-      × (out' ≡ out)
-  pub starved : status ≡ exit.OutOfMemory → (new ≡ old) × (out' ≡ out)
+      × (after.out ≡ before.out)
+  pub starved : status ≡ exit.OutOfMemory → (new ≡ old) × (after.out ≡ before.out)
   pub unwritten : status ≡ exit.Unwritten
-      → SaysLine (obstacle_words Unwritten) exit.Unwritten err status err'
-  pub heeded : HeedsBoth out out' err err' status
+      → SaysLine (obstacle_words Unwritten) exit.Unwritten before.err status after.err
+  pub heeded : HeedsBoth before after status
   pub known : (status ≡ exit.Done) ⊎ (status ≡ exit.Refused) ⊎ (status ≡ exit.IoError)
       ⊎ (status ≡ exit.OutOfMemory) ⊎ (status ≡ exit.Unwritten)

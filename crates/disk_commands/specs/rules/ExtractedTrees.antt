@@ -21,14 +21,14 @@ use Rattle.worker.specs.declared.inspection.Inspection.{Inspection}
 use Rattle.worker.specs.declared.recover_fault.RecoverFault.{RecoverFault}
 use Rattle.worker.specs.rules.Inspections.{Inspects}
 use Rattle.command_words.specs.declared.telling.Obstacle.TheVariants.{Memory}
-use Rattle.command_words.specs.rules.Printers.{PrinterState}
+use Rattle.command_words.specs.rules.Printers.{PrinterState, Printers}
 use Rattle.command_words.specs.rules.Reports.{SaysLine, SaysOnOutput, obstacle_words}
 use Rattle.command_words.specs.declared.status.Status.{Status}
 use Rattle.command_words.specs.declared.status.Status.TheVariants as exit
 use Rattle.disk_commands.specs.rules.Inspectings.{SaysRefusal}
 use Rattle.disk_commands.specs.rules.LivePictures.{IsPictureAt, SaysUnseen}
 use Rattle.disk_commands.specs.rules.NewTrees.{KnownTrees, below}
-use Rattle.disk_commands.specs.rules.Openings.{SaysUnopened, SaysUnread}
+use Rattle.disk_commands.specs.rules.Openings.{CommandRun, SaysUnopened, SaysUnread}
 
 -- how many of these nodes are directories
 abbrev pub directories_in : List ListedNode → ℕ
@@ -70,64 +70,64 @@ module _ (trees : KnownTrees) where
 
     -- What was done and said once the folder was made, with these nodes in this order. All were
     -- made, and how many is printed. Or it is said why one isn't.
-    abbrev pub FillsFolder : Files → List ListedNode → PrinterState → PrinterState → PrinterState
-        → PrinterState → Status → Type 0
-    FillsFolder fs nodes out out' err err' status =
-        (All (IsMadeBelow fs) nodes × SaysOnOutput (written_line nodes) exit.Done out out' err err'
-        status) ⊎ (SaysUnmadeOf nodes err status err' × (out' ≡ out))
+    abbrev pub FillsFolder : Files → List ListedNode → Printers → Printers → Status → Type 0
+    FillsFolder fs nodes before after status =
+        (All (IsMadeBelow fs) nodes × SaysOnOutput (written_line nodes) exit.Done before after
+        status) ⊎ (SaysUnmadeOf nodes before.err status after.err × (after.out ≡ before.out))
 
     -- The folder was made, and filled with all listed nodes, in some order. It was left there where
     -- the status is `Done`, and else it was to be removed.
-    pub record WritesFolder (fs : Files) (out out' err err' : PrinterState) (status : Status)
+    pub record WritesFolder (fs : Files) (before after : Printers) (status : Status)
         : Type 0 where
       pub made : IsTrue (trees.folder folder)
       pub nodes : List ListedNode
       pub listed : IsPermutation (listing_in fs) nodes
-      pub fills : FillsFolder fs nodes out out' err err' status
+      pub fills : FillsFolder fs nodes before after status
       pub keeps : status ≡ exit.Done → IsTrue (trees.kept folder)
       pub removes : status ≢ exit.Done → IsTrue (trees.removed folder)
 
     -- The tree is written into the folder. Or it is said why that isn't made, or that there is no
     -- memory for the list, and nothing is made.
-    abbrev pub WritesTree : Files → PrinterState → PrinterState → PrinterState → PrinterState
-        → Status → Type 0
-    WritesTree fs out out' err err' status =
-        WritesFolder fs out out' err err' status
-        ⊎ (SaysUnmade folder err status err' × (out' ≡ out))
+    abbrev pub WritesTree : Files → Printers → Printers → Status → Type 0
+    WritesTree fs before after status =
+        WritesFolder fs before after status
+        ⊎ (SaysUnmade folder before.err status after.err × (after.out ≡ before.out))
 
     -- What is done and said of a disk that was inspected.
-    abbrev pub ExtractsTold : Result Inspection RecoverFault → PrinterState → PrinterState
-        → PrinterState → PrinterState → Status → Type 0
-    ExtractsTold (Ok told) out out' err err' status =
-        WritesTree told.process.host.host.files out out' err err' status
-    ExtractsTold (Err why) out out' err err' status = SaysRefusal why out out' err err' status
+    abbrev pub ExtractsTold : Result Inspection RecoverFault → Printers → Printers → Status
+        → Type 0
+    ExtractsTold (Ok told) before after status =
+        WritesTree told.process.host.host.files before after status
+    ExtractsTold (Err why) before after status = SaysRefusal why before after status
 
     -- The disk was inspected, and the files of the saved process are written.
-    pub record ExtractsDisk (disk disk' : Medium) (out out' err err' : PrinterState)
+    pub record ExtractsDisk (disk disk' : Medium) (before after : Printers)
         (status : Status) : Type 0 where
       pub result : Result Inspection RecoverFault
       pub inspects : Inspects result disk disk'
-      pub extracts : ExtractsTold result out out' err err' status
+      pub extracts : ExtractsTold result before after status
 
 module _ {F : Type 0} (handles : KnownHandles F) (files : KnownFiles F) (trees : KnownTrees)
-    (path folder : List ℕ) (out out' err err' : PrinterState) (status : Status) where
+    (path folder : List ℕ) (run : CommandRun) where
   -- So it is with a disk in a file, which no other host has meanwhile. Or it is said why it isn't
   -- opened.
   abbrev pub ExtractsOpened : Type 0
   ExtractsOpened =
       ((disk : FileDisk F) × (disk' : FileDisk F) × IsOpenedAt handles files path disk
       × IsTrue (files.closed disk')
-      × ExtractsDisk trees folder (file_medium disk) (file_medium disk') out out' err err' status)
-      ⊎ (SaysUnopened handles files false path err status err' × (out' ≡ out))
+      × ExtractsDisk trees folder (file_medium disk) (file_medium disk') run.before run.after
+      run.status) ⊎ (SaysUnopened handles files false path run.before.err run.status run.after.err
+      × (run.after.out ≡ run.before.out))
 
   -- So it is with a picture of a disk, which another host may have. Or it is said why there is
   -- none.
   abbrev pub ExtractsPicture : Type 0
   ExtractsPicture =
       ((picture : MemDisk) × (picture' : MemDisk) × IsPictureAt handles files path (Ok picture)
-      × ExtractsDisk trees folder (memory_medium picture) (memory_medium picture') out out' err err'
-      status)
-      ⊎ (SaysUnseen handles files path err status err' × (out' ≡ out))
+      × ExtractsDisk trees folder (memory_medium picture) (memory_medium picture') run.before
+      run.after run.status)
+      ⊎ (SaysUnseen handles files path run.before.err run.status run.after.err
+      × (run.after.out ≡ run.before.out))
 
   -- the disk is looked at while it is live, or while nobody else has it
   abbrev pub ExtractsFile : Bool → Type 0

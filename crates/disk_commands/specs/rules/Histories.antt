@@ -10,7 +10,7 @@ use Rattle.process_rules.specs.Runs.{request_taken}
 use Rattle.worker.specs.declared.inspection.Inspection.{Inspection}
 use Rattle.worker.specs.declared.recover_fault.RecoverFault.{RecoverFault}
 use Rattle.worker.specs.rules.Inspections.{Inspects}
-use Rattle.command_words.specs.rules.Printers.{PrinterState}
+use Rattle.command_words.specs.rules.Printers.{Printers}
 use Rattle.command_words.specs.rules.Records.{answer_words, record_line}
 use Rattle.command_words.specs.declared.status.Status.{Status}
 use Rattle.disk_commands.specs.rules.Inspectings.{SaysOrWants, SaysRefusal}
@@ -48,15 +48,15 @@ history_text as_story told =
     else records_text told.process.requests told.records.items
 
 -- what is said of a disk that was inspected
-abbrev pub SaysHistory : Bool → Result Inspection RecoverFault → PrinterState → PrinterState
-    → PrinterState → PrinterState → Status → Type 0
-SaysHistory as_story (Ok told) out out' err err' status =
-    SaysOrWants (history_text as_story told) out out' err err' status
-SaysHistory as_story (Err why) out out' err err' status = SaysRefusal why out out' err err' status
+abbrev pub SaysHistory : Bool → Result Inspection RecoverFault → Printers → Printers → Status
+    → Type 0
+SaysHistory as_story (Ok told) before after status =
+    SaysOrWants (history_text as_story told) before after status
+SaysHistory as_story (Err why) before after status = SaysRefusal why before after status
 
 -- The disk was inspected, and the records that it holds are said.
-pub record TellsHistory (as_story : Bool) (disk disk' : Medium) (out out' err err' : PrinterState)
+pub record TellsHistory (as_story : Bool) (disk disk' : Medium) (before after : Printers)
     (status : Status) : Type 0 where
   pub result : Result Inspection RecoverFault
   pub inspects : Inspects result disk disk'
-  pub says : SaysHistory as_story result out out' err err' status
+  pub says : SaysHistory as_story result before after status

@@ -13,7 +13,7 @@ use Rattle.file_listing.specs.rules.Listed.{listing_in, ReadsPath}
 use Rattle.worker.specs.declared.inspection.Inspection.{Inspection}
 use Rattle.worker.specs.declared.recover_fault.RecoverFault.{RecoverFault}
 use Rattle.worker.specs.rules.Inspections.{Inspects}
-use Rattle.command_words.specs.rules.Printers.{PrinterState, IsSaid, SaysText}
+use Rattle.command_words.specs.rules.Printers.{Printers, IsSaid, SaysText}
 use Rattle.command_words.specs.declared.status.Status.{Status}
 use Rattle.command_words.specs.declared.status.Status.TheVariants as exit
 use Rattle.disk_commands.specs.rules.DiskStatuses.{opening_fault, status_on_disk}
@@ -40,11 +40,10 @@ listed_path (byte ∷ path) = if byte == 47 then path else byte ∷ path
 
 -- The text is printed, and nothing on the error output. Or there is no memory for it: that is told
 -- there, and nothing is printed.
-abbrev pub SaysOrWants : List ℕ → PrinterState → PrinterState → PrinterState → PrinterState → Status
-    → Type 0
-SaysOrWants text out out' err err' status =
-    (SaysText text exit.Done out status out' × (err' ≡ err))
-    ⊎ (IsSaid exit.OutOfMemory err status err' × (out' ≡ out))
+abbrev pub SaysOrWants : List ℕ → Printers → Printers → Status → Type 0
+SaysOrWants text before after status =
+    (SaysText text exit.Done before.out status after.out × (after.err ≡ before.err))
+    ⊎ (IsSaid exit.OutOfMemory before.err status after.err × (after.out ≡ before.out))
 
 -- 3 for a path that isn't that of a file, and 5 for out of memory
 abbrev pub status_of_path : PathFault → Status
@@ -53,51 +52,49 @@ status_of_path other = exit.Refused
 
 -- The bytes of the file are written, and nothing on the error output. Or it is told there why none
 -- are.
-abbrev pub SaysFile : Result (Vec ℕ Global) PathFault → PrinterState → PrinterState → PrinterState
-    → PrinterState → Status → Type 0
-SaysFile (Ok bytes) out out' err err' status =
-    SaysText bytes.items exit.Done out status out' × (err' ≡ err)
-SaysFile (Err why) out out' err err' status =
-    IsSaid (status_of_path why) err status err' × (out' ≡ out)
+abbrev pub SaysFile : Result (Vec ℕ Global) PathFault → Printers → Printers → Status → Type 0
+SaysFile (Ok bytes) before after status =
+    SaysText bytes.items exit.Done before.out status after.out × (after.err ≡ before.err)
+SaysFile (Err why) before after status =
+    IsSaid (status_of_path why) before.err status after.err × (after.out ≡ before.out)
 
 -- all files are listed, or the one at this path is written, which may have a `/` in front
-abbrev pub SaysFiles : Files → Option (List ℕ) → PrinterState → PrinterState → PrinterState
-    → PrinterState → Status → Type 0
-SaysFiles fs None out out' err err' status = SaysOrWants (listing_text fs) out out' err err' status
-SaysFiles fs (Some path) out out' err err' status =
+abbrev pub SaysFiles : Files → Option (List ℕ) → Printers → Printers → Status → Type 0
+SaysFiles fs None before after status = SaysOrWants (listing_text fs) before after status
+SaysFiles fs (Some path) before after status =
     (read : Result (Vec ℕ Global) PathFault) × ReadsPath fs (listed_path path) read
-    × SaysFile read out out' err err' status
+    × SaysFile read before after status
 
 -- Of a fault of the disk the status is told on the error output, and nothing is printed.
-abbrev pub SaysRefusal : RecoverFault → PrinterState → PrinterState → PrinterState → PrinterState
-    → Status → Type 0
-SaysRefusal why out out' err err' status =
-    IsSaid (status_on_disk (opening_fault why)) err status err' × (out' ≡ out)
+abbrev pub SaysRefusal : RecoverFault → Printers → Printers → Status → Type 0
+SaysRefusal why before after status =
+    IsSaid (status_on_disk (opening_fault why)) before.err status after.err
+    × (after.out ≡ before.out)
 
 -- what is said of a disk that was inspected
-abbrev pub SaysInspected : Bool → Result Inspection RecoverFault → PrinterState → PrinterState
-    → PrinterState → PrinterState → Status → Type 0
-SaysInspected as_json (Ok told) out out' err err' status =
-    SaysOrWants (facts_words as_json (disk_facts told)) out out' err err' status
-SaysInspected as_json (Err why) out out' err err' status = SaysRefusal why out out' err err' status
+abbrev pub SaysInspected : Bool → Result Inspection RecoverFault → Printers → Printers → Status
+    → Type 0
+SaysInspected as_json (Ok told) before after status =
+    SaysOrWants (facts_words as_json (disk_facts told)) before after status
+SaysInspected as_json (Err why) before after status = SaysRefusal why before after status
 
 -- what is said of its files
-abbrev pub SaysListed : Option (List ℕ) → Result Inspection RecoverFault → PrinterState
-    → PrinterState → PrinterState → PrinterState → Status → Type 0
-SaysListed path (Ok told) out out' err err' status =
-    SaysFiles told.process.host.host.files path out out' err err' status
-SaysListed path (Err why) out out' err err' status = SaysRefusal why out out' err err' status
+abbrev pub SaysListed : Option (List ℕ) → Result Inspection RecoverFault → Printers → Printers
+    → Status → Type 0
+SaysListed path (Ok told) before after status =
+    SaysFiles told.process.host.host.files path before after status
+SaysListed path (Err why) before after status = SaysRefusal why before after status
 
 -- The disk was inspected, and the facts that it holds are said.
-pub record TellsDisk (as_json : Bool) (disk disk' : Medium) (out out' err err' : PrinterState)
+pub record TellsDisk (as_json : Bool) (disk disk' : Medium) (before after : Printers)
     (status : Status) : Type 0 where
   pub result : Result Inspection RecoverFault
   pub inspects : Inspects result disk disk'
-  pub says : SaysInspected as_json result out out' err err' status
+  pub says : SaysInspected as_json result before after status
 
 -- The disk was inspected, and the files of the saved process are said.
 pub record TellsFiles (path : Option (List ℕ)) (disk disk' : Medium)
-    (out out' err err' : PrinterState) (status : Status) : Type 0 where
+    (before after : Printers) (status : Status) : Type 0 where
   pub result : Result Inspection RecoverFault
   pub inspects : Inspects result disk disk'
-  pub says : SaysListed path result out out' err err' status
+  pub says : SaysListed path result before after status

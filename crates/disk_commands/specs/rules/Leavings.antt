@@ -36,14 +36,36 @@ SaysUntaken limit taken ahead old answered new =
     × (((count ≡ 0) × (answered ≡ exit.Done) × (new ≡ old))
     ⊎ ((0 < count) × SaysText (untaken_line count) exit.Done old answered new))
 
+-- where a run has left its input: the version of the worker, the requests that it has taken, the
+-- bytes that were read ahead, the line that was begun last, the lines that were passed over, and
+-- what is wrong with the line that was refused
+pub record InputLeft : Type 0 where
+  pub version : Version
+  pub taken : ℕ
+  pub ahead : List ℕ
+  pub line : ℕ
+  pub skipped : ℕ
+  pub flaw : Option LineFlaw
+
+-- an input that was left so
+abbrev pub input_left : Version → ℕ → List ℕ → ℕ → ℕ → Option LineFlaw → InputLeft
+input_left version taken ahead line skipped flaw = record {
+  version = version;
+  taken = taken;
+  ahead = ahead;
+  line = line;
+  skipped = skipped;
+  flaw = flaw;
+}
+
 -- `BadLine`: a line was refused, and its number is told, and what is wrong with it, if something
 -- is. `Done`: the worker is over or waits. Lines that were passed over are counted, and so are the
 -- requests that are left. Of another status nothing more is said.
-pub record SaysOfInput (version : Version) (taken : ℕ) (ahead : List ℕ) (line skipped : ℕ)
-    (flaw : Option LineFlaw) (status : Status) (old : PrinterState) (answered : Status)
-    (new : PrinterState) : Type 0 where
+pub record SaysOfInput (left : InputLeft) (status : Status) (old : PrinterState)
+    (answered : Status) (new : PrinterState) : Type 0 where
   pub refused : status ≡ exit.BadLine
-      → SaysText (place_line line ++ flaw_line version flaw) exit.BadLine old answered new
-  pub over : status ≡ exit.Done → (between : PrinterState) × TellsSkipped skipped old between
-      × SaysUntaken (text_limit version) taken ahead between answered new
+      → SaysText (place_line left.line ++ flaw_line left.version left.flaw) exit.BadLine old
+      answered new
+  pub over : status ≡ exit.Done → (between : PrinterState) × TellsSkipped left.skipped old between
+      × SaysUntaken (text_limit left.version) left.taken left.ahead between answered new
   pub others : status ≢ exit.BadLine → status ≢ exit.Done → (answered ≡ status) × (new ≡ old)

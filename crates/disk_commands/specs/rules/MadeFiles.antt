@@ -19,55 +19,57 @@ use Rattle.command_words.specs.rules.Preparations.{IsPreparedAs, IsUnprepared}
 use Rattle.command_words.specs.rules.Preparations.{config_as, passed_by, status_unprepared}
 use Rattle.command_words.specs.rules.Entries.{entry_text}
 use Rattle.command_words.specs.rules.ModuleLimits.{SaysLimit}
-use Rattle.command_words.specs.rules.Printers.{PrinterState, IsSaid, SaysText}
+use Rattle.command_words.specs.rules.Printers.{PrinterState, Printers, IsSaid, SaysText}
 use Rattle.command_words.specs.rules.Reports.{SaysLine}
 use Rattle.command_words.specs.rules.Verdicts.{SaysMore}
 use Rattle.command_words.specs.declared.status.Status.{Status}
 use Rattle.command_words.specs.declared.status.Status.TheVariants as exit
-use Rattle.disk_commands.specs.rules.Creations.{CreatesOn}
+use Rattle.disk_commands.specs.rules.Creations.{CreatesOn, NewDiskValue, new_disk}
 use Rattle.disk_commands.specs.rules.Openings.{open_words}
-use Rattle.disk_commands.specs.rules.SuccessorDisks.{SucceedsDisk}
+use Rattle.disk_commands.specs.rules.SuccessorDisks.{SucceedsDisk, succession_of}
 
 module _ {F : Type 0} (handles : KnownHandles F) (files : KnownFiles F) where
   -- The disk was made in a new file at this path, of as many sectors as are needed, the worker was
   -- created on it, and it was closed. Its file is left there where the status is `Done`, and else
   -- it was to be removed.
-  pub record IsCreatedInFile (path bytes : List ℕ) (prepared : Prepared)
-      (out out' err err' : PrinterState) (status : Status) : Type 0 where
+  pub record IsCreatedInFile (new : NewDiskValue) (before after : Printers) (status : Status)
+      : Type 0 where
     pub disk : FileDisk F
     pub disk' : FileDisk F
-    pub made : IsMadeAt handles files path prepared.sectors disk
+    pub made : IsMadeAt handles files new.path new.prepared.sectors disk
     pub closed : IsTrue (files.closed disk')
-    pub creates : CreatesOn file_medium bytes prepared.config disk disk' out out' err err' status
-    pub keeps : status ≡ exit.Done → IsTrue (files.kept path)
-    pub removes : status ≢ exit.Done → IsTrue (files.removed path)
+    pub creates : CreatesOn file_medium new.bytes new.prepared.config disk disk' before after
+        status
+    pub keeps : status ≡ exit.Done → IsTrue (files.kept new.path)
+    pub removes : status ≢ exit.Done → IsTrue (files.removed new.path)
 
   -- No file is made at this path, or none is left, and it is said why. Or one is made, and the
   -- worker created on it.
-  abbrev pub CreatesFile : List ℕ → List ℕ → Prepared → PrinterState → PrinterState
-      → PrinterState → PrinterState → Status → Type 0
-  CreatesFile path bytes prepared out out' err err' status =
-      ((why : OpenFault) × IsUnmade handles files path prepared.sectors why
-      × SaysLine (open_words path why) exit.IoError err status err' × (out' ≡ out))
-      ⊎ IsCreatedInFile path bytes prepared out out' err err' status
+  abbrev pub CreatesFile : NewDiskValue → Printers → Printers → Status → Type 0
+  CreatesFile new before after status =
+      ((why : OpenFault) × IsUnmade handles files new.path new.prepared.sectors why
+      × SaysLine (open_words new.path why) exit.IoError before.err status after.err
+      × (after.out ≡ before.out))
+      ⊎ IsCreatedInFile new before after status
 
   -- The disk is on the block device at this path, of as many sectors as are needed, the worker was
   -- created on it, and it was closed.
-  pub record IsCreatedOnDevice (path bytes : List ℕ) (prepared : Prepared)
-      (out out' err err' : PrinterState) (status : Status) : Type 0 where
+  pub record IsCreatedOnDevice (new : NewDiskValue) (before after : Printers) (status : Status)
+      : Type 0 where
     pub disk : FileDisk F
     pub disk' : FileDisk F
-    pub taken : IsTakenAt handles files path prepared.sectors disk
+    pub taken : IsTakenAt handles files new.path new.prepared.sectors disk
     pub closed : IsTrue (files.closed disk')
-    pub creates : CreatesOn file_medium bytes prepared.config disk disk' out out' err err' status
+    pub creates : CreatesOn file_medium new.bytes new.prepared.config disk disk' before after
+        status
 
   -- It is said why the path can't be taken. Or the worker is created on the device that it names.
-  abbrev pub CreatesOnDevice : List ℕ → List ℕ → Prepared → PrinterState → PrinterState
-      → PrinterState → PrinterState → Status → Type 0
-  CreatesOnDevice path bytes prepared out out' err err' status =
-      ((why : OpenFault) × IsUntaken handles files path prepared.sectors why
-      × SaysLine (open_words path why) exit.IoError err status err' × (out' ≡ out))
-      ⊎ IsCreatedOnDevice path bytes prepared out out' err err' status
+  abbrev pub CreatesOnDevice : NewDiskValue → Printers → Printers → Status → Type 0
+  CreatesOnDevice new before after status =
+      ((why : OpenFault) × IsUntaken handles files new.path new.prepared.sectors why
+      × SaysLine (open_words new.path why) exit.IoError before.err status after.err
+      × (after.out ≡ before.out))
+      ⊎ IsCreatedOnDevice new before after status
 
 -- ---- as the words say
 
@@ -93,28 +95,23 @@ pub record SaysUnprepared (bytes : List ℕ) (why : Unprepared) (old : PrinterSt
 
 module _ {F : Type 0} (handles : KnownHandles F) (files : KnownFiles F) where
   -- The disk is a device that is there, where the words ask for one, and a new file where not.
-  abbrev pub MakesDisk : Bool → List ℕ → List ℕ → Prepared → PrinterState → PrinterState
-      → PrinterState → PrinterState → Status → Type 0
-  MakesDisk true path bytes prepared out out' err err' status =
-      CreatesOnDevice handles files path bytes prepared out out' err err' status
-  MakesDisk false path bytes prepared out out' err err' status =
-      CreatesFile handles files path bytes prepared out out' err err' status
+  abbrev pub MakesDisk : Bool → NewDiskValue → Printers → Printers → Status → Type 0
+  MakesDisk true new before after status = CreatesOnDevice handles files new before after status
+  MakesDisk false new before after status = CreatesFile handles files new before after status
 
   -- The worker is fresh, or succeeds the one on the disk at this path.
-  abbrev pub MakesOrdered : Option (List ℕ) → Bool → List ℕ → List ℕ → Prepared → PrinterState
-      → PrinterState → PrinterState → PrinterState → Status → Type 0
-  MakesOrdered None on_device path bytes prepared out out' err err' status =
-      MakesDisk on_device path bytes prepared out out' err err' status
-  MakesOrdered (Some from) on_device path bytes prepared out out' err err' status =
-      SucceedsDisk handles files from on_device path bytes prepared out out' err err' status
+  abbrev pub MakesOrdered : Option (List ℕ) → Bool → NewDiskValue → Printers → Printers → Status
+      → Type 0
+  MakesOrdered None on_device new before after status = MakesDisk on_device new before after status
+  MakesOrdered (Some from) on_device new before after status =
+      SucceedsDisk handles files (succession_of from on_device new) before after status
 
   -- It is said why the settings or the module keep a worker from being created, and nothing is
   -- made. Or a worker of these settings is created on the disk of the words.
-  abbrev pub CreatesDisk : CreateMeaning → List ℕ → PrinterState → PrinterState → PrinterState
-      → PrinterState → Status → Type 0
-  CreatesDisk said bytes out out' err err' status =
+  abbrev pub CreatesDisk : CreateMeaning → List ℕ → Printers → Printers → Status → Type 0
+  CreatesDisk said bytes before after status =
       ((why : Unprepared) × IsUnprepared (settings_said said) bytes why
-      × SaysUnprepared bytes why err status err' × (out' ≡ out))
+      × SaysUnprepared bytes why before.err status after.err × (after.out ≡ before.out))
       ⊎ ((prepared : Prepared) × IsPreparedAs (settings_said said) bytes prepared
-      × MakesOrdered said.predecessor said.on_device said.disk bytes prepared out out' err err'
-      status)
+      × MakesOrdered said.predecessor said.on_device (new_disk said.disk bytes prepared)
+      before after status)

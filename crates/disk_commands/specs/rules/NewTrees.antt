@@ -1,9 +1,10 @@
 -- What calls have said of a folder that is made at a path, and of what is made below it (this
 -- project's own). Nobody knows it but by such a call.
-use Rattle.std.specs.Prelude.{◌≡◌, ℕ, Bool, true, List, ◌∷◌, ◌++◌}
+use Rattle.std.specs.Prelude.{◌≡◌, ℕ, Bool, true, false, List, ◌∷◌, ◌++◌, Contains}
 use Rattle.std.specs.declared.io.ErrorKind.{ErrorKind}
-use Rattle.file_tree.specs.rules.Files.{slash}
-use Rattle.file_listing.specs.rules.Listed.{IsPathText}
+use Rattle.file_tree.specs.rules.Files.{Files, bytes_of_node, slash}
+use Rattle.file_listing.specs.declared.listed.ListedNode.{ListedNode}
+use Rattle.file_listing.specs.rules.Listed.{IsPathText, listing_in}
 
 -- of paths
 pub record KnownTrees : Type 0 where
@@ -33,6 +34,22 @@ all_said_of_trees = record {
 -- a path behind that of a folder
 abbrev pub below : List ℕ → List ℕ → List ℕ
 below folder text = folder ++ slash ∷ text
+
+-- This node of a tree has that path behind the folder's.
+pub record IsListedBelow (fs : Files) (folder path : List ℕ) (node : ListedNode) : Type 0 where
+  pub listed : Contains (listing_in fs) node
+  pub is : path ≡ below folder node.path
+
+-- the path is that of a directory of the tree
+abbrev pub IsFolderOf : Files → List ℕ → List ℕ → Type 0
+IsFolderOf fs folder path =
+    (node : ListedNode) × IsListedBelow fs folder path node × (node.is_directory ≡ true)
+
+-- the path is that of a file of the tree, and these are its bytes
+abbrev pub IsFileOf : Files → List ℕ → List ℕ → List ℕ → Type 0
+IsFileOf fs folder path bytes =
+    (node : ListedNode) × IsListedBelow fs folder path node × (node.is_directory ≡ false)
+    × (bytes ≡ bytes_of_node fs node.number)
 
 -- The path leads into the folder. What is behind the folder's own path are names that a node may
 -- have, so none of them is `..`.

@@ -1,6 +1,5 @@
 -- A disk in a file as a command opens it, or why there is none (this project's own).
-use Rattle.std.specs.Prelude.{◌≡◌, ◌≢◌, ◌<◌, ◌⊎◌, ◌++◌, List, ℕ, Bool, true, false, codes}
-use Rattle.std.specs.Prelude.{IsTrue}
+use Rattle.std.specs.Prelude.{◌≡◌, ◌≢◌, ◌<◌, ◌⊎◌, ◌++◌, List, ℕ, Bool, true, false, codes, IsTrue}
 use Rattle.std.specs.declared.io.ErrorKind.{ErrorKind}
 use Rattle.std.specs.declared.io.ErrorKind.TheVariants.{OutOfMemory}
 use Rattle.sector_disk.specs.declared.file.FileDisk.{FileDisk}
@@ -15,13 +14,14 @@ use Rattle.sector_disk.specs.rules.Causes.{open_cause}
 use Rattle.sector_disk.specs.rules.Known.{KnownFiles, KnownHandles}
 use Rattle.sector_disk.specs.rules.Open.{IsOpenedAt, IsUnopenedAt}
 use Rattle.sector_disk.specs.rules.Rewrite.{AddsNothing}
-use Rattle.command_words.specs.rules.Printers.{PrinterState}
+use Rattle.command_words.specs.rules.Printers.{PrinterState, Printers}
 use Rattle.command_words.specs.rules.Reports.{SaysLine, obstacle_words}
 use Rattle.command_words.specs.declared.telling.Obstacle.TheVariants.{Memory, Unread}
 use Rattle.command_words.specs.declared.status.Status.{Status}
 use Rattle.command_words.specs.declared.status.Status.TheVariants as exit
 
--- what the operating system says of a path, in the words of its library
+-- What the operating system says of a path, in the words of its library. What has no sectors has
+-- words of its own.
 abbrev pub cause_words : OpenCause → List ℕ
 cause_words cause.Folder = codes "is a directory"
 cause_words cause.NoFolder = codes "not a directory"
@@ -35,6 +35,7 @@ cause_words cause.TooLarge = codes "file too large"
 cause_words cause.LongName = codes "file name too long"
 cause_words cause.Loop = codes "too many levels of symbolic links"
 cause_words cause.NoDevice = codes "block device required"
+cause_words cause.NoSectors = codes "neither a regular file nor a block device"
 cause_words cause.Other = codes "the system failed"
 
 -- The fault, and on a line of its own the path and what the operating system says of it, or that
@@ -52,6 +53,18 @@ SaysUnread path kind old status new =
     ((kind ≡ OutOfMemory) × SaysLine (obstacle_words Memory) exit.OutOfMemory old status new)
     ⊎ ((kind ≢ OutOfMemory)
     × SaysLine (open_words path (opening.Io (open_cause kind))) exit.IoError old status new)
+
+-- ---- the run of a command
+
+-- the run of a command: its printers before and after, and its exit status
+pub record CommandRun : Type 0 where
+  pub before : Printers
+  pub after : Printers
+  pub status : Status
+
+-- of these
+abbrev pub command_run : Printers → Printers → Status → CommandRun
+command_run before after status = record { before = before; after = after; status = status }
 
 -- ---- the disk of a command
 

@@ -7,8 +7,7 @@ use Rattle.sector_disk.specs.declared.copying.CopyFault.{CopyFault}
 use Rattle.sector_disk.specs.declared.file.FileDisk.{FileDisk}
 use Rattle.sector_disk.specs.declared.memory.MemDisk.{MemDisk}
 use Rattle.sector_disk.specs.declared.open_fault.OpenFault.{OpenFault}
-use Rattle.sector_disk.specs.rules.Copying.{FailsToCopy, IsCopied, WasOnlyRead}
-use Rattle.sector_disk.specs.rules.Copying.{copying_writes}
+use Rattle.sector_disk.specs.rules.Copying.{FailsToCopy, IsCopied, WasOnlyRead, copying_writes}
 use Rattle.sector_disk.specs.rules.DiskImage.{DiskImage, zeros}
 use Rattle.sector_disk.specs.rules.File.{file_medium}
 use Rattle.sector_disk.specs.rules.Known.{KnownFiles, KnownHandles}
@@ -21,13 +20,13 @@ use Rattle.worker.specs.declared.inspection.Inspection.{Inspection}
 use Rattle.worker.specs.declared.recover_fault.RecoverFault.{RecoverFault}
 use Rattle.worker.specs.rules.Inspections.{Inspects}
 use Rattle.command_words.specs.declared.telling.Obstacle.TheVariants.{Unread}
-use Rattle.command_words.specs.rules.Printers.{PrinterState}
+use Rattle.command_words.specs.rules.Printers.{Printers}
 use Rattle.command_words.specs.rules.Reports.{SaysLine, SaysOnOutput, obstacle_words}
 use Rattle.command_words.specs.declared.status.Status.{Status}
 use Rattle.command_words.specs.declared.status.Status.TheVariants as exit
 use Rattle.disk_commands.specs.rules.Inspectings.{SaysRefusal}
 use Rattle.disk_commands.specs.rules.LivePictures.{IsPictureAt, SaysUnseen}
-use Rattle.disk_commands.specs.rules.Openings.{SaysUnopened, open_words}
+use Rattle.disk_commands.specs.rules.Openings.{CommandRun, SaysUnopened, open_words}
 
 -- the line that is printed of a copy
 abbrev pub saved_line : ℕ → List ℕ
@@ -41,17 +40,17 @@ LeavesNoneOrCopy original old new = (shown : DiskImage) → original.shows shown
     → LeavesOnly old new (λ image. (HasMarks image → ⊥) ⊎ (image ≡ take old.sectors shown))
 
 -- the copy was made, and how many sectors it has is said; or a disk has failed, and that is
-abbrev pub SaysCopied : ℕ → Result (Unit {0}) CopyFault → PrinterState → PrinterState
-    → PrinterState → PrinterState → Status → Type 0
-SaysCopied sectors (Ok done) out out' err err' status =
-    SaysOnOutput (saved_line sectors) exit.Done out out' err err' status
-SaysCopied sectors (Err why) out out' err err' status =
-    SaysLine (obstacle_words Unread) exit.IoError err status err' × (out' ≡ out)
+abbrev pub SaysCopied : ℕ → Result (Unit {0}) CopyFault → Printers → Printers → Status → Type 0
+SaysCopied sectors (Ok done) before after status =
+    SaysOnOutput (saved_line sectors) exit.Done before after status
+SaysCopied sectors (Err why) before after status =
+    SaysLine (obstacle_words Unread) exit.IoError before.err status after.err
+    × (after.out ≡ before.out)
 
 -- As many sectors of the original as the copy has were copied. Then each cut leaves the copy whole.
 -- Or it is said that a disk has failed.
-pub record SavesCopy (original original' copy copy' : Medium)
-    (out out' err err' : PrinterState) (status : Status) : Type 0 where
+pub record SavesCopy (original original' copy copy' : Medium) (before after : Printers)
+    (status : Status) : Type 0 where
   pub answer : Result (Unit {0}) CopyFault
   pub copied : OnOk answer (IsCopied original' copy')
   pub all_synced : OnOk answer (IsAllSynced copy')
@@ -59,67 +58,67 @@ pub record SavesCopy (original original' copy copy' : Medium)
   pub only_read : WasOnlyRead copy.sectors original original'
   pub calls : PerformsCalls (copying_writes copy.sectors) answer copy copy'
   pub cause : IfErr answer (FailsToCopy original original' copy copy')
-  pub says : SaysCopied copy.sectors answer out out' err err' status
+  pub says : SaysCopied copy.sectors answer before after status
 
 module _ {F : Type 0} (handles : KnownHandles F) (files : KnownFiles F) (path : List ℕ) where
   -- A file was made at this path, of so many sectors, and the disk copied there. It is left there
   -- where the status is `Done`, and else it was to be removed.
-  pub record IsSavedInFile (sectors : ℕ) (original original' : Medium)
-      (out out' err err' : PrinterState) (status : Status) : Type 0 where
+  pub record IsSavedInFile (sectors : ℕ) (original original' : Medium) (run : CommandRun)
+      : Type 0 where
     pub copy : FileDisk F
     pub copy' : FileDisk F
     pub made : IsMadeAt handles files path sectors copy
     pub closed : IsTrue (files.closed copy')
-    pub saves : SavesCopy original original' (file_medium copy) (file_medium copy') out out' err
-        err' status
-    pub keeps : status ≡ exit.Done → IsTrue (files.kept path)
-    pub removes : status ≢ exit.Done → IsTrue (files.removed path)
+    pub saves : SavesCopy original original' (file_medium copy) (file_medium copy') run.before
+        run.after run.status
+    pub keeps : run.status ≡ exit.Done → IsTrue (files.kept path)
+    pub removes : run.status ≢ exit.Done → IsTrue (files.removed path)
 
   -- No file is made at this path, or none is left, and it is said why. The disk wasn't read. Or one
   -- is made, and the disk copied there.
-  abbrev pub MakesCopy : ℕ → Medium → Medium → PrinterState → PrinterState → PrinterState
-      → PrinterState → Status → Type 0
-  MakesCopy sectors original original' out out' err err' status =
+  abbrev pub MakesCopy : ℕ → Medium → Medium → CommandRun → Type 0
+  MakesCopy sectors original original' run =
       ((why : OpenFault) × IsUnmade handles files path sectors why
       × WasOnlyRead 0 original original'
-      × SaysLine (open_words path why) exit.IoError err status err' × (out' ≡ out))
-      ⊎ IsSavedInFile sectors original original' out out' err err' status
+      × SaysLine (open_words path why) exit.IoError run.before.err run.status run.after.err
+      × (run.after.out ≡ run.before.out))
+      ⊎ IsSavedInFile sectors original original' run
 
   -- What is said of a disk that was looked into, and done then. All sectors of a worker's disk are
   -- copied to a new file. One that is refused isn't read further.
   abbrev pub SavesTold : {D : Type 0} → (D → Medium) → Result Inspection RecoverFault → D → D
-      → PrinterState → PrinterState → PrinterState → PrinterState → Status → Type 0
-  SavesTold medium (Ok told) disk disk' out out' err err' status =
-      MakesCopy (total_sectors told.contents.geometry) (medium disk) (medium disk') out out' err
-      err' status
-  SavesTold medium (Err why) disk disk' out out' err err' status =
-      (disk' ≡ disk) × SaysRefusal why out out' err err' status
+      → CommandRun → Type 0
+  SavesTold medium (Ok told) disk disk' run =
+      MakesCopy (total_sectors told.contents.geometry) (medium disk) (medium disk') run
+  SavesTold medium (Err why) disk disk' run =
+      (disk' ≡ disk) × SaysRefusal why run.before run.after run.status
 
   -- the disk is synced, and looked into
-  abbrev pub SavesInspected : {D : Type 0} → (D → Medium) → D → D → PrinterState → PrinterState
-      → PrinterState → PrinterState → Status → Type 0
-  SavesInspected {D} medium disk disk' out out' err err' status =
+  abbrev pub SavesInspected : {D : Type 0} → (D → Medium) → D → D → CommandRun → Type 0
+  SavesInspected {D} medium disk disk' run =
       (answer : Result Inspection RecoverFault) × (read : D)
       × Inspects answer (medium disk) (medium read)
-      × SavesTold medium answer read disk' out out' err err' status
+      × SavesTold medium answer read disk' run
 
 module _ {F : Type 0} (handles : KnownHandles F) (files : KnownFiles F) (path copy : List ℕ)
-    (out out' err err' : PrinterState) (status : Status) where
+    (run : CommandRun) where
   -- The disk at the first path is opened, and its worker saved at the second one. Or it is said why
   -- no disk is opened.
   abbrev pub SavesOpened : Type 0
   SavesOpened =
       ((disk : FileDisk F) × (disk' : FileDisk F) × IsOpenedAt handles files path disk
       × IsTrue (files.closed disk')
-      × SavesInspected handles files copy file_medium disk disk' out out' err err' status)
-      ⊎ (SaysUnopened handles files false path err status err' × (out' ≡ out))
+      × SavesInspected handles files copy file_medium disk disk' run)
+      ⊎ (SaysUnopened handles files false path run.before.err run.status run.after.err
+      × (run.after.out ≡ run.before.out))
 
   -- A picture of it is had, and its worker saved there. Or it is said why there is no picture.
   abbrev pub SavesPicture : Type 0
   SavesPicture =
       ((picture : MemDisk) × (picture' : MemDisk) × IsPictureAt handles files path (Ok picture)
-      × SavesInspected handles files copy memory_medium picture picture' out out' err err' status)
-      ⊎ (SaysUnseen handles files path err status err' × (out' ≡ out))
+      × SavesInspected handles files copy memory_medium picture picture' run)
+      ⊎ (SaysUnseen handles files path run.before.err run.status run.after.err
+      × (run.after.out ≡ run.before.out))
 
   -- the disk is saved while it is live, or while nobody else has it
   abbrev pub SavesFile : Bool → Type 0

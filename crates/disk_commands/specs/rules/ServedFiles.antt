@@ -6,11 +6,9 @@ use Rattle.sector_disk.specs.rules.File.{file_medium}
 use Rattle.sector_disk.specs.rules.Known.{KnownFiles, KnownHandles}
 use Rattle.sector_disk.specs.rules.Medium.{Medium}
 use Rattle.sector_disk.specs.rules.Open.{IsOpenedAt}
-use Rattle.wasi_abi.specs.declared.version.Version.{Version}
 use Rattle.record_replay.specs.rules.Calls.{Taking}
-use Rattle.command_words.specs.declared.lines.flaw.LineFlaw.{LineFlaw}
 use Rattle.command_words.specs.rules.Commands.{RunMeaning}
-use Rattle.command_words.specs.rules.Printers.{PrinterState, read_along}
+use Rattle.command_words.specs.rules.Printers.{PrinterState, Printers, read_along}
 use Rattle.command_words.specs.rules.Prints.{printing}
 use Rattle.command_words.specs.rules.Reports.{SaysOnOutput}
 use Rattle.command_words.specs.declared.status.Status.{Status}
@@ -18,15 +16,14 @@ use Rattle.command_words.specs.declared.status.Status.TheVariants as exit
 use Rattle.disk_commands.specs.declared.on_disk.found_file.FoundFile.{FoundFile}
 use Rattle.disk_commands.specs.declared.on_disk.running.RunJob.{RunJob}
 use Rattle.disk_commands.specs.declared.on_disk.upgrading.Upgraded.{Upgraded}
-use Rattle.disk_commands.specs.rules.Leavings.{SaysOfInput}
+use Rattle.disk_commands.specs.rules.Leavings.{InputLeft, SaysOfInput}
 use Rattle.disk_commands.specs.rules.Openings.{IsOpenedFor, SaysUnopened}
 use Rattle.disk_commands.specs.rules.StatusFiles.{SaysUnwatchable, path_named}
 use Rattle.disk_commands.specs.rules.Refusals.{HeedsRefusal}
 use Rattle.disk_commands.specs.rules.SeedFiles.{IsSeedFrom, SaysSeedless}
 use Rattle.disk_commands.specs.rules.ServedOnDisk.{DiskJob, ServesOnDisk, disk_job}
-use Rattle.disk_commands.specs.rules.ServedOnDisk.{RunStart, run_start, run_end}
-use Rattle.disk_commands.specs.rules.Upgradings.{UpgradesOnDisk, status_so_far}
-use Rattle.disk_commands.specs.rules.Upgradings.{upgraded_words}
+use Rattle.disk_commands.specs.rules.ServedOnDisk.{Outputs, RunStart, outputs, run_start, run_end}
+use Rattle.disk_commands.specs.rules.Upgradings.{UpgradesOnDisk, status_so_far, upgraded_words}
 
 -- ---- a run
 
@@ -56,22 +53,27 @@ abbrev pub job_given : RunJob → Option (List ℕ) → Bool → DiskJob
 job_given job lines failed = disk_job (non_zero_u64_get job.pace.fuel)
     (non_zero_u64_get job.pace.every) (non_zero_u64_get job.pace.batch) lines job.outside failed
 
+-- what a run reads: the lines of a reader, and whether a read of it has failed
+pub record RunInput : Type 0 where
+  pub lines : Option (List ℕ)
+  pub failed : Bool
+
+-- an input of these
+abbrev pub run_input : Option (List ℕ) → Bool → RunInput
+run_input lines failed = record { lines = lines; failed = failed }
+
 module _ {D O : Type 0} (medium : D → Medium) (takes : Taking O) (before : RunStart D O)
-    (disk' : D) (outlet' : O) (err' : PrinterState) (status : Status) where
+    (disk' : D) (after : Outputs O) (status : Status) where
   -- The worker is served. Then it is said what is left of the input.
   pub record ServesToEnd : Type 0 where
     pub failed' : Bool
     pub between : PrinterState
     pub served : Status
-    pub serves : ServesOnDisk medium takes before (run_end disk' outlet' between failed') served
-    pub heeds : HeedsRefusal takes before.outlet outlet' between served
-    pub version : Version
-    pub taken : ℕ
-    pub ahead : List ℕ
-    pub line : ℕ
-    pub skipped : ℕ
-    pub flaw : Option LineFlaw
-    pub says : SaysOfInput version taken ahead line skipped flaw served between status err'
+    pub serves : ServesOnDisk medium takes before (run_end disk' after.outlet between failed')
+        served
+    pub heeds : HeedsRefusal takes before.outlet after.outlet between served
+    pub left : InputLeft
+    pub says : SaysOfInput left served between status after.err
 
 -- It is said why there is no file at one of these paths, of those that are named: by what was found
 -- there or beside it, or by an error of the system.
@@ -83,60 +85,60 @@ SaysNoStatusFile path metrics err status err' =
 
 -- It is said why there is no such file, and nothing else is done. Or the worker is served.
 abbrev pub RunsJob : {D O : Type 0} → (D → Medium) → Taking O → Option (List ℕ)
-    → Option (List ℕ) → RunStart D O → D → O → PrinterState → Status → Type 0
-RunsJob medium takes path metrics before disk' outlet' err' status =
-    (SaysNoStatusFile path metrics before.err status err' × (disk' ≡ before.disk)
-    × (outlet' ≡ before.outlet))
-    ⊎ ServesToEnd medium takes before disk' outlet' err' status
+    → Option (List ℕ) → RunStart D O → D → Outputs O → Status → Type 0
+RunsJob medium takes path metrics before disk' after status =
+    (SaysNoStatusFile path metrics before.err status after.err × (disk' ≡ before.disk)
+    × (after.outlet ≡ before.outlet))
+    ⊎ ServesToEnd medium takes before disk' after status
 
 -- It is said why the seed or the disk keeps it from running, and no line is released. Or the disk
 -- was opened as the words say, their job was done on it, and it was closed. Where they ask for it
 -- the error output is told what a person is told.
 pub data RunsFile {F O : Type 0} (handles : KnownHandles F) (files : KnownFiles F)
-    (takes : Taking O) (said : RunMeaning) (lines : Option (List ℕ)) (failed : Bool)
-    (outlet outlet' : O) (err err' : PrinterState) (status : Status) : Type 0 where
-  seedless : SaysSeedless said.seed_file said.seed err status err' → outlet' ≡ outlet
-      → RunsFile handles files takes said lines failed outlet outlet' err err' status
-  unopened : SaysUnopened handles files said.rewrites said.disk err status err'
-      → outlet' ≡ outlet
-      → RunsFile handles files takes said lines failed outlet outlet' err err' status
+    (takes : Taking O) (said : RunMeaning) (input : RunInput) (before after : Outputs O)
+    (status : Status) : Type 0 where
+  seedless : SaysSeedless said.seed_file said.seed before.err status after.err
+      → after.outlet ≡ before.outlet
+      → RunsFile handles files takes said input before after status
+  unopened : SaysUnopened handles files said.rewrites said.disk before.err status after.err
+      → after.outlet ≡ before.outlet
+      → RunsFile handles files takes said input before after status
   opened : (job : RunJob) → IsJobOf said job → (disk : FileDisk F) (disk' : FileDisk F)
       → IsOpenedFor handles files said.rewrites said.disk disk → IsTrue (files.closed disk')
       → RunsJob file_medium takes said.status said.metrics
-      (run_start (job_given job lines failed) disk outlet (read_along said.is_verbose err)) disk'
-      outlet' err' status
-      → RunsFile handles files takes said lines failed outlet outlet' err err' status
+      (run_start (job_given job input.lines input.failed) disk before.outlet
+      (read_along said.is_verbose before.err)) disk' after status
+      → RunsFile handles files takes said input before after status
 
 -- ---- an upgrade
 
 -- Of a worker that is of version 2 that is said on the output. Else the status is that of the
 -- error, and nothing more is said.
-abbrev pub SaysUpgraded : Result Upgraded Status → PrinterState → PrinterState → PrinterState
-    → PrinterState → Status → Type 0
-SaysUpgraded (Ok upgraded) out out' err err' status =
-    SaysOnOutput (upgraded_words upgraded) exit.Done out out' err err' status
-SaysUpgraded (Err fault) out out' err err' status =
-    (status ≡ fault) × (out' ≡ out) × (err' ≡ err)
+abbrev pub SaysUpgraded : Result Upgraded Status → Printers → Printers → Status → Type 0
+SaysUpgraded (Ok upgraded) before after status =
+    SaysOnOutput (upgraded_words upgraded) exit.Done before after status
+SaysUpgraded (Err fault) before after status =
+    (status ≡ fault) × (after.out ≡ before.out) × (after.err ≡ before.err)
 
 module _ {F : Type 0} (handles : KnownHandles F) (files : KnownFiles F) where
   -- The disk was opened at this path, and not written back. Its worker was brought to version 2,
   -- with its lines on the output, or that has failed. Then it was closed, and the result is said.
-  pub record UpgradesOpened (path : List ℕ) (out out' err err' : PrinterState) (status : Status)
+  pub record UpgradesOpened (path : List ℕ) (before after : Printers) (status : Status)
       : Type 0 where
     pub disk : FileDisk F
     pub disk' : FileDisk F
     pub at : IsOpenedAt handles files path disk
     pub closed : IsTrue (files.closed disk')
     pub upgraded : Result Upgraded Status
-    pub told : PrinterState
-    pub between : PrinterState
-    pub upgrades : UpgradesOnDisk file_medium printing upgraded disk disk' out told err between
-    pub heeds : HeedsRefusal printing out told between (status_so_far upgraded)
-    pub says : SaysUpgraded upgraded told out' between err' status
+    pub between : Printers
+    pub upgrades : UpgradesOnDisk file_medium printing upgraded disk disk'
+        (outputs before.out before.err) (outputs between.out between.err)
+    pub heeds : HeedsRefusal printing before.out between.out between.err (status_so_far upgraded)
+    pub says : SaysUpgraded upgraded between after status
 
   -- So it was. Or it is said why none was opened.
-  abbrev pub UpgradesFile : List ℕ → PrinterState → PrinterState → PrinterState → PrinterState
-      → Status → Type 0
-  UpgradesFile path out out' err err' status =
-      UpgradesOpened path out out' err err' status
-      ⊎ (SaysUnopened handles files false path err status err' × (out' ≡ out))
+  abbrev pub UpgradesFile : List ℕ → Printers → Printers → Status → Type 0
+  UpgradesFile path before after status =
+      UpgradesOpened path before after status
+      ⊎ (SaysUnopened handles files false path before.err status after.err
+      × (after.out ≡ before.out))

@@ -17,7 +17,8 @@ use Rattle.worker.specs.rules.LifeWords.{Act, by_recovery}
 use Rattle.worker.specs.rules.Outlets.{HeedsOutlet, IsOutletFault, SaysOutletFault}
 use Rattle.worker.specs.rules.Effects.{RecoversWorker}
 use Rattle.worker.specs.rules.Recoveries.{IsNoWorker, IsJustSynced}
-use Rattle.worker.specs.rules.OneLife.{IsOneLife}
+use Rattle.worker.specs.rules.OneLife.{IsOneLife, one_life, recipe}
+use Rattle.worker.specs.rules.Scenes.{scene, surroundings}
 use Rattle.command_words.specs.declared.lines.outside.Outside.{Outside}
 use Rattle.command_words.specs.Lines.Answers.{SourceState, source_state, HandsNext}
 use Rattle.command_words.specs.rules.Printers.{PrinterState, IsSaid, TellsPerson}
@@ -25,8 +26,7 @@ use Rattle.command_words.specs.rules.Texts.{named_number}
 use Rattle.command_words.specs.declared.status.Status.{Status}
 use Rattle.disk_commands.specs.declared.on_disk.fault.OnDiskFault.{OnDiskFault}
 use Rattle.disk_commands.specs.rules.BrokenLives.{BreaksOffFrom, steps_among}
-use Rattle.disk_commands.specs.rules.DiskStatuses.{IsReportedOnDisk, opening_fault}
-use Rattle.disk_commands.specs.rules.DiskStatuses.{status_on_disk}
+use Rattle.disk_commands.specs.rules.DiskStatuses.{IsReportedOnDisk, opening_fault, status_on_disk}
 use Rattle.worker.specs.rules.Outcomes.{life_outcome}
 use Rattle.disk_commands.specs.rules.Hearings.{AsksUnless, MayRefuse}
 use Rattle.disk_commands.specs.rules.Paces.{act_at, IsPaced}
@@ -91,6 +91,16 @@ run_end disk outlet err failed = record {
   failed = failed;
 }
 
+-- where a command on a disk tells something: the outlet of the worker's lines, and the printer of
+-- its last words
+pub record Outputs (O : Type 0) : Type 0 where
+  pub outlet : O
+  pub err : PrinterState
+
+-- these two
+abbrev pub outputs : {O : Type 0} → O → PrinterState → Outputs O
+outputs outlet err = record { outlet = outlet; err = err }
+
 -- Where the source of a worker is that was just opened: after the requests that the worker has
 -- taken, and before the first word of the seed's stream of its generation. The text of a request
 -- may be as long as the worker's version has it.
@@ -120,8 +130,9 @@ pub record IsUnopenedRun {D O : Type 0} (medium : D → Medium) (takes : Taking 
   pub none : IsNoWorker why → IsOnlySynced medium found last outlet outlet'
   pub life : (IsNoWorker why → ⊥) → (image : DiskImage) → (medium last).crash_images image
       → (bytes : List ℕ) (config : Settings) (acts : List Act) (source : SourceState)
-      → IsOneLife medium handing takes bytes config acts found source outlet by_recovery None
-      (Err why) last source outlet'
+      → IsOneLife medium handing takes (recipe bytes config) acts
+      (surroundings found source outlet)
+      (one_life by_recovery None (Err why) (surroundings last source outlet'))
   pub heeded : HeedsOutlet takes (IsOutletFault why) outlet outlet'
 
 -- The worker was recovered. Then this disk and this outlet were left, to which some lines were told
@@ -142,9 +153,9 @@ pub record LivesOnDisk {D O : Type 0} (medium : D → Medium) (takes : Taking O)
   pub heeded : HeedsOutlet takes (SaysOutletFault undone) before.outlet after.outlet
   pub life : (image : DiskImage) → (medium opening).crash_images image
       → (bytes : List ℕ) (config : Settings)
-      → IsOneLife medium handing takes bytes config acts before.disk
-      (source_behind before.given worker) before.outlet by_recovery (Some worker) undone after.disk
-      source' after.outlet
+      → IsOneLife medium handing takes (recipe bytes config) acts
+      (surroundings before.disk (source_behind before.given worker) before.outlet)
+      (one_life by_recovery (Some worker) undone (surroundings after.disk source' after.outlet))
 
 -- The last act of that life has answered this.
 abbrev pub HasOutcome : {D O : Type 0} {medium : D → Medium} {takes : Taking O}
@@ -160,9 +171,9 @@ abbrev pub HasBrokenOff : {D O : Type 0} {medium : D → Medium} {takes : Taking
     {source' : SourceState} → LivesOnDisk medium takes undone before after source'
     → WorkFault → Type 0
 HasBrokenOff {takes = takes} {before = before} {after = after} {source' = source'} lives why =
-    BreaksOffFrom handing takes lives.worker.process (act_given before.given)
-    (steps_among lives.acts) why (source_behind before.given lives.worker) source' lives.retold
-    after.outlet
+    BreaksOffFrom handing takes (act_given before.given) (steps_among lives.acts)
+    (scene lives.worker lives.opening (source_behind before.given lives.worker) lives.retold) why
+    source' after.outlet
 
 -- ---- what a person is told
 

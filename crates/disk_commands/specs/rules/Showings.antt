@@ -5,7 +5,7 @@ use Rattle.sector_disk.specs.rules.Medium.{Medium}
 use Rattle.worker.specs.declared.recover_fault.RecoverFault.{RecoverFault}
 use Rattle.worker.specs.declared.surveyed.Survey.{Survey}
 use Rattle.worker.specs.rules.Surveys.{Surveys}
-use Rattle.command_words.specs.rules.Printers.{PrinterState, IsSaid, SaysText}
+use Rattle.command_words.specs.rules.Printers.{PrinterState, Printers, IsSaid, SaysText}
 use Rattle.command_words.specs.rules.Texts.{named_number}
 use Rattle.command_words.specs.declared.status.Status.{Status}
 use Rattle.command_words.specs.declared.status.Status.TheVariants as exit
@@ -27,19 +27,19 @@ SaysSurvey survey old status new = SaysText (survey_line survey) exit.Done old s
 
 -- A survey is said, and nothing on the error output. Of a fault the status is told there, or
 -- `Unwritten` where a write has failed, and nothing is printed on the output.
-abbrev pub SaysResult : Result Survey RecoverFault → PrinterState → PrinterState → PrinterState
-    → PrinterState → Status → Type 0
-SaysResult (Ok survey) out out' err err' status =
-    SaysSurvey survey out status out' × (err' ≡ err)
-SaysResult (Err why) out out' err err' status =
-    IsSaid (status_on_disk (opening_fault why)) err status err' × (out' ≡ out)
+abbrev pub SaysResult : Result Survey RecoverFault → Printers → Printers → Status → Type 0
+SaysResult (Ok survey) before after status =
+    SaysSurvey survey before.out status after.out × (after.err ≡ before.err)
+SaysResult (Err why) before after status =
+    IsSaid (status_on_disk (opening_fault why)) before.err status after.err
+    × (after.out ≡ before.out)
 
 -- The disk was surveyed, and the result is said.
-pub record ShowsDisk (disk disk' : Medium) (out out' err err' : PrinterState) (status : Status)
+pub record ShowsDisk (disk disk' : Medium) (before after : Printers) (status : Status)
     : Type 0 where
   pub result : Result Survey RecoverFault
   pub surveys : Surveys result disk disk'
-  pub says : SaysResult result out out' err err' status
+  pub says : SaysResult result before after status
 
 -- It has this survey. Then its line is printed (0) or a write of it has failed (7), or the disk has
 -- failed (4), or memory was refused (5), or a write of what is told of these has failed (7).

@@ -21,15 +21,15 @@ use Rattle.worker.specs.declared.leave_fault.LeaveFault.{LeaveFault}
 use Rattle.worker.specs.declared.leave_fault.LeaveFault.TheVariants as leave
 use Rattle.worker.specs.rules.Successions.{IsCreatedFrom, ReadsLegacy, SuccessionCalls}
 use Rattle.worker.specs.rules.Successions.{SuccessionKeeps}
-use Rattle.command_words.specs.declared.preparing.Prepared.{Prepared}
 use Rattle.command_words.specs.declared.telling.Obstacle.TheVariants.{Unwritten}
 use Rattle.command_words.specs.rules.Preparations.{disk_sectors}
-use Rattle.command_words.specs.rules.Printers.{PrinterState, HeedsBoth, IsSaid}
+use Rattle.command_words.specs.rules.Printers.{PrinterState, Printers, HeedsBoth, IsSaid}
 use Rattle.command_words.specs.rules.Reports.{SaysLine, obstacle_words}
 use Rattle.command_words.specs.rules.Texts.{named_number}
 use Rattle.command_words.specs.declared.status.Status.{Status}
 use Rattle.command_words.specs.declared.status.Status.TheVariants as exit
-use Rattle.disk_commands.specs.rules.Creations.{HasDiskFailed, IsCreationRefused, created_line}
+use Rattle.disk_commands.specs.rules.Creations.{HasDiskFailed, IsCreationRefused, NewDiskValue}
+use Rattle.disk_commands.specs.rules.Creations.{created_line}
 use Rattle.disk_commands.specs.rules.DiskStatuses.{opening_fault, status_on_disk}
 use Rattle.disk_commands.specs.rules.Openings.{SaysUnopened, open_words}
 
@@ -57,14 +57,23 @@ handover_text sectors left =
 
 -- ---- on the new disk
 
--- The worker of these bytes and this configuration is on the disk, and goes on from what was handed
--- over: that was printed.
-pub record IsSuccessorPrinted (bytes : List ℕ) (config : Settings) (left : Handover)
-    (answer : Result (Unit {0}) WorkFault) (disk : Medium) (out out' : Option (List ℕ))
-    : Type 0 where
+-- a worker that succeeds another one: the bytes of its module, its configuration, and what was
+-- handed over to it
+pub record Successor : Type 0 where
+  pub bytes : List ℕ
+  pub config : Settings
+  pub left : Handover
+
+-- a successor of these
+abbrev pub successor : List ℕ → Settings → Handover → Successor
+successor bytes config left = record { bytes = bytes; config = config; left = left }
+
+-- This worker is on the disk, and goes on from what was handed over: that was printed.
+pub record IsSuccessorPrinted (next : Successor) (answer : Result (Unit {0}) WorkFault)
+    (disk : Medium) (out out' : Option (List ℕ)) : Type 0 where
   pub answered : answer ≡ Ok tt
-  pub created : IsCreatedFrom bytes config disk
-  pub told : Appends out out' (handover_text (disk_sectors config bytes) left)
+  pub created : IsCreatedFrom next.bytes next.config disk
+  pub told : Appends out out' (handover_text (disk_sectors next.config next.bytes) next.left)
 
 -- the module isn't accepted, the disk has too few sectors, or its journal is too small for the
 -- version that was left
@@ -78,22 +87,23 @@ IsSuccessorRefused bytes config left disk = IsCreationRefused bytes config disk
 -- Whatever the status, a cut at any moment leaves no worker on a disk that had none, or this one.
 -- It keeps what is promised of a worker that goes on from what was handed over. The disk takes the
 -- calls of a creation and no other, in their order.
-pub record SucceedsOn {D : Type 0} (medium : D → Medium) (bytes : List ℕ) (config : Settings)
-    (left : Handover) (old new : D) (out out' err err' : PrinterState) (status : Status)
-    : Type 0 where
+pub record SucceedsOn {D : Type 0} (medium : D → Medium) (next : Successor) (old new : D)
+    (before after : Printers) (status : Status) : Type 0 where
   pub answer : Result (Unit {0}) WorkFault
-  pub keeps : SuccessionKeeps bytes config left.legacy answer (medium old) (medium new)
-  pub calls : SuccessionCalls bytes config answer (medium old) (medium new)
+  pub keeps : SuccessionKeeps next.bytes next.config next.left.legacy answer (medium old)
+      (medium new)
+  pub calls : SuccessionCalls next.bytes next.config answer (medium old) (medium new)
   pub made : status ≡ exit.Done
-      → IsSuccessorPrinted bytes config left answer (medium new) out.contents out'.contents
-  pub refused : status ≡ exit.Refused → IsSuccessorRefused bytes config left.legacy (medium old)
-      × (new ≡ old) × (out' ≡ out)
-  pub failed : status ≡ exit.IoError → HasDiskFailed bytes config (medium old) (medium new)
-      × (out' ≡ out)
-  pub starved : status ≡ exit.OutOfMemory → (new ≡ old) × (out' ≡ out)
+      → IsSuccessorPrinted next answer (medium new) before.out.contents after.out.contents
+  pub refused : status ≡ exit.Refused
+      → IsSuccessorRefused next.bytes next.config next.left.legacy (medium old)
+      × (new ≡ old) × (after.out ≡ before.out)
+  pub failed : status ≡ exit.IoError
+      → HasDiskFailed next.bytes next.config (medium old) (medium new) × (after.out ≡ before.out)
+  pub starved : status ≡ exit.OutOfMemory → (new ≡ old) × (after.out ≡ before.out)
   pub unwritten : status ≡ exit.Unwritten
-      → SaysLine (obstacle_words Unwritten) exit.Unwritten err status err'
-  pub heeded : HeedsBoth out out' err err' status
+      → SaysLine (obstacle_words Unwritten) exit.Unwritten before.err status after.err
+  pub heeded : HeedsBoth before after status
   pub known : (status ≡ exit.Done) ⊎ (status ≡ exit.Refused) ⊎ (status ≡ exit.IoError)
       ⊎ (status ≡ exit.OutOfMemory) ⊎ (status ≡ exit.Unwritten)
 
@@ -144,85 +154,96 @@ SaysRoomless config left old status new =
 
 -- ---- the new disk in a file, or on a device
 
+-- what a succession is given: the path of the old disk, whether the new disk is on a device that
+-- is there, and the new disk
+pub record SuccessionValue : Type 0 where
+  pub from : List ℕ
+  pub on_device : Bool
+  pub new : NewDiskValue
+
+-- of these
+abbrev pub succession_of : List ℕ → Bool → NewDiskValue → SuccessionValue
+succession_of from on_device new = record { from = from; on_device = on_device; new = new }
+
 module _ {F : Type 0} (handles : KnownHandles F) (files : KnownFiles F) where
   -- The disk was made in a new file at this path, of as many sectors as are needed, the worker was
   -- created on it, and it was closed. Its file is left there where the status is `Done`, and else
   -- it was to be removed.
-  pub record IsSuccessorInFile (path bytes : List ℕ) (prepared : Prepared) (left : Handover)
-      (out out' err err' : PrinterState) (status : Status) : Type 0 where
+  pub record IsSuccessorInFile (new : NewDiskValue) (left : Handover) (before after : Printers)
+      (status : Status) : Type 0 where
     pub disk : FileDisk F
     pub disk' : FileDisk F
-    pub made : IsMadeAt handles files path prepared.sectors disk
+    pub made : IsMadeAt handles files new.path new.prepared.sectors disk
     pub closed : IsTrue (files.closed disk')
     pub succeeds :
-        SucceedsOn file_medium bytes prepared.config left disk disk' out out' err err' status
-    pub keeps : status ≡ exit.Done → IsTrue (files.kept path)
-    pub removes : status ≢ exit.Done → IsTrue (files.removed path)
+        SucceedsOn file_medium (successor new.bytes new.prepared.config left) disk disk' before
+        after status
+    pub keeps : status ≡ exit.Done → IsTrue (files.kept new.path)
+    pub removes : status ≢ exit.Done → IsTrue (files.removed new.path)
 
   -- No file is made at this path, or none is left, and it is said why. Or one is made, and the
   -- worker created on it.
-  abbrev pub SucceedsInFile : List ℕ → List ℕ → Prepared → Handover → PrinterState → PrinterState
-      → PrinterState → PrinterState → Status → Type 0
-  SucceedsInFile path bytes prepared left out out' err err' status =
-      ((why : OpenFault) × IsUnmade handles files path prepared.sectors why
-      × SaysLine (open_words path why) exit.IoError err status err' × (out' ≡ out))
-      ⊎ IsSuccessorInFile path bytes prepared left out out' err err' status
+  abbrev pub SucceedsInFile : NewDiskValue → Handover → Printers → Printers → Status → Type 0
+  SucceedsInFile new left before after status =
+      ((why : OpenFault) × IsUnmade handles files new.path new.prepared.sectors why
+      × SaysLine (open_words new.path why) exit.IoError before.err status after.err
+      × (after.out ≡ before.out))
+      ⊎ IsSuccessorInFile new left before after status
 
   -- The disk is on the block device at this path, of as many sectors as are needed, the worker was
   -- created on it, and it was closed.
-  pub record IsSuccessorOnDevice (path bytes : List ℕ) (prepared : Prepared) (left : Handover)
-      (out out' err err' : PrinterState) (status : Status) : Type 0 where
+  pub record IsSuccessorOnDevice (new : NewDiskValue) (left : Handover) (before after : Printers)
+      (status : Status) : Type 0 where
     pub disk : FileDisk F
     pub disk' : FileDisk F
-    pub taken : IsTakenAt handles files path prepared.sectors disk
+    pub taken : IsTakenAt handles files new.path new.prepared.sectors disk
     pub closed : IsTrue (files.closed disk')
     pub succeeds :
-        SucceedsOn file_medium bytes prepared.config left disk disk' out out' err err' status
+        SucceedsOn file_medium (successor new.bytes new.prepared.config left) disk disk' before
+        after status
 
   -- It is said why the path can't be taken. Or the worker is created on the device that it names.
-  abbrev pub SucceedsOnDevice : List ℕ → List ℕ → Prepared → Handover → PrinterState
-      → PrinterState → PrinterState → PrinterState → Status → Type 0
-  SucceedsOnDevice path bytes prepared left out out' err err' status =
-      ((why : OpenFault) × IsUntaken handles files path prepared.sectors why
-      × SaysLine (open_words path why) exit.IoError err status err' × (out' ≡ out))
-      ⊎ IsSuccessorOnDevice path bytes prepared left out out' err err' status
+  abbrev pub SucceedsOnDevice : NewDiskValue → Handover → Printers → Printers → Status → Type 0
+  SucceedsOnDevice new left before after status =
+      ((why : OpenFault) × IsUntaken handles files new.path new.prepared.sectors why
+      × SaysLine (open_words new.path why) exit.IoError before.err status after.err
+      × (after.out ≡ before.out))
+      ⊎ IsSuccessorOnDevice new left before after status
 
   -- on a device that is there, where that is asked for, and in a new file where not
-  abbrev pub MakesSuccessor : Bool → List ℕ → List ℕ → Prepared → Handover → PrinterState
-      → PrinterState → PrinterState → PrinterState → Status → Type 0
-  MakesSuccessor true path bytes prepared left out out' err err' status =
-      SucceedsOnDevice path bytes prepared left out out' err err' status
-  MakesSuccessor false path bytes prepared left out out' err err' status =
-      SucceedsInFile path bytes prepared left out out' err err' status
+  abbrev pub MakesSuccessor : Bool → NewDiskValue → Handover → Printers → Printers → Status
+      → Type 0
+  MakesSuccessor true new left before after status = SucceedsOnDevice new left before after status
+  MakesSuccessor false new left before after status = SucceedsInFile new left before after status
 
   -- ---- both disks
 
-  -- What the old disk at this path leaves is said to be nothing, or not to fit. Or the new worker
-  -- goes on from it.
-  abbrev pub SucceedsAsLeft : List ℕ → Bool → List ℕ → List ℕ → Prepared
-      → Result Handover LeaveFault → PrinterState → PrinterState → PrinterState → PrinterState
+  -- What the old disk leaves is said to be nothing, or not to fit. Or the new worker goes on from
+  -- it.
+  abbrev pub SucceedsAsLeft : SuccessionValue → Result Handover LeaveFault → Printers → Printers
       → Status → Type 0
-  SucceedsAsLeft from on_device path bytes prepared (Err why) out out' err err' status =
-      SaysUnleft from why err status err' × (out' ≡ out)
-  SucceedsAsLeft from on_device path bytes prepared (Ok left) out out' err err' status =
-      (SaysRoomless prepared.config left.legacy err status err' × (out' ≡ out))
-      ⊎ (HasRoomFor prepared.config left.legacy
-      × MakesSuccessor on_device path bytes prepared left out out' err err' status)
+  SucceedsAsLeft given (Err why) before after status =
+      SaysUnleft given.from why before.err status after.err × (after.out ≡ before.out)
+  SucceedsAsLeft given (Ok left) before after status =
+      (SaysRoomless given.new.prepared.config left.legacy before.err status after.err
+      × (after.out ≡ before.out))
+      ⊎ (HasRoomFor given.new.prepared.config left.legacy
+      × MakesSuccessor given.on_device given.new left before after status)
 
   -- The old disk was opened at its path, only synced and read, and closed.
-  pub record SucceedsFrom (from : List ℕ) (on_device : Bool) (path bytes : List ℕ)
-      (prepared : Prepared) (out out' err err' : PrinterState) (status : Status) : Type 0 where
+  pub record SucceedsFrom (given : SuccessionValue) (before after : Printers) (status : Status)
+      : Type 0 where
     pub old : FileDisk F
     pub old' : FileDisk F
-    pub opened : IsOpenedAt handles files from old
+    pub opened : IsOpenedAt handles files given.from old
     pub closed : IsTrue (files.closed old')
     pub left : Result Handover LeaveFault
     pub reads : ReadsLegacy left (file_medium old) (file_medium old')
-    pub goes_on : SucceedsAsLeft from on_device path bytes prepared left out out' err err' status
+    pub goes_on : SucceedsAsLeft given left before after status
 
   -- It is said why the old disk isn't opened. Or it is, and the new worker succeeds the one on it.
-  abbrev pub SucceedsDisk : List ℕ → Bool → List ℕ → List ℕ → Prepared → PrinterState
-      → PrinterState → PrinterState → PrinterState → Status → Type 0
-  SucceedsDisk from on_device path bytes prepared out out' err err' status =
-      (SaysUnopened handles files false from err status err' × (out' ≡ out))
-      ⊎ SucceedsFrom from on_device path bytes prepared out out' err err' status
+  abbrev pub SucceedsDisk : SuccessionValue → Printers → Printers → Status → Type 0
+  SucceedsDisk given before after status =
+      (SaysUnopened handles files false given.from before.err status after.err
+      × (after.out ≡ before.out))
+      ⊎ SucceedsFrom given before after status

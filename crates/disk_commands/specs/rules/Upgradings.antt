@@ -18,7 +18,8 @@ use Rattle.worker.specs.rules.DurableValues.{DurableValue}
 use Rattle.worker.specs.rules.LifeWords.{Act, Slice, Upgrade, by_recovery}
 use Rattle.worker.specs.rules.Outlets.{TakesEach, HeedsOutlet, SaysOutletFault}
 use Rattle.worker.specs.rules.Effects.{RecoversWorker}
-use Rattle.worker.specs.rules.OneLife.{IsOneLife}
+use Rattle.worker.specs.rules.OneLife.{IsOneLife, one_life, recipe}
+use Rattle.worker.specs.rules.Scenes.{scene, surroundings}
 use Rattle.worker.specs.rules.Outcomes.{life_outcome}
 use Rattle.command_words.specs.rules.Printers.{PrinterState, IsSaid, TellsPerson}
 use Rattle.command_words.specs.declared.status.Status.{Status}
@@ -26,10 +27,9 @@ use Rattle.command_words.specs.declared.status.Status.TheVariants as exit
 use Rattle.disk_commands.specs.declared.on_disk.upgrading.Upgraded.{Upgraded}
 use Rattle.disk_commands.specs.declared.on_disk.upgrading.Upgraded.TheVariants.{Now, Before}
 use Rattle.disk_commands.specs.rules.BrokenLives.{BreaksInSliceFrom, steps_among}
-use Rattle.disk_commands.specs.rules.DiskStatuses.{opening_fault, call_fault}
-use Rattle.disk_commands.specs.rules.DiskStatuses.{status_on_disk}
+use Rattle.disk_commands.specs.rules.DiskStatuses.{opening_fault, call_fault, status_on_disk}
 use Rattle.disk_commands.specs.rules.Hearings.{AsksUnless, IsOfSource}
-use Rattle.disk_commands.specs.rules.ServedOnDisk.{IsUnopenedRun, recovered_line}
+use Rattle.disk_commands.specs.rules.ServedOnDisk.{IsUnopenedRun, Outputs, recovered_line}
 
 -- what is said of a worker that is of version 2 now, or was before
 abbrev pub upgraded_words : Upgraded → List ℕ
@@ -85,8 +85,9 @@ pub record LivesToUpgrade {D O : Type 0} (medium : D → Medium) (takes : Taking
   pub heeded : HeedsOutlet takes (SaysOutletFault undone) outlet outlet'
   pub life : (image : DiskImage) → (medium opening).crash_images image
       → (bytes : List ℕ) (config : Settings)
-      → IsOneLife medium from_list takes bytes config (upgrade_acts count) found [] outlet
-      by_recovery (Some worker) undone last source' outlet'
+      → IsOneLife medium from_list takes (recipe bytes config) (upgrade_acts count)
+      (surroundings found [] outlet)
+      (one_life by_recovery (Some worker) undone (surroundings last source' outlet'))
 
 -- The last slice of that life has answered that the worker waits for an answer, or has ended, and
 -- not that its fuel is spent.
@@ -103,8 +104,8 @@ abbrev pub HasFailedAt : {D O : Type 0} {medium : D → Medium} {takes : Taking 
     {undone : Result (List Act) RecoverFault} {found last : D} {outlet outlet' : O}
     → LivesToUpgrade medium takes undone found last outlet outlet' → WorkFault → Type 0
 HasFailedAt {takes = takes} {outlet' = outlet'} lives why =
-    BreaksInSliceFrom from_list takes lives.worker.process 100000
-    (steps_among (upgrade_slices lives.count)) why [] lives.source' lives.retold outlet'
+    BreaksInSliceFrom from_list takes 100000 (steps_among (upgrade_slices lives.count))
+    (scene lives.worker lives.opening [] lives.retold) why lives.source' outlet'
     ⊎ (IsOfUpgrade why × HasRunOn lives)
 
 -- The worker was recovered, and was of version 2. That is all. The outlet took each line.
@@ -119,18 +120,19 @@ pub record IsOfTwoBefore {D O : Type 0} (medium : D → Medium) (takes : Taking 
 -- told that it was recovered, where one reads along. Or it isn't opened, or a call of its life has
 -- failed. Then the status says why. It is never that the worker hadn't caught up.
 abbrev pub UpgradesOnDisk : {D O : Type 0} → (D → Medium) → Taking O → Result Upgraded Status → D
-    → D → O → O → PrinterState → PrinterState → Type 0
-UpgradesOnDisk medium takes (Ok Now) found last outlet outlet' err err' =
-    (lives : LivesToUpgrade medium takes (Ok []) found last outlet outlet') × HasRunOn lives
-    × TellsPerson (recovered_line lives.worker) err err'
-UpgradesOnDisk medium takes (Ok Before) found last outlet outlet' err err' =
-    (before : IsOfTwoBefore medium takes found last outlet outlet')
-    × TellsPerson (recovered_line before.worker) err err'
-UpgradesOnDisk medium takes (Err status) found last outlet outlet' err err' =
-    ((why : RecoverFault) × IsUnopenedRun medium takes why found last outlet outlet'
-    × IsSaid (status_on_disk (opening_fault why)) err status err')
+    → D → Outputs O → Outputs O → Type 0
+UpgradesOnDisk medium takes (Ok Now) found last before after =
+    (lives : LivesToUpgrade medium takes (Ok []) found last before.outlet after.outlet)
+    × HasRunOn lives × TellsPerson (recovered_line lives.worker) before.err after.err
+UpgradesOnDisk medium takes (Ok Before) found last before after =
+    (is : IsOfTwoBefore medium takes found last before.outlet after.outlet)
+    × TellsPerson (recovered_line is.worker) before.err after.err
+UpgradesOnDisk medium takes (Err status) found last before after =
+    ((why : RecoverFault)
+    × IsUnopenedRun medium takes why found last before.outlet after.outlet
+    × IsSaid (status_on_disk (opening_fault why)) before.err status after.err)
     ⊎ ((why : WorkFault) × (between : PrinterState)
-    × (lives : LivesToUpgrade medium takes (Err (recover.Worker why)) found last outlet outlet')
-    × HasFailedAt lives why
-    × TellsPerson (recovered_line lives.worker) err between
-    × IsSaid (status_on_disk (call_fault why)) between status err' × IsOfCaughtUp why)
+    × (lives : LivesToUpgrade medium takes (Err (recover.Worker why)) found last before.outlet
+    after.outlet) × HasFailedAt lives why
+    × TellsPerson (recovered_line lives.worker) before.err between
+    × IsSaid (status_on_disk (call_fault why)) between status after.err × IsOfCaughtUp why)

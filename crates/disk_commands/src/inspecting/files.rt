@@ -3,7 +3,7 @@
 ghost use Rattle.std.specs.Prelude.{◌≡◌, IfOk, OnOk, Some, None, Ok, Err, option_map};
 ghost use Rattle.std.specs.List.{flat_map};
 ghost use Rattle.std.specs.Io.KnownBytes.{Appends};
-ghost use Rattle.command_words.specs.rules.Printers.{IsSaid};
+ghost use Rattle.command_words.specs.rules.Printers.{IsSaid, printers};
 ghost use Rattle.disk_commands.specs.rules.Inspectings.{SaysFile, SaysFiles, TellsFiles};
 ghost use Rattle.disk_commands.specs.rules.Inspectings.{listed_path, listing_text, node_line};
 ghost use Rattle.disk_commands.specs.rules.Inspectings.{status_of_path};
@@ -59,7 +59,8 @@ fn say_list<W: Write + Drop, E: Write + Drop>(
     out: &mut Printer<W>,
     err: &mut Printer<E>,
 ) -> Status
-    ensures { SaysFiles tree.now None out.old out.new err.old err.new result }
+    ensures { SaysFiles tree.now None (printers out.old err.old) (printers out.new err.new)
+        result }
 {
     match text_of(alloc, tree) {
         Ok(text) => say_text(out, text.as_slice()),
@@ -105,7 +106,8 @@ fn say_file<W: Write + Drop, E: Write + Drop>(
     out: &mut Printer<W>,
     err: &mut Printer<E>,
 ) -> Status
-    ensures { SaysFiles tree.now (Some path.now) out.old out.new err.old err.new result }
+    ensures { SaysFiles tree.now (Some path.now) (printers out.old err.old)
+        (printers out.new err.new) result }
 {
     match read_path(alloc, tree, listed_path(path)) {
         Ok(bytes) => say_text(out, bytes.as_slice()),
@@ -121,8 +123,8 @@ fn say_files<W: Write + Drop, E: Write + Drop>(
     out: &mut Printer<W>,
     err: &mut Printer<E>,
 ) -> Status
-    ensures { SaysFiles tree.now (option_map (λ text. text.now) path.entry) out.old out.new
-        err.old err.new result }
+    ensures { SaysFiles tree.now (option_map (λ text. text.now) path.entry)
+        (printers out.old err.old) (printers out.new err.new) result }
 {
     match path {
         Some(path) => say_file(alloc, tree, path.as_bytes(), out, err),
@@ -143,7 +145,7 @@ pub fn list_files<D: Disk, W: Write + Drop, E: Write + Drop>(
     err: &mut Printer<E>,
 ) -> Status
     ensures { TellsFiles (option_map (λ text. text.now) path.entry) (D.medium disk.old)
-        (D.medium disk.new) out.old out.new err.old err.new result }
+        (D.medium disk.new) (printers out.old err.old) (printers out.new err.new) result }
 {
     match inspect(alloc, disk) {
         Ok(told) => {

@@ -4,6 +4,7 @@ ghost use Rattle.std.specs.Prelude.{◌≡◌, ◌≤◌, ◌+◌, ◌-◌, IfOk
 ghost use Rattle.std.specs.Io.KnownBytes.{Appends};
 ghost use Rattle.std.specs.List.{flat_map};
 ghost use Rattle.process_rules.specs.Runs.{request_taken};
+ghost use Rattle.command_words.specs.rules.Printers.{printers};
 ghost use Rattle.disk_commands.specs.rules.Histories.{SaysHistory, TellsHistory, given_line};
 ghost use Rattle.disk_commands.specs.rules.Histories.{history_text, step_of_last, given_life};
 ghost use Rattle.disk_commands.specs.rules.Histories.{records_text};
@@ -121,7 +122,8 @@ fn say_history<W: Write + Drop, E: Write + Drop>(
     out: &mut Printer<W>,
     err: &mut Printer<E>,
 ) -> Status
-    ensures { SaysHistory as_story (Ok told.now) out.old out.new err.old err.new result }
+    ensures { SaysHistory as_story (Ok told.now) (printers out.old err.old)
+        (printers out.new err.new) result }
 {
     match text_of(alloc, told, as_story) {
         Ok(text) => say_text(out, text.as_slice()),
@@ -140,8 +142,8 @@ pub fn tell_history<D: Disk, W: Write + Drop, E: Write + Drop>(
     out: &mut Printer<W>,
     err: &mut Printer<E>,
 ) -> Status
-    ensures { TellsHistory as_story (D.medium disk.old) (D.medium disk.new) out.old out.new
-        err.old err.new result }
+    ensures { TellsHistory as_story (D.medium disk.old) (D.medium disk.new)
+        (printers out.old err.old) (printers out.new err.new) result }
 {
     match inspect(alloc, disk) {
         Ok(told) => {

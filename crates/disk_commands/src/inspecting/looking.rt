@@ -1,6 +1,7 @@
 //! `wasmhost inspect`.
 
 ghost use Rattle.std.specs.Prelude.{◌≡◌, IfOk, Ok, string_bytes};
+ghost use Rattle.command_words.specs.rules.Printers.{printers};
 ghost use Rattle.hex.specs.Hex.{encode_lower};
 ghost use Rattle.sha2.specs.Sha256.{sha256};
 ghost use Rattle.disk_commands.specs.rules.DiskFacts.{disk_facts};
@@ -49,7 +50,8 @@ fn say_inspection<W: Write + Drop, E: Write + Drop>(
     out: &mut Printer<W>,
     err: &mut Printer<E>,
 ) -> Status
-    ensures { SaysInspected as_json (Ok told.now) out.old out.new err.old err.new result }
+    ensures { SaysInspected as_json (Ok told.now) (printers out.old err.old)
+        (printers out.new err.new) result }
 {
     match text_of(alloc, told, as_json) {
         Ok(text) => say_text(out, text.as_slice()),
@@ -68,8 +70,8 @@ pub fn inspect_disk<D: Disk, W: Write + Drop, E: Write + Drop>(
     out: &mut Printer<W>,
     err: &mut Printer<E>,
 ) -> Status
-    ensures { TellsDisk as_json (D.medium disk.old) (D.medium disk.new) out.old out.new
-        err.old err.new result }
+    ensures { TellsDisk as_json (D.medium disk.old) (D.medium disk.new) (printers out.old err.old)
+        (printers out.new err.new) result }
 {
     match inspect(alloc, disk) {
         Ok(told) => {

@@ -1,7 +1,7 @@
 //! `wasmhost create`, on a disk that was made.
 
 ghost use Rattle.std.specs.Prelude.{◌≡◌, true, OnErr, OnOk};
-ghost use Rattle.command_words.specs.rules.Printers.{IsPrinted};
+ghost use Rattle.command_words.specs.rules.Printers.{IsPrinted, printers};
 ghost use Rattle.command_words.specs.rules.Reports.{SaysOnOutput};
 ghost use Rattle.command_words.specs.declared.status.Status.TheVariants as exit;
 ghost use Rattle.disk_commands.specs.rules.Creations.{CreatesOn, created_line};
@@ -29,7 +29,8 @@ fn say_created<W: Write + Drop, E: Write + Drop>(
     sectors: u64,
     err: &mut Printer<E>,
 ) -> Status
-    ensures { SaysOnOutput (created_line sectors) exit.Done out.old out.new err.old err.new result }
+    ensures { SaysOnOutput (created_line sectors) exit.Done (printers out.old err.old)
+        (printers out.new err.new) result }
 {
     match print_created(out, sectors) {
         Ok(()) => Status::Done,
@@ -50,8 +51,8 @@ pub fn create_on<D: Disk, W: Write + Drop, E: Write + Drop>(
     out: &mut Printer<W>,
     err: &mut Printer<E>,
 ) -> Status
-    ensures { CreatesOn D.medium wasm.now config.now disk.old disk.new
-        out.old out.new err.old err.new result }
+    ensures { CreatesOn D.medium wasm.now config.now disk.old disk.new (printers out.old err.old)
+        (printers out.new err.new) result }
 {
     match Worker::create(alloc, disk, wasm, config) {
         Ok(worker) => {

@@ -14,6 +14,7 @@ ghost use Rattle.std.specs.Prelude.{◌≡◌, ◌<◌, [], IfErr, IfOk, IsTrue,
 ghost use Rattle.sector_disk.specs.rules.File.{answers_of, file_medium};
 ghost use Rattle.command_words.specs.rules.Reports.{SaysLine, obstacle_words};
 ghost use Rattle.command_words.specs.declared.status.Status.TheVariants as exit;
+ghost use Rattle.command_words.specs.rules.Printers.{printers};
 ghost use Rattle.disk_commands.specs.rules.Openings.{IsOpenedFor, IsWrittenBack, SaysUnopened};
 ghost use Rattle.disk_commands.specs.rules.LookedFiles.{TellsFile, TellsLook, TellsOpened};
 ghost use Rattle.disk_commands.specs.rules.LookedFiles.{TellsPicture};
@@ -102,8 +103,8 @@ fn look_at<D: Disk, W: Write + Drop, E: Write + Drop>(
     out: &mut Printer<W>,
     err: &mut Printer<E>,
 ) -> Status
-    ensures { TellsLook look.entry (D.medium disk.old) (D.medium disk.new) out.old out.new
-        err.old err.new result }
+    ensures { TellsLook look.entry (D.medium disk.old) (D.medium disk.new)
+        (printers out.old err.old) (printers out.new err.new) result }
 {
     match look {
         Look::Survey => survey(alloc, disk, out, err),
@@ -128,8 +129,8 @@ where
     R: DiskFiles<File = F>,
     W: Write + Drop,
     E: Write + Drop,
-    ensures { TellsOpened F.known (R.known files.now) look.entry path.now out.old out.new
-        err.old err.new result }
+    ensures { TellsOpened F.known (R.known files.now) look.entry path.now
+        (printers out.old err.old) (printers out.new err.new) result }
 {
     match open_disk(files, path, false, err) {
         Ok(mut disk) => {
@@ -156,8 +157,8 @@ where
     R: DiskFiles<File = F>,
     W: Write + Drop,
     E: Write + Drop,
-    ensures { TellsPicture F.known (R.known files.now) look.entry path.now out.old out.new
-        err.old err.new result }
+    ensures { TellsPicture F.known (R.known files.now) look.entry path.now
+        (printers out.old err.old) (printers out.new err.new) result }
 {
     match picture_of(alloc, files, path, err) {
         Ok(mut picture) => {
@@ -193,8 +194,8 @@ where
     R: DiskFiles<File = F>,
     W: Write + Drop,
     E: Write + Drop,
-    ensures { TellsFile F.known (R.known files.now) look.entry seen.entry.path.now out.old
-        out.new err.old err.new result seen.entry.is_live }
+    ensures { TellsFile F.known (R.known files.now) look.entry seen.entry.path.now
+        (printers out.old err.old) (printers out.new err.new) result seen.entry.is_live }
 {
     if seen.is_live {
         return look_at_picture(alloc, files, seen.path, look, out, err);

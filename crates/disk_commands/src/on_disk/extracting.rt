@@ -6,7 +6,7 @@
 //!   are written into a new folder (`ExtractsFile`). `Done` says that the folder was made, and each
 //!   listed node below it: a directory, or a file with its bytes. How many is printed. Else it is
 //!   said why not, and the folder is removed again, or it wasn't made. By `NewTrees` nothing is
-//!   made but that folder, and what is below it.
+//!   made but that folder, and below it what the tree lists.
 //!
 //! # Choices
 //!
@@ -16,12 +16,12 @@
 //!   neither `.` nor `..`. It may have a newline.
 //! - **Nothing is synced.** The disk has all of it still.
 
-ghost use Rattle.std.specs.Prelude.{◌≡◌, ◌≤◌, ◌≢◌, All, IfErr, IfOk, IsTrue, OnErr, OnOk, true};
-ghost use Rattle.std.specs.Prelude.{length, string_bytes};
+ghost use Rattle.std.specs.Prelude.{◌≡◌, ◌≤◌, ◌≢◌, All, Contains, IfErr, IfOk, IsTrue, OnErr, OnOk};
+ghost use Rattle.std.specs.Prelude.{true, length, string_bytes};
 ghost use Rattle.std.specs.IoError.{error_kind};
 ghost use Rattle.std.specs.List.Sorted.{IsPermutation};
 ghost use Rattle.file_listing.specs.rules.Listed.{HaveNames, IsPathText, listing_in};
-ghost use Rattle.command_words.specs.rules.Printers.{IsPrinted};
+ghost use Rattle.command_words.specs.rules.Printers.{IsPrinted, printers};
 ghost use Rattle.command_words.specs.rules.Reports.{SaysOnOutput};
 ghost use Rattle.command_words.specs.declared.status.Status.TheVariants as exit;
 ghost use Rattle.disk_commands.specs.rules.ExtractedTrees.{ExtractsDisk, ExtractsFile};
@@ -30,7 +30,8 @@ ghost use Rattle.disk_commands.specs.rules.ExtractedTrees.{FailsToMake, FillsFol
 ghost use Rattle.disk_commands.specs.rules.ExtractedTrees.{IsMadeBelow};
 ghost use Rattle.disk_commands.specs.rules.ExtractedTrees.{SaysUnmade, SaysUnmadeOf, WritesTree};
 ghost use Rattle.disk_commands.specs.rules.ExtractedTrees.{directories_in, written_line};
-ghost use Rattle.disk_commands.specs.rules.NewTrees.{IsBelow, below};
+ghost use Rattle.disk_commands.specs.rules.NewTrees.{IsBelow, IsListedBelow, below};
+ghost use Rattle.disk_commands.specs.rules.Openings.{command_run};
 
 use crate::on_disk::disk_file::{Seen, open_disk};
 use crate::on_disk::fault::{OnDiskFault, say_disk_fault};
@@ -45,13 +46,6 @@ use std::alloc::{AllocError, Global};
 use std::io::{self, Error, ErrorKind, Write};
 use worker::inspect;
 
-/// Nodes of a tree, as they are listed.
-#[derive(Clone, Copy)]
-struct ListedTree<'a> {
-    tree: &'a Tree,
-    nodes: &'a [ListedNode],
-}
-
 /// The path of a node below a folder.
 fn path_below(alloc: Global, folder: &str, path: &str) -> Result<String, AllocError>
     ensures { IfOk result (λ text. string_bytes text ≡ below folder.now path.now) }
@@ -59,24 +53,24 @@ fn path_below(alloc: Global, folder: &str, path: &str) -> Result<String, AllocEr
     format!(in alloc; "{folder}/{path}")
 }
 
-/// Makes a node at a path below a new folder.
+/// Makes a node of its tree at the node's path below a new folder.
 fn make_node<R: NewTrees>(
     alloc: Global,
     files: &R,
-    tree: &Tree,
     new: &NewTree<'_>,
     path: &str,
     node: &ListedNode,
 ) -> io::Result<()>
-    requires { IsBelow new.now.path.now path.now }
-    ensures made { OnOk result (IsMade (R.trees files.now) tree.now path.now node.now) }
+    requires below { IsBelow new.now.path.now path.now }
+    requires listed { IsListedBelow new.now.tree.now new.now.path.now path.now node.now }
+    ensures made { OnOk result (IsMade (R.trees files.now) new.now.tree.now path.now node.now) }
     ensures failed { IfErr result (λ error.
         FailsToMake (R.trees files.now) path.now (error_kind error)) }
 {
     if node.is_directory {
         return files.make_folder(new, path);
     }
-    let Ok(bytes) = read_node(alloc, tree, node.number) else {
+    let Ok(bytes) = read_node(alloc, new.tree(), node.number) else {
         return Err(Error::from(ErrorKind::OutOfMemory));
     };
     files.make_file(new, path, bytes.as_slice())
@@ -86,14 +80,14 @@ fn make_node<R: NewTrees>(
 fn write_node<R: NewTrees, E: Write + Drop>(
     alloc: Global,
     files: &R,
-    tree: &Tree,
     new: &NewTree<'_>,
     node: &ListedNode,
     err: &mut Printer<E>,
 ) -> Result<(), Status>
-    requires { IsPathText node.now.path }
+    requires named { IsPathText node.now.path }
+    requires listed { Contains (listing_in new.now.tree.now) node.now }
     ensures made { OnOk result
-        (IsMadeBelow (R.trees files.now) new.now.path.now tree.now node.now) }
+        (IsMadeBelow (R.trees files.now) new.now.path.now new.now.tree.now node.now) }
     ensures quiet { OnOk result (err.new ≡ err.old) }
     ensures said { IfErr result (λ status. SaysUnmade (R.trees files.now)
         (below new.now.path.now node.now.path) err.old status err.new) }
@@ -101,7 +95,7 @@ fn write_node<R: NewTrees, E: Write + Drop>(
     let Ok(path) = path_below(alloc, new.path(), node.path_text()) else {
         return Err(report(err, Obstacle::Memory));
     };
-    match make_node(alloc, files, tree, new, path.as_str(), node) {
+    match make_node(alloc, files, new, path.as_str(), node) {
         Ok(()) => Ok(()),
         Err(error) => Err(report_unread(err, path.as_str(), error)),
     }
@@ -112,20 +106,20 @@ fn write_node<R: NewTrees, E: Write + Drop>(
 fn write_nodes<R: NewTrees, E: Write + Drop>(
     alloc: Global,
     files: &R,
-    tree: &Tree,
     nodes: &[ListedNode],
     new: &NewTree<'_>,
     err: &mut Printer<E>,
 ) -> Result<(), Status>
-    requires { HaveNames nodes.now }
+    requires named { HaveNames nodes.now }
+    requires listed { All (Contains (listing_in new.now.tree.now)) nodes.now }
     ensures made { OnOk result
-        (All (IsMadeBelow (R.trees files.now) new.now.path.now tree.now) nodes.now) }
+        (All (IsMadeBelow (R.trees files.now) new.now.path.now new.now.tree.now) nodes.now) }
     ensures quiet { OnOk result (err.new ≡ err.old) }
     ensures said { IfErr result (λ status. SaysUnmadeOf (R.trees files.now) new.now.path.now
         nodes.now err.old status err.new) }
 {
     for node in nodes {
-        if let Err(status) = write_node(alloc, files, tree, new, node, err) {
+        if let Err(status) = write_node(alloc, files, new, node, err) {
             return Err(status);
         }
     }
@@ -157,8 +151,8 @@ fn say_written<W: Write + Drop, E: Write + Drop>(
     nodes: &[ListedNode],
     err: &mut Printer<E>,
 ) -> Status
-    ensures { SaysOnOutput (written_line nodes.now) exit.Done out.old out.new err.old err.new
-        result }
+    ensures { SaysOnOutput (written_line nodes.now) exit.Done (printers out.old err.old)
+        (printers out.new err.new) result }
 {
     match print_written(out, nodes) {
         Ok(()) => Status::Done,
@@ -170,17 +164,18 @@ fn say_written<W: Write + Drop, E: Write + Drop>(
 fn fill_folder<R: NewTrees, W: Write + Drop, E: Write + Drop>(
     alloc: Global,
     files: &R,
-    listed: ListedTree<'_>,
+    nodes: &[ListedNode],
     new: &NewTree<'_>,
     out: &mut Printer<W>,
     err: &mut Printer<E>,
 ) -> Status
-    requires { HaveNames listed.nodes.now }
-    ensures { FillsFolder (R.trees files.now) new.now.path.now listed.entry.tree.now
-        listed.entry.nodes.now out.old out.new err.old err.new result }
+    requires named { HaveNames nodes.now }
+    requires listed { All (Contains (listing_in new.now.tree.now)) nodes.now }
+    ensures { FillsFolder (R.trees files.now) new.now.path.now new.now.tree.now nodes.now
+        (printers out.old err.old) (printers out.new err.new) result }
 {
-    match write_nodes(alloc, files, listed.tree, listed.nodes, new, err) {
-        Ok(()) => say_written(out, listed.nodes, err),
+    match write_nodes(alloc, files, nodes, new, err) {
+        Ok(()) => say_written(out, nodes, err),
         Err(status) => status,
     }
 }
@@ -200,6 +195,7 @@ fn keep_if_filled<R: NewTrees>(alloc: Global, files: &R, new: NewTree<'_>, statu
 fn sorted_nodes(alloc: Global, tree: &Tree) -> Result<Vec<ListedNode>, AllocError>
     ensures listed { IfOk result (λ nodes. IsPermutation (listing_in tree.now) nodes.items) }
     ensures named { IfOk result (λ nodes. HaveNames nodes.items) }
+    ensures of_tree { IfOk result (λ nodes. All (Contains (listing_in tree.now)) nodes.items) }
 {
     let mut nodes = list_nodes(alloc, tree)?;
     nodes.sort_unstable_by(|node, other| node.path.as_slice().cmp(other.path.as_slice()));
@@ -216,18 +212,17 @@ fn write_tree<R: NewTrees, W: Write + Drop, E: Write + Drop>(
     err: &mut Printer<E>,
 ) -> Status
     requires { IsTrue ((R.trees files.now).allowed folder.now) }
-    ensures { WritesTree (R.trees files.now) folder.now tree.now out.old out.new err.old
-        err.new result }
+    ensures { WritesTree (R.trees files.now) folder.now tree.now (printers out.old err.old)
+        (printers out.new err.new) result }
 {
     let Ok(nodes) = sorted_nodes(alloc, tree) else {
         return report(err, Obstacle::Memory);
     };
-    let new = match files.make_tree(folder) {
+    let new = match files.make_tree(folder, tree) {
         Ok(new) => new,
         Err(error) => return report_unread(err, folder, error),
     };
-    let nodes = nodes.as_slice();
-    let status = fill_folder(alloc, files, ListedTree { tree, nodes }, &new, out, err);
+    let status = fill_folder(alloc, files, nodes.as_slice(), &new, out, err);
     keep_if_filled(alloc, files, new, status);
     status
 }
@@ -243,8 +238,8 @@ fn extract_disk<D: Disk, R: NewTrees, W: Write + Drop, E: Write + Drop>(
     err: &mut Printer<E>,
 ) -> Status
     requires { IsTrue ((R.trees files.now).allowed folder.now) }
-    ensures { ExtractsDisk (R.trees files.now) folder.now (D.medium disk.old)
-        (D.medium disk.new) out.old out.new err.old err.new result }
+    ensures { ExtractsDisk (R.trees files.now) folder.now (D.medium disk.old) (D.medium disk.new)
+        (printers out.old err.old) (printers out.new err.new) result }
 {
     match inspect(alloc, disk) {
         Ok(told) => {
@@ -272,8 +267,8 @@ where
     W: Write + Drop,
     E: Write + Drop,
     requires { IsTrue ((R.trees files.now).allowed folder.now) }
-    ensures { ExtractsOpened F.known (R.known files.now) (R.trees files.now) path.now
-        folder.now out.old out.new err.old err.new result }
+    ensures { ExtractsOpened F.known (R.known files.now) (R.trees files.now) path.now folder.now
+        (command_run (printers out.old err.old) (printers out.new err.new) result) }
 {
     match open_disk(files, path, false, err) {
         Ok(mut disk) => {
@@ -301,8 +296,8 @@ where
     W: Write + Drop,
     E: Write + Drop,
     requires { IsTrue ((R.trees files.now).allowed folder.now) }
-    ensures { ExtractsPicture F.known (R.known files.now) (R.trees files.now) path.now
-        folder.now out.old out.new err.old err.new result }
+    ensures { ExtractsPicture F.known (R.known files.now) (R.trees files.now) path.now folder.now
+        (command_run (printers out.old err.old) (printers out.new err.new) result) }
 {
     match picture_of(alloc, files, path, err) {
         Ok(mut picture) => {
@@ -333,8 +328,8 @@ where
     W: Write + Drop,
     E: Write + Drop,
     requires { IsTrue ((R.trees files.now).allowed folder.now) }
-    ensures { ExtractsFile F.known (R.known files.now) (R.trees files.now)
-        seen.entry.path.now folder.now out.old out.new err.old err.new result
+    ensures { ExtractsFile F.known (R.known files.now) (R.trees files.now) seen.entry.path.now
+        folder.now (command_run (printers out.old err.old) (printers out.new err.new) result)
         seen.entry.is_live }
 {
     if seen.is_live {

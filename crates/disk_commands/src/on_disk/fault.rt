@@ -9,11 +9,9 @@
 
 ghost use Rattle.std.specs.Prelude.{◌≡◌};
 ghost use Rattle.command_words.specs.rules.Printers.{IsSaid};
-ghost use Rattle.disk_commands.specs.rules.DiskStatuses.{opening_fault, call_fault};
-ghost use Rattle.disk_commands.specs.rules.DiskStatuses.{status_of_disk, status_of_call};
-ghost use Rattle.disk_commands.specs.rules.DiskStatuses.{status_of_recovery};
-ghost use Rattle.disk_commands.specs.rules.DiskStatuses.{status_on_disk};
-ghost use Rattle.disk_commands.specs.rules.DiskStatuses.{status_of_work};
+ghost use Rattle.disk_commands.specs.rules.DiskStatuses.{opening_fault, call_fault, status_of_disk};
+ghost use Rattle.disk_commands.specs.rules.DiskStatuses.{status_of_call, status_of_recovery};
+ghost use Rattle.disk_commands.specs.rules.DiskStatuses.{status_on_disk, status_of_work};
 
 use command_words::{LineFault, Printer, Status, status_of_line};
 use record_replay::{ReplayFault, SliceFault};

@@ -35,8 +35,7 @@ fn is_status_text(bytes: &[u8]) -> bool
 }
 
 impl FoundFile {
-    ghost use Rattle.disk_commands.specs.rules.StatusFiles.{IsFreePath, IsStatusFile};
-    ghost use Rattle.disk_commands.specs.rules.StatusFiles.{found_words};
+    ghost use Rattle.disk_commands.specs.rules.StatusFiles.{IsFreePath, IsStatusFile, found_words};
 
     /// Whether it is a status file: a regular one that is empty, has a status line and nothing
     /// else, or begins as metrics do.

@@ -25,6 +25,7 @@ ghost use Rattle.command_words.specs.rules.Printers.{IsPrinted, SaysText};
 ghost use Rattle.command_words.specs.declared.status.Status.TheVariants as exit;
 ghost use Rattle.disk_commands.specs.rules.Leavings.{SaysUntaken, SaysOfInput, untaken_line};
 ghost use Rattle.disk_commands.specs.rules.Leavings.{TellsSkipped, place_line, skipped_line};
+ghost use Rattle.disk_commands.specs.rules.Leavings.{input_left};
 
 use command_words::{
     BufferedLines, LineFlaw, Printer, RealTime, RequestSource, Status, count_later, flaw_in,
@@ -167,9 +168,9 @@ fn say_input<R: Read + Drop, C: RealTime + Drop, E: Write + Drop>(
     status: Status,
     err: &mut Printer<E>,
 ) -> Status
-    ensures { SaysOfInput source.now.requests.version source.now.requests.taken
+    ensures { SaysOfInput (input_left source.now.requests.version source.now.requests.taken
         (reader_buffer source.now.requests.reader.reader) source.now.requests.reader.begun
-        source.now.requests.skipped flaw status err.old result err.new }
+        source.now.requests.skipped flaw) status err.old result err.new }
 {
     let requests = source.requests();
     match status {
@@ -197,9 +198,9 @@ pub fn report_input<R: Read + Drop, C: RealTime + Drop, E: Write + Drop>(
 ) -> Status
     ensures { (flaw : Option Flaw) × IsFlawIn source.now.fault
         source.now.requests.reader.is_cut source.now.requests.line.items flaw
-        × SaysOfInput source.now.requests.version source.now.requests.taken
+        × SaysOfInput (input_left source.now.requests.version source.now.requests.taken
         (reader_buffer source.now.requests.reader.reader) source.now.requests.reader.begun
-        source.now.requests.skipped flaw status err.old result err.new }
+        source.now.requests.skipped flaw) status err.old result err.new }
 {
     let flaw = flaw_of_source(source);
     say_input(source, flaw, status, err)

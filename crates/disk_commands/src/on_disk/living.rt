@@ -11,7 +11,7 @@ ghost use Rattle.disk_layout.specs.rules.Places.{total_sectors};
 ghost use Rattle.record_replay.specs.declared.slices.now.Now.TheVariants.{Spent};
 ghost use Rattle.worker.specs.rules.LifeWords.{Batch, Slice};
 ghost use Rattle.disk_commands.specs.rules.Paces.{act_at};
-ghost use Rattle.worker.specs.rules.Scenes.{scene};
+ghost use Rattle.worker.specs.rules.Scenes.{scene, surroundings};
 ghost use Rattle.disk_commands.specs.Livings.{steps_left, HasDoneOnce, HasFailedOnce};
 ghost use Rattle.disk_commands.specs.Livings.{IsRested, IsRound, IsBrokenRound, LivesAtPace};
 
@@ -57,7 +57,7 @@ fn slice_once<D: Disk, S: Source + Readiness, O: Outlet, T: Watcher>(
         (scene worker.new disk.new source.new outlet.new)) }
     ensures failed { IfErr result (λ why. HasFailedOnce D.medium S.gives O.takes (Slice fuel)
         (scene worker.old disk.old source.old outlet.old) why
-        disk.new source.new outlet.new) }
+        (surroundings disk.new source.new outlet.new)) }
 {
     match worker.watched_slice(disk, fuel, source, outlet, &Asked(watcher)) {
         Ok(now) => Ok(now),
@@ -80,7 +80,7 @@ fn batch_once<D: Disk, S: Source + Readiness, O: Outlet, T: Onlooker<S>>(
         (scene worker.new disk.new source.new outlet.new)) }
     ensures failed { IfErr result (λ why. HasFailedOnce D.medium S.gives O.takes
         (Batch watched.entry.fuel most) (scene worker.old disk.old source.old outlet.old) why
-        disk.new source.new outlet.new) }
+        (surroundings disk.new source.new outlet.new)) }
 {
     match worker.watched_batch(disk, watched, most, source, outlet) {
         Ok(now) => Ok(now),
@@ -105,7 +105,7 @@ fn go_once<D: Disk, S: Source + Readiness, O: Outlet, T: Watcher>(
     ensures failed { IfErr result (λ why. HasFailedOnce D.medium S.gives O.takes
         (act_at (non_zero_u64_get pace.fuel) (non_zero_u64_get pace.batch))
         (scene worker.old disk.old source.old outlet.old) why
-        disk.new source.new outlet.new) }
+        (surroundings disk.new source.new outlet.new)) }
     ensures fewer { IfOk result (λ now. now ≡ Spent
         → steps_left worker.new < steps_left worker.old) }
 {
@@ -168,7 +168,7 @@ fn round<D: Disk, S: Source + Readiness, O: Outlet, T: Watcher>(
         (act_at (non_zero_u64_get pace.fuel) (non_zero_u64_get pace.batch))
         (non_zero_u64_get pace.every)
         (scene worker.old disk.old source.old outlet.old) why
-        disk.new source.new outlet.new) }
+        (surroundings disk.new source.new outlet.new)) }
     ensures room { IfOk result (λ _.
         total_sectors worker.new.store.geometry ≤ (D.medium disk.new).sectors) }
     ensures told { IfOk result (λ now. IsTrue (T.is_notified watcher.now worker.new now)) }
@@ -202,7 +202,7 @@ pub(crate) fn live<D: Disk, S: Source + Readiness, O: Outlet, T: Watcher>(
         (act_at (non_zero_u64_get pace.fuel) (non_zero_u64_get pace.batch))
         (non_zero_u64_get pace.every)
         (scene worker.old disk.old source.old outlet.old) result
-        disk.new source.new outlet.new }
+        (surroundings disk.new source.new outlet.new) }
     ensures over { IfOk result (λ now. now ≢ Spent) }
     ensures told { IfOk result (λ now. IsTrue (T.is_notified watcher.now worker.new now)) }
 {

@@ -23,9 +23,10 @@ ghost use Rattle.std.specs.Prelude.{◌≡◌, ◌≢◌, IfErr, IfOk, IsTrue};
 ghost use Rattle.command_words.specs.rules.Commands.{create_said};
 ghost use Rattle.command_words.specs.rules.Preparations.{IsPreparedAs, IsUnprepared};
 ghost use Rattle.command_words.specs.declared.status.Status.TheVariants as exit;
-ghost use Rattle.disk_commands.specs.rules.MadeFiles.{CreatesDisk, CreatesFile};
-ghost use Rattle.disk_commands.specs.rules.MadeFiles.{CreatesOnDevice, MakesDisk, MakesOrdered};
-ghost use Rattle.disk_commands.specs.rules.MadeFiles.{settings_said};
+ghost use Rattle.command_words.specs.rules.Printers.{printers};
+ghost use Rattle.disk_commands.specs.rules.MadeFiles.{CreatesDisk, CreatesFile, CreatesOnDevice};
+ghost use Rattle.disk_commands.specs.rules.MadeFiles.{MakesDisk, MakesOrdered, settings_said};
+ghost use Rattle.disk_commands.specs.rules.Creations.{new_disk};
 
 use crate::on_disk::creation::create_on;
 use crate::on_disk::opening::report_open;
@@ -73,8 +74,9 @@ where
     R: NewFiles<File = F>,
     W: Write + Drop,
     E: Write + Drop,
-    ensures { CreatesFile F.known (R.known files.now) new.entry.path.now
-        new.entry.wasm.now new.entry.prepared.now out.old out.new err.old err.new result }
+    ensures { CreatesFile F.known (R.known files.now) (new_disk new.entry.path.now
+        new.entry.wasm.now new.entry.prepared.now) (printers out.old err.old)
+        (printers out.new err.new) result }
 {
     let NewDisk {
         path,
@@ -105,8 +107,9 @@ where
     R: DiskFiles<File = F>,
     W: Write + Drop,
     E: Write + Drop,
-    ensures { CreatesOnDevice F.known (R.known files.now) new.entry.path.now
-        new.entry.wasm.now new.entry.prepared.now out.old out.new err.old err.new result }
+    ensures { CreatesOnDevice F.known (R.known files.now) (new_disk new.entry.path.now
+        new.entry.wasm.now new.entry.prepared.now) (printers out.old err.old)
+        (printers out.new err.new) result }
 {
     let NewDisk {
         path,
@@ -137,8 +140,9 @@ where
     R: NewFiles<File = F>,
     W: Write + Drop,
     E: Write + Drop,
-    ensures { MakesDisk F.known (R.known files.now) on_device new.entry.path.now
-        new.entry.wasm.now new.entry.prepared.now out.old out.new err.old err.new result }
+    ensures { MakesDisk F.known (R.known files.now) on_device (new_disk new.entry.path.now
+        new.entry.wasm.now new.entry.prepared.now) (printers out.old err.old)
+        (printers out.new err.new) result }
 {
     if on_device {
         create_device(alloc, files, new, out, err)
@@ -163,8 +167,8 @@ where
     W: Write + Drop,
     E: Write + Drop,
     ensures { MakesOrdered F.known (R.known files.now) (create_said order.now).predecessor
-        order.now.on_device new.entry.path.now new.entry.wasm.now new.entry.prepared.now out.old
-        out.new err.old err.new result }
+        order.now.on_device (new_disk new.entry.path.now new.entry.wasm.now new.entry.prepared.now)
+        (printers out.old err.old) (printers out.new err.new) result }
 {
     match order.predecessor {
         None => make_disk(alloc, files, new, order.on_device, out, err),
@@ -218,7 +222,7 @@ where
     W: Write + Drop,
     E: Write + Drop,
     ensures { CreatesDisk F.known (R.known files.now) (create_said order.now) wasm.now
-        out.old out.new err.old err.new result }
+        (printers out.old err.old) (printers out.new err.new) result }
 {
     match prepare_order(alloc, order, wasm) {
         Ok(prepared) => {

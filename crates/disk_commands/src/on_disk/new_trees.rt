@@ -3,23 +3,27 @@
 //! # Choices
 //!
 //! - **A tree is written by these calls alone.** A body that was given only them makes no folder
-//!   but the one that it may make (`allowed`), and nothing elsewhere than below it: each path is
+//!   but the one that it may make (`allowed`), and nothing elsewhere than below it. Each path is
 //!   that of a new folder, a `/` and names of which none is `..` (`IsBelow`).
+//! - **A new folder is of a tree**, and nothing is made below it but what the tree lists, each file
+//!   with its bytes (`IsFolderOf`, `IsFileOf`).
 //! - **A new folder is kept or removed, once**: `NewTree` is lent to nobody, and each of the two
 //!   takes it.
 
 ghost use Rattle.std.specs.Prelude.{◌≡◌};
 
+use file_tree::Tree;
 use sector_disk::DiskFiles;
 use std::alloc::Global;
 use std::fs::File;
 use std::io::{self, Write};
 use std::rt::Files;
 
-/// A folder that was made at a path, where there was nothing.
+/// A folder that was made at a path for a tree, where there was nothing.
 #[derive(Drop)]
 pub struct NewTree<'a> {
     path: &'a str,
+    tree: &'a Tree,
 }
 
 impl NewTree<'_> {
@@ -29,34 +33,44 @@ impl NewTree<'_> {
     {
         self.path
     }
+
+    /// The tree that it is for.
+    pub fn tree(&self) -> &Tree
+        ensures { result.now ≡ self.now.tree.now }
+    {
+        self.tree
+    }
 }
 
 /// Files among which a new folder can be made, and others below it.
 pub trait NewTrees: DiskFiles {
     ghost use Rattle.std.specs.Prelude.{◌≡◌, IsTrue, IfErr, IfOk, OnOk};
     ghost use Rattle.std.specs.IoError.{error_kind};
-    ghost use Rattle.disk_commands.specs.rules.NewTrees.{IsBelow, KnownTrees};
+    ghost use Rattle.disk_commands.specs.rules.NewTrees.{IsBelow, IsFileOf, IsFolderOf, KnownTrees};
 
     ghost trees: { Self → KnownTrees };
 
-    /// Makes a folder where there is no such path, not even a link.
-    fn make_tree<'a>(&self, path: &'a str) -> io::Result<NewTree<'a>>
+    /// Makes a folder for a tree where there is no such path, not even a link.
+    fn make_tree<'a>(&self, path: &'a str, tree: &'a Tree) -> io::Result<NewTree<'a>>
         requires { IsTrue ((trees self.now).allowed path.now) }
         ensures made { IfOk result (λ new. IsTrue ((trees self.now).folder path.entry.now)
-            × (new.path.now ≡ path.entry.now)) }
+            × (new.path.now ≡ path.entry.now) × (new.tree.now ≡ tree.entry.now)) }
         ensures failed { IfErr result (λ error.
             IsTrue ((trees self.now).refused path.entry.now (error_kind error))) };
 
-    /// Makes a folder below a new one, where there is no such path.
+    /// Makes a folder of the tree below a new one, where there is no such path.
     fn make_folder(&self, new: &NewTree<'_>, path: &str) -> io::Result<()>
-        requires { IsBelow new.now.path.now path.now }
+        requires below { IsBelow new.now.path.now path.now }
+        requires listed { IsFolderOf new.now.tree.now new.now.path.now path.now }
         ensures made { OnOk result (IsTrue ((trees self.now).folder path.now)) }
         ensures failed { IfErr result (λ error.
             IsTrue ((trees self.now).refused path.now (error_kind error))) };
 
-    /// Makes a file below a new folder, where there is no such path, and writes bytes to it.
+    /// Makes a file of the tree below a new folder, where there is no such path, and writes its
+    /// bytes to it.
     fn make_file(&self, new: &NewTree<'_>, path: &str, bytes: &[u8]) -> io::Result<()>
-        requires { IsBelow new.now.path.now path.now }
+        requires below { IsBelow new.now.path.now path.now }
+        requires listed { IsFileOf new.now.tree.now new.now.path.now path.now bytes.now }
         ensures made { OnOk result (IsTrue ((trees self.now).file path.now bytes.now)) }
         ensures failed { IfErr result (λ error.
             IsTrue ((trees self.now).refused path.now (error_kind error))) };
@@ -77,9 +91,9 @@ impl<R: Files> NewTrees for R {
 
     ghost trees = { λ _. all_said_of_trees };
 
-    fn make_tree<'a>(&self, path: &'a str) -> io::Result<NewTree<'a>> {
+    fn make_tree<'a>(&self, path: &'a str, tree: &'a Tree) -> io::Result<NewTree<'a>> {
         self.create_dir(path)?;
-        Ok(NewTree { path })
+        Ok(NewTree { path, tree })
     }
 
     fn make_folder(&self, _new: &NewTree<'_>, path: &str) -> io::Result<()> {

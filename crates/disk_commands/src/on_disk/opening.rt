@@ -40,6 +40,7 @@ fn words_of_cause(cause: OpenCause) -> &'static str
         OpenCause::LongName => "file name too long",
         OpenCause::Loop => "too many levels of symbolic links",
         OpenCause::NoDevice => "block device required",
+        OpenCause::NoSectors => "neither a regular file nor a block device",
         OpenCause::Other => "the system failed",
     }
 }

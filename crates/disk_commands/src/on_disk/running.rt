@@ -8,11 +8,12 @@
 ghost use Rattle.std.specs.Int.NonZero.{non_zero_u64_get};
 ghost use Rattle.std.specs.Io.Buffered.{reader_remaining};
 ghost use Rattle.command_words.specs.rules.Commands.{run_said};
-ghost use Rattle.disk_commands.specs.rules.ServedFiles.{IsJobOf, RunsFile};
+ghost use Rattle.command_words.specs.rules.Printers.{printers};
+ghost use Rattle.disk_commands.specs.rules.ServedFiles.{IsJobOf, RunsFile, run_input};
 ghost use Rattle.disk_commands.specs.rules.ServedFiles.{RunsJob, ServesToEnd, UpgradesFile};
 ghost use Rattle.disk_commands.specs.rules.ServedFiles.{job_given, named_metrics, named_status};
 ghost use Rattle.disk_commands.specs.rules.SeedFiles.{IsSeedFrom};
-ghost use Rattle.disk_commands.specs.rules.ServedOnDisk.{disk_job, run_start};
+ghost use Rattle.disk_commands.specs.rules.ServedOnDisk.{disk_job, run_start, outputs};
 
 use crate::on_disk::disk_file::open_disk;
 use crate::on_disk::leaving::report_input;
@@ -97,8 +98,8 @@ where
         (run_start (disk_job (non_zero_u64_get drive.entry.pace.fuel)
         (non_zero_u64_get drive.entry.pace.every) (non_zero_u64_get drive.entry.pace.batch)
         (reader_remaining I.remaining source.old.requests.reader.reader) source.old.outside
-        source.old.requests.reader.has_failed) disk.old outlet.old err.old)
-        disk.new outlet.new err.new result }
+        source.old.requests.reader.has_failed) disk.old outlet.old err.old) disk.new
+        (outputs outlet.new err.new) result }
 {
     let status = serve(alloc, disk, drive, source, outlet, err);
     report_input(source, status, err)
@@ -122,10 +123,10 @@ where
     C: RealTime + Drop,
     O: Outlet,
     E: Write + Drop,
-    ensures { RunsJob D.medium O.takes (named_status job.entry)
-        (named_metrics job.entry) (run_start (job_given job.entry
-        (reader_remaining I.remaining system.entry.lines.reader) system.entry.lines.has_failed)
-        disk.old outlet.old err.old) disk.new outlet.new err.new result }
+    ensures { RunsJob D.medium O.takes (named_status job.entry) (named_metrics job.entry)
+        (run_start (job_given job.entry (reader_remaining I.remaining system.entry.lines.reader)
+        system.entry.lines.has_failed) disk.old outlet.old err.old) disk.new
+        (outputs outlet.new err.new) result }
 {
     let System {
         files,
@@ -169,8 +170,9 @@ where
     E: Write + Drop,
     requires { IsSeedFrom (run_said order.now).seed_file (run_said order.now).seed seed }
     ensures { RunsFile F.known (R.known system.entry.files.now) O.takes (run_said order.now)
-        (reader_remaining I.remaining system.entry.lines.reader) system.entry.lines.has_failed
-        outlet.old outlet.new err.old err.new result }
+        (run_input (reader_remaining I.remaining system.entry.lines.reader)
+        system.entry.lines.has_failed) (outputs outlet.old err.old) (outputs outlet.new err.new)
+        result }
 {
     let job = job_of(order, seed);
     let files = system.files;
@@ -203,8 +205,9 @@ where
     O: Outlet,
     E: Write + Drop,
     ensures { RunsFile F.known (R.known system.entry.files.now) O.takes (run_said order.now)
-        (reader_remaining I.remaining system.entry.lines.reader) system.entry.lines.has_failed
-        outlet.old outlet.new err.old err.new result }
+        (run_input (reader_remaining I.remaining system.entry.lines.reader)
+        system.entry.lines.has_failed) (outputs outlet.old err.old) (outputs outlet.new err.new)
+        result }
 {
     match seed_for(alloc, system.files, order, err) {
         Ok(seed) => run_seeded(alloc, system, order, seed, outlet, err),
@@ -227,8 +230,8 @@ where
     R: DiskFiles<File = F>,
     W: Write + Drop,
     E: Write + Drop,
-    ensures { UpgradesFile F.known (R.known files.now) path.now outlet.old outlet.new
-        err.old err.new result }
+    ensures { UpgradesFile F.known (R.known files.now) path.now (printers outlet.old err.old)
+        (printers outlet.new err.new) result }
 {
     match open_disk(files, path, false, err) {
         Ok(mut disk) => {

@@ -17,9 +17,10 @@
 //!   wrong, and `cp` copies it.
 
 ghost use Rattle.std.specs.Prelude.{◌≡◌, true, OnErr, OnOk};
-ghost use Rattle.command_words.specs.rules.Printers.{IsPrinted};
+ghost use Rattle.command_words.specs.rules.Printers.{IsPrinted, printers};
 ghost use Rattle.command_words.specs.rules.Reports.{SaysOnOutput};
 ghost use Rattle.command_words.specs.declared.status.Status.TheVariants as exit;
+ghost use Rattle.disk_commands.specs.rules.Openings.{command_run};
 ghost use Rattle.disk_commands.specs.rules.SavedCopies.{MakesCopy, SavesCopy, SavesFile};
 ghost use Rattle.disk_commands.specs.rules.SavedCopies.{SavesInspected, SavesOpened, SavesPicture};
 ghost use Rattle.disk_commands.specs.rules.SavedCopies.{saved_line};
@@ -50,7 +51,8 @@ fn say_saved<W: Write + Drop, E: Write + Drop>(
     sectors: u64,
     err: &mut Printer<E>,
 ) -> Status
-    ensures { SaysOnOutput (saved_line sectors) exit.Done out.old out.new err.old err.new result }
+    ensures { SaysOnOutput (saved_line sectors) exit.Done (printers out.old err.old)
+        (printers out.new err.new) result }
 {
     match print_saved(out, sectors) {
         Ok(()) => Status::Done,
@@ -68,7 +70,7 @@ pub fn save_on<D: Disk, C: Disk, W: Write + Drop, E: Write + Drop>(
     err: &mut Printer<E>,
 ) -> Status
     ensures { SavesCopy (D.medium disk.old) (D.medium disk.new) (C.medium copy.old)
-        (C.medium copy.new) out.old out.new err.old err.new result }
+        (C.medium copy.new) (printers out.old err.old) (printers out.new err.new) result }
 {
     let sectors = copy.sectors();
     match copy_disk(disk, copy) {
@@ -94,7 +96,8 @@ where
     W: Write + Drop,
     E: Write + Drop,
     ensures { MakesCopy F.known (R.known files.now) path.now sectors (D.medium disk.old)
-        (D.medium disk.new) out.old out.new err.old err.new result }
+        (D.medium disk.new)
+        (command_run (printers out.old err.old) (printers out.new err.new) result) }
 {
     let (mut copy, made) = match FileDisk::create(files, path, sectors) {
         Ok(made) => made,
@@ -122,7 +125,7 @@ where
     W: Write + Drop,
     E: Write + Drop,
     ensures { SavesInspected F.known (R.known files.now) copy.now D.medium disk.old disk.new
-        out.old out.new err.old err.new result }
+        (command_run (printers out.old err.old) (printers out.new err.new) result) }
 {
     match inspect(alloc, disk) {
         Ok(told) => {
@@ -149,8 +152,8 @@ where
     R: NewFiles<File = F>,
     W: Write + Drop,
     E: Write + Drop,
-    ensures { SavesOpened F.known (R.known files.now) path.now copy.now out.old out.new
-        err.old err.new result }
+    ensures { SavesOpened F.known (R.known files.now) path.now copy.now
+        (command_run (printers out.old err.old) (printers out.new err.new) result) }
 {
     match open_disk(files, path, false, err) {
         Ok(mut disk) => {
@@ -177,8 +180,8 @@ where
     R: NewFiles<File = F>,
     W: Write + Drop,
     E: Write + Drop,
-    ensures { SavesPicture F.known (R.known files.now) path.now copy.now out.old out.new
-        err.old err.new result }
+    ensures { SavesPicture F.known (R.known files.now) path.now copy.now
+        (command_run (printers out.old err.old) (printers out.new err.new) result) }
 {
     match picture_of(alloc, files, path, err) {
         Ok(mut picture) => {
@@ -207,8 +210,9 @@ where
     R: NewFiles<File = F>,
     W: Write + Drop,
     E: Write + Drop,
-    ensures { SavesFile F.known (R.known files.now) seen.entry.path.now copy.now out.old
-        out.new err.old err.new result seen.entry.is_live }
+    ensures { SavesFile F.known (R.known files.now) seen.entry.path.now copy.now
+        (command_run (printers out.old err.old) (printers out.new err.new) result)
+        seen.entry.is_live }
 {
     if seen.is_live {
         return save_picture(alloc, files, seen.path, copy, out, err);

@@ -47,6 +47,7 @@ ghost use Rattle.std.specs.Prelude.{◌≡◌, ◌≢◌, ◌≤◌, true, IfOk,
 ghost use Rattle.std.specs.Int.NonZero.{non_zero_u64_get};
 ghost use Rattle.disk_layout.specs.rules.Places.{total_sectors};
 ghost use Rattle.record_replay.specs.declared.slices.now.Now.TheVariants.{Spent};
+ghost use Rattle.worker.specs.rules.Scenes.{scene};
 ghost use Rattle.command_words.specs.rules.Printers.{IsPrinted, TellsPerson};
 ghost use Rattle.disk_commands.specs.rules.DiskStatuses.{IsReportedOnDisk};
 ghost use Rattle.disk_commands.specs.rules.Refusals.{HeedsRefusal};
@@ -101,12 +102,11 @@ where
     O: Outlet,
     T: Watcher,
     requires { total_sectors worker.old.store.geometry ≤ (D.medium disk.old).sectors }
-    ensures gone { HasGoneOn D.medium O.takes (disk_job (non_zero_u64_get pace.fuel)
-        (non_zero_u64_get pace.every) (non_zero_u64_get pace.batch)
+    ensures gone { HasGoneOn D.medium O.takes (scene worker.old disk.old (disk_job
+        (non_zero_u64_get pace.fuel) (non_zero_u64_get pace.every) (non_zero_u64_get pace.batch)
         (R.unread source.old.requests.reader) source.old.outside
-        (R.has_failed source.old.requests.reader)) worker.old disk.old disk.new
-        outlet.old outlet.new (R.has_failed source.new.requests.reader) source.new.requests.taken
-        result }
+        (R.has_failed source.old.requests.reader)) outlet.old) disk.new outlet.new
+        (R.has_failed source.new.requests.reader) source.new.requests.taken result }
     ensures told { IfOk result (λ now. (now ≢ Spent)
         × IsTrue (T.is_notified watcher.now worker.new now)) }
 {

@@ -14,7 +14,7 @@
 ghost use Rattle.std.specs.Prelude.{◌≡◌, true, OnErr, OnOk};
 ghost use Rattle.sector_disk.specs.rules.DiskImage.{DiskImage};
 ghost use Rattle.worker.specs.rules.Surveys.{EachSurvey};
-ghost use Rattle.command_words.specs.rules.Printers.{IsPrinted};
+ghost use Rattle.command_words.specs.rules.Printers.{IsPrinted, printers};
 ghost use Rattle.command_words.specs.rules.Texts.{named_number};
 ghost use Rattle.disk_commands.specs.rules.Showings.{survey_line};
 ghost use Rattle.disk_commands.specs.rules.Showings.{ShowsDisk, ShowsSurvey, SaysSurvey};
@@ -82,8 +82,8 @@ pub fn survey<D: Disk, W: Write + Drop, E: Write + Drop>(
     err: &mut Printer<E>,
 ) -> Status
     // The survey of the disk is printed, or why there is none.
-    ensures shows { ShowsDisk (D.medium disk.old) (D.medium disk.new) out.old out.new err.old
-        err.new result }
+    ensures shows { ShowsDisk (D.medium disk.old) (D.medium disk.new) (printers out.old err.old)
+        (printers out.new err.new) result }
 
     // Of whatever worker the disk stands for, that is the line of its survey.
     ensures stands { (image : DiskImage) → (D.medium disk.new).shows image

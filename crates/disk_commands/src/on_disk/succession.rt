@@ -18,10 +18,12 @@
 ghost use Rattle.std.specs.Prelude.{◌≡◌, ◌↔◌, ◌*◌, ◌≤◌, IfOk, IsTrue};
 ghost use Rattle.file_tree.specs.declared.limits.TheConstants.{UNIT_BYTES};
 ghost use Rattle.file_tree.specs.rules.Files.{used};
+ghost use Rattle.command_words.specs.rules.Printers.{printers};
 ghost use Rattle.disk_commands.specs.SuccessorDisks.{FitsOrSays, IsTakenOver, SucceedsOpened};
-ghost use Rattle.disk_commands.specs.rules.SuccessorDisks.{MakesSuccessor};
-ghost use Rattle.disk_commands.specs.rules.SuccessorDisks.{SucceedsDisk, SucceedsInFile};
-ghost use Rattle.disk_commands.specs.rules.SuccessorDisks.{SucceedsOnDevice};
+ghost use Rattle.disk_commands.specs.rules.Creations.{new_disk};
+ghost use Rattle.disk_commands.specs.rules.SuccessorDisks.{MakesSuccessor, SucceedsDisk};
+ghost use Rattle.disk_commands.specs.rules.SuccessorDisks.{SucceedsInFile, SucceedsOnDevice};
+ghost use Rattle.disk_commands.specs.rules.SuccessorDisks.{succession_of};
 
 use crate::on_disk::disk_file::open_disk;
 use crate::on_disk::making::{NewDisk, keep_if_created};
@@ -110,9 +112,9 @@ where
     W: Write + Drop,
     E: Write + Drop,
     requires { used handover.legacy.files ≤ new.prepared.now.config.files * UNIT_BYTES }
-    ensures { SucceedsInFile F.known (R.known files.now) new.entry.path.now
-        new.entry.wasm.now new.entry.prepared.now handover out.old out.new err.old err.new
-        result }
+    ensures { SucceedsInFile F.known (R.known files.now) (new_disk new.entry.path.now
+        new.entry.wasm.now new.entry.prepared.now) handover (printers out.old err.old)
+        (printers out.new err.new) result }
 {
     let (mut disk, made) = match FileDisk::create(files, new.path, new.prepared.sectors) {
         Ok(made) => made,
@@ -142,9 +144,9 @@ where
     W: Write + Drop,
     E: Write + Drop,
     requires { used handover.legacy.files ≤ new.prepared.now.config.files * UNIT_BYTES }
-    ensures { SucceedsOnDevice F.known (R.known files.now) new.entry.path.now
-        new.entry.wasm.now new.entry.prepared.now handover out.old out.new err.old err.new
-        result }
+    ensures { SucceedsOnDevice F.known (R.known files.now) (new_disk new.entry.path.now
+        new.entry.wasm.now new.entry.prepared.now) handover (printers out.old err.old)
+        (printers out.new err.new) result }
 {
     let mut disk = match FileDisk::create_on_device(files, new.path, new.prepared.sectors) {
         Ok(disk) => disk,
@@ -174,9 +176,10 @@ where
     E: Write + Drop,
     requires { used handover.legacy.files
         ≤ succession.new.prepared.now.config.files * UNIT_BYTES }
-    ensures { MakesSuccessor F.known (R.known files.now) succession.entry.on_device
+    ensures { MakesSuccessor F.known (R.known files.now) succession.entry.on_device (new_disk
         succession.entry.new.path.now succession.entry.new.wasm.now
-        succession.entry.new.prepared.now handover out.old out.new err.old err.new result }
+        succession.entry.new.prepared.now) handover (printers out.old err.old)
+        (printers out.new err.new) result }
 {
     if succession.on_device {
         succeed_on_device(alloc, files, succession.new, handover, out, err)
@@ -199,9 +202,10 @@ where
     R: NewFiles<File = F>,
     W: Write + Drop,
     E: Write + Drop,
-    ensures { SucceedsOpened F.known (R.known files.now) succession.entry.from.now
-        succession.entry.on_device succession.entry.new.path.now succession.entry.new.wasm.now
-        succession.entry.new.prepared.now old.old old.new out.old out.new err.old err.new result }
+    ensures { SucceedsOpened F.known (R.known files.now) (succession_of succession.entry.from.now
+        succession.entry.on_device (new_disk succession.entry.new.path.now
+        succession.entry.new.wasm.now succession.entry.new.prepared.now)) old.old old.new
+        (printers out.old err.old) (printers out.new err.new) result }
 {
     let config = &succession.new.prepared.config;
     match take_over(alloc, old, succession.from, config, err) {
@@ -224,9 +228,10 @@ where
     R: NewFiles<File = F>,
     W: Write + Drop,
     E: Write + Drop,
-    ensures { SucceedsDisk F.known (R.known files.now) succession.entry.from.now
-        succession.entry.on_device succession.entry.new.path.now succession.entry.new.wasm.now
-        succession.entry.new.prepared.now out.old out.new err.old err.new result }
+    ensures { SucceedsDisk F.known (R.known files.now) (succession_of succession.entry.from.now
+        succession.entry.on_device (new_disk succession.entry.new.path.now
+        succession.entry.new.wasm.now succession.entry.new.prepared.now))
+        (printers out.old err.old) (printers out.new err.new) result }
 {
     let mut old = match open_disk(files, succession.from, false, err) {
         Ok(old) => old,

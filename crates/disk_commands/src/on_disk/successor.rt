@@ -10,10 +10,10 @@
 ghost use Rattle.std.specs.Prelude.{◌≡◌, ◌*◌, ◌≤◌, true, OnErr, OnOk};
 ghost use Rattle.file_tree.specs.declared.limits.TheConstants.{UNIT_BYTES};
 ghost use Rattle.file_tree.specs.rules.Files.{used};
-ghost use Rattle.command_words.specs.rules.Printers.{IsPrinted};
+ghost use Rattle.command_words.specs.rules.Printers.{IsPrinted, printers};
 ghost use Rattle.command_words.specs.rules.Reports.{SaysOnOutput};
 ghost use Rattle.command_words.specs.declared.status.Status.TheVariants as exit;
-ghost use Rattle.disk_commands.specs.rules.SuccessorDisks.{SucceedsOn, dropped_line};
+ghost use Rattle.disk_commands.specs.rules.SuccessorDisks.{SucceedsOn, dropped_line, successor};
 ghost use Rattle.disk_commands.specs.rules.SuccessorDisks.{goes_on_line, successor_text};
 
 use crate::on_disk::fault::{OnDiskFault, say_disk_fault};
@@ -75,8 +75,8 @@ fn say_successor<W: Write + Drop, E: Write + Drop>(
     numbers: Numbers,
     err: &mut Printer<E>,
 ) -> Status
-    ensures { SaysOnOutput (successor_text sectors numbers.requests numbers.lines
-        numbers.dropped) exit.Done out.old out.new err.old err.new result }
+    ensures { SaysOnOutput (successor_text sectors numbers.requests numbers.lines numbers.dropped)
+        exit.Done (printers out.old err.old) (printers out.new err.new) result }
 {
     match print_successor(out, sectors, numbers) {
         Ok(()) => Status::Done,
@@ -98,8 +98,8 @@ pub(super) fn succeed_on<D: Disk, W: Write + Drop, E: Write + Drop>(
     err: &mut Printer<E>,
 ) -> Status
     requires { used handover.legacy.files ≤ new.prepared.now.config.files * UNIT_BYTES }
-    ensures { SucceedsOn D.medium new.entry.wasm.now new.entry.prepared.now.config
-        handover disk.old disk.new out.old out.new err.old err.new result }
+    ensures { SucceedsOn D.medium (successor new.entry.wasm.now new.entry.prepared.now.config
+        handover) disk.old disk.new (printers out.old err.old) (printers out.new err.new) result }
 {
     let NewDisk { wasm, prepared, .. } = new;
     let config = &prepared.config;

@@ -16,9 +16,11 @@ ghost use Rattle.std.specs.Prelude.{◌≡◌, ◌≢◌, ◌≤◌, [], IfOk, O
 ghost use Rattle.disk_layout.specs.rules.Places.{total_sectors};
 ghost use Rattle.record_replay.specs.declared.slices.now.Now.TheVariants.{Spent};
 ghost use Rattle.worker.specs.rules.Scenes.{scene};
+ghost use Rattle.command_words.specs.rules.Printers.{printers};
 ghost use Rattle.disk_commands.specs.ComingUp.{ComesUp, IsUpgradedFrom, UpgradesOpen};
 ghost use Rattle.disk_commands.specs.rules.Refusals.{HeedsRefusal};
 ghost use Rattle.disk_commands.specs.rules.ServedFiles.{SaysUpgraded};
+ghost use Rattle.disk_commands.specs.rules.ServedOnDisk.{outputs};
 ghost use Rattle.disk_commands.specs.rules.Upgradings.{UpgradesOnDisk, from_list};
 ghost use Rattle.disk_commands.specs.rules.Upgradings.{status_so_far, upgraded_words};
 
@@ -99,8 +101,8 @@ fn bring_up<D: Disk, O: Outlet, E: Write + Drop>(
     err: &mut Printer<E>,
 ) -> Result<Upgraded, Status>
     requires { total_sectors worker.old.store.geometry ≤ (D.medium disk.old).sectors }
-    ensures { UpgradesOpen D.medium O.takes worker.old result disk.old disk.new outlet.old
-        outlet.new err.old err.new }
+    ensures { UpgradesOpen D.medium O.takes worker.old result disk.old disk.new
+        (outputs outlet.old err.old) (outputs outlet.new err.new) }
 {
     tell_recovered(err, worker);
     match worker.process().host().version() {
@@ -124,8 +126,8 @@ pub fn upgrade_worker<D: Disk, O: Outlet, E: Write + Drop>(
     outlet: &mut O,
     err: &mut Printer<E>,
 ) -> Result<Upgraded, Status>
-    ensures upgrades { UpgradesOnDisk D.medium O.takes result disk.old disk.new outlet.old
-        outlet.new err.old err.new }
+    ensures upgrades { UpgradesOnDisk D.medium O.takes result disk.old disk.new
+        (outputs outlet.old err.old) (outputs outlet.new err.new) }
 
     // The status is `Unwritten` just where the outlet has refused a line, or a write of `err` has
     // failed.
@@ -158,7 +160,8 @@ pub(super) fn say_upgraded<W: Write + Drop, E: Write + Drop>(
     outlet: &mut LineOutlet<W>,
     err: &mut Printer<E>,
 ) -> Status
-    ensures { SaysUpgraded upgraded outlet.old outlet.new err.old err.new result }
+    ensures { SaysUpgraded upgraded (printers outlet.old err.old) (printers outlet.new err.new)
+        result }
 {
     match upgraded {
         Ok(upgraded) => match outlet.write_text(words_of_upgrade(upgraded)) {

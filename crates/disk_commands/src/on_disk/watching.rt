@@ -20,11 +20,10 @@
 //!   `Onlooker` where it is, before it asks. A source that is ready doesn't wait: then nobody has
 //!   to be told.
 
-ghost use Rattle.std.specs.Prelude.{◌≡◌, true, OnErr, OnOk};
+ghost use Rattle.std.specs.Prelude.{◌≡◌, true, OnErr, OnOk, Some};
 ghost use Rattle.command_words.specs.rules.Printers.{IsPrinted};
 ghost use Rattle.disk_commands.specs.rules.Watchings.{left_words, state_words, watch_line};
 ghost use Rattle.disk_commands.specs.rules.Watchings.{watch_words};
-ghost use Rattle.std.specs.Prelude.{Some};
 
 use crate::on_disk::ending::print_last_words;
 use crate::on_disk::showing::print_number;

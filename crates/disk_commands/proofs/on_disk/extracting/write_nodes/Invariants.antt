@@ -7,5 +7,6 @@ use Rattle.disk_commands.proofs.on_disk.extracting.write_nodes.Given as goal
 -- the first nodes are made, and nothing is said
 abbrev pub invariant-loop-node : goal.invariant-loop-node
 invariant-loop-node g l = ((k : ℕ) (d : ListedNode) → k < l.node-index
-    → IsMadeBelow (g.R.NewTrees.trees l.files) l.new.path.now l.tree (slice_index_or l.nodes k d))
+    → IsMadeBelow (g.R.NewTrees.trees l.files) l.new.path.now l.new.tree.now
+    (slice_index_or l.nodes k d))
     × (l.err ≡ l.fn.err)

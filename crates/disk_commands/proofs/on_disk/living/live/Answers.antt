@@ -25,4 +25,4 @@ returns-in-Ok-Ended-clause-lives g c =
 pub returns-in-Err-clause-lives : goal.returns-in-Err-clause-lives
 returns-in-Err-clause-lives g c =
     round_broken g.D.Disk.medium g.S.Source.gives g.O.Outlet.takes _ _ _ _ c.loop-how.invariant
-    c.in-Err.fault _ _ _ c.in-Err.ensures.failed
+    c.in-Err.fault _ c.in-Err.ensures.failed

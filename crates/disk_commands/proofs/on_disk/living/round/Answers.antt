@@ -15,7 +15,7 @@ loop-now-init g c =
 pub returns-in-Err-clause-failed : goal.returns-in-Err-clause-failed
 returns-in-Err-clause-failed g c =
     within_breaks g.D.Disk.medium g.S.Source.gives g.O.Outlet.takes _ _ _ _ _ c.loop-now.invariant
-    _ c.get-every.ensures.value c.in-Err.fault _ _ _ c.in-Err.ensures.failed
+    _ c.get-every.ensures.value c.in-Err.fault _ c.in-Err.ensures.failed
 
 pub returns-then-taken-every-clause-done : goal.returns-then-taken-every-clause-done
 returns-then-taken-every-clause-done g c =

@@ -1,4 +1,5 @@
 use Rattle.std.specs.Io.Buffered.{reader_buffer}
+use Rattle.disk_commands.specs.rules.Leavings.{input_left}
 use Rattle.disk_commands.proofs.on_disk.running.serve_to_end.Goals as goal
 
 pub returns : goal.returns
@@ -10,11 +11,7 @@ returns g c =
       served = c.serve-status.result;
       serves = c.serve-status.ensures.serves;
       heeds = c.serve-status.ensures.refusal;
-      version = requests.version;
-      taken = requests.taken;
-      ahead = reader_buffer requests.reader.reader;
-      line = requests.reader.begun;
-      skipped = requests.skipped;
-      flaw = c.report_input.ensures.0;
+      left = input_left requests.version requests.taken (reader_buffer requests.reader.reader)
+          requests.reader.begun requests.skipped c.report_input.ensures.0;
       says = c.report_input.ensures.2;
     }

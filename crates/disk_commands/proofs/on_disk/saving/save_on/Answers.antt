@@ -1,4 +1,5 @@
 use Rattle.std.proofs.Common.{Ok, Err, ℕ, subst, refl}
+use Rattle.command_words.specs.rules.Printers.{printers}
 use Rattle.command_words.specs.rules.Reports.{SaysOnOutput}
 use Rattle.command_words.specs.declared.status.Status.TheVariants as exit
 use Rattle.disk_commands.specs.rules.SavedCopies.{saved_line}
@@ -19,10 +20,10 @@ returns-in-Ok g c =
       only_read = copied.only_read;
       calls = copied.calls;
       cause = copied.cause;
-      says = subst (λ (n : ℕ). SaysOnOutput (saved_line n) exit.Done c.args.out.now
-          c.say_saved.new.out
-          c.args.err.now c.say_saved.new.err c.say_saved.result) c.sectors-sectors.ensures
-          c.say_saved.ensures;
+      says = subst (λ (n : ℕ). SaysOnOutput (saved_line n) exit.Done
+          (printers c.args.out.now c.args.err.now)
+          (printers c.say_saved.new.out c.say_saved.new.err) c.say_saved.result)
+          c.sectors-sectors.ensures c.say_saved.ensures;
     }
 
 pub returns-in-Err : goal.returns-in-Err

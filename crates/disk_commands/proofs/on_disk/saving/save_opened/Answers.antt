@@ -1,6 +1,7 @@
 use Rattle.std.proofs.Common.{inl, subst}
 use Rattle.sector_disk.specs.rules.File.{file_medium}
-use Rattle.command_words.specs.rules.Printers.{PrinterState}
+use Rattle.command_words.specs.rules.Printers.{PrinterState, printers}
+use Rattle.disk_commands.specs.rules.Openings.{command_run}
 use Rattle.disk_commands.specs.rules.SavedCopies.{SavesInspected}
 use Rattle.disk_commands.proofs.on_disk.saving.save_opened.Goals as goal
 
@@ -14,6 +15,6 @@ returns-in-Ok g c =
       c.close.ensures,
       subst (λ (e : PrinterState). SavesInspected g.F.DiskFile.known
           (g.R.DiskFiles.known c.args.files.now) c.args.copy.now file_medium c.in-Ok.disk
-          saves.new.disk c.args.out.now saves.new.out e saves.new.err saves.result)
-          c.in-Ok.ensures.quiet saves.ensures,
+          saves.new.disk (command_run (printers c.args.out.now e)
+          (printers saves.new.out saves.new.err) saves.result)) c.in-Ok.ensures.quiet saves.ensures,
     )

@@ -1,6 +1,7 @@
 use Rattle.std.proofs.Common.{inl, subst}
 use Rattle.sector_disk.specs.rules.Memory.{memory_medium}
-use Rattle.command_words.specs.rules.Printers.{PrinterState}
+use Rattle.command_words.specs.rules.Printers.{PrinterState, printers}
+use Rattle.disk_commands.specs.rules.Openings.{command_run}
 use Rattle.disk_commands.specs.rules.SavedCopies.{SavesInspected}
 use Rattle.disk_commands.proofs.on_disk.saving.save_picture.Goals as goal
 
@@ -13,6 +14,6 @@ returns-in-Ok g c =
       c.in-Ok.ensures.pictured,
       subst (λ (e : PrinterState). SavesInspected g.F.DiskFile.known
           (g.R.DiskFiles.known c.args.files.now) c.args.copy.now memory_medium c.in-Ok.picture
-          saves.new.disk c.args.out.now saves.new.out e saves.new.err saves.result)
-          c.in-Ok.ensures.quiet saves.ensures,
+          saves.new.disk (command_run (printers c.args.out.now e)
+          (printers saves.new.out saves.new.err) saves.result)) c.in-Ok.ensures.quiet saves.ensures,
     )

@@ -1,4 +1,6 @@
 use Rattle.std.proofs.Common.{Ok, Err, ℕ, refl, rules, subst}
+use Rattle.command_words.specs.rules.Printers.{printers}
+use Rattle.disk_commands.specs.rules.Openings.{command_run}
 use Rattle.disk_commands.specs.rules.SavedCopies.{MakesCopy}
 use Rattle.disk_commands.proofs.on_disk.saving.save_worker.Goals as goal
 
@@ -9,7 +11,8 @@ returns-in-Ok g c = (
   c.in-Ok.ensures,
   subst (λ (n : ℕ). MakesCopy g.F.DiskFile.known (g.R.DiskFiles.known c.args.files.now)
       c.args.copy.now n (g.D.Disk.medium c.inspect.new.disk) (g.D.Disk.medium c.make_copy.new.disk)
-      c.args.out.now c.make_copy.new.out c.args.err.now c.make_copy.new.err c.make_copy.result)
+      (command_run (printers c.args.out.now c.args.err.now)
+      (printers c.make_copy.new.out c.make_copy.new.err) c.make_copy.result))
       c.total_sectors-sectors.ensures c.make_copy.ensures,
 )
 

@@ -1,5 +1,5 @@
 use Rattle.std.proofs.Common.{ℕ, arith, subst}
-use Rattle.command_words.specs.rules.Printers.{IsSaid}
+use Rattle.command_words.specs.rules.Printers.{IsSaid, printers}
 use Rattle.command_words.specs.rules.Reports.{SaysOnOutput}
 use Rattle.command_words.specs.declared.status.Status.TheVariants as exit
 use Rattle.disk_commands.specs.declared.on_disk.fault.OnDiskFault.{OnDiskFault}
@@ -17,17 +17,17 @@ returns-in-Ok g c =
     let left = c.args.handover in
     let made = c.in-Ok.ensures in
     let said = c.say_successor in
+    let before = printers c.args.out.now c.args.err.now in
+    let after = printers said.new.out said.new.err in
     successor_said g.D.Disk.medium c.args.new.wasm.now c.args.new.prepared.now.config left
     c.args.disk.now c.create_from.new.disk c.args.out.now said.new.out c.args.err.now said.new.err
     said.result made.keeps made.calls made.created
     (subst (λ (n : ℕ). SaysOnOutput (successor_text n left.legacy.requests left.legacy.lines
-    left.dropped) exit.Done c.args.out.now said.new.out c.args.err.now said.new.err said.result)
-    c.sectors_of.ensures
+    left.dropped) exit.Done before after said.result) c.sectors_of.ensures
     (subst (λ (n : ℕ). SaysOnOutput (successor_text c.sectors_of.result n left.legacy.lines
-    left.dropped) exit.Done c.args.out.now said.new.out c.args.err.now said.new.err said.result)
-    c.requests.ensures
+    left.dropped) exit.Done before after said.result) c.requests.ensures
     (subst (λ (n : ℕ). SaysOnOutput (successor_text c.sectors_of.result c.requests.result n
-    left.dropped) exit.Done c.args.out.now said.new.out c.args.err.now said.new.err said.result)
+    left.dropped) exit.Done before after said.result)
     c.lines.ensures.value said.ensures)))
 
 pub returns-in-Err : goal.returns-in-Err

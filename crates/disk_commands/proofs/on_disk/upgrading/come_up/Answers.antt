@@ -4,8 +4,7 @@ use Rattle.disk_commands.proofs.BreakLemmas.{slice_breaks_in}
 use Rattle.disk_commands.proofs.HearingLemmas.{slice_hears_up_to}
 use Rattle.disk_commands.proofs.TakingLemmas.{slice_heeds}
 use Rattle.disk_commands.proofs.LivingLemmas.{slice_fewer}
-use Rattle.disk_commands.proofs.UpgradingLemmas.{none_come, come_more, come_last}
-use Rattle.disk_commands.proofs.UpgradingLemmas.{come_broken}
+use Rattle.disk_commands.proofs.UpgradingLemmas.{none_come, come_more, come_last, come_broken}
 use Rattle.disk_commands.proofs.on_disk.upgrading.come_up.Goals as goal
 
 pub loop-how-init : goal.loop-how-init
