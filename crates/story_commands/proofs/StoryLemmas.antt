@@ -1,15 +1,13 @@
 -- The text of a story, line by line and life by life.
 use Rattle.std.proofs.Common.{◌≡◌, ℕ, ◌<◌, ◌+◌, List, [], ◌∷◌, ◌++◌, length, refl, sym, ap, ◌∙◌}
-use Rattle.std.proofs.Common.{subst}
-use Rattle.std.proofs.Common.{arith, take, get_or}
+use Rattle.std.proofs.Common.{subst, arith, take, get_or}
 use Rattle.std.specs.Prelude.{Option}
 use Rattle.std.specs.Io.KnownBytes.{Appends}
 use Rattle.std.proofs.lemmas.List.{append_assoc, append-nil, take_more, length-take-le}
 use Rattle.record_replay.specs.declared.line_list.NumberedLine.{NumberedLine}
 use Rattle.worker.specs.declared.story.report.LifeReport.{LifeReport}
 use Rattle.command_words.proofs.LineLemmas.Printed.{appends_both}
-use Rattle.story_commands.specs.rules.Stories.{release_text, releases_text, life_text}
-use Rattle.story_commands.specs.rules.Stories.{story_text}
+use Rattle.story_commands.specs.rules.Stories.{release_text, releases_text, life_text, story_text}
 
 -- ---- lines
 

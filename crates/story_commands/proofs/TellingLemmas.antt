@@ -13,7 +13,7 @@ use Rattle.command_words.specs.rules.Preparations.{IsPreparedAs, IsUnprepared, s
 use Rattle.command_words.specs.rules.Reports.{SaysLine, obstacle_status, obstacle_words}
 use Rattle.command_words.specs.rules.Pieces.{lines_of}
 use Rattle.command_words.specs.rules.Printers.{PrinterState, IsPrinted, IsSaid, SaysText}
-use Rattle.command_words.specs.rules.Printers.{HasOneFailed}
+use Rattle.command_words.specs.rules.Printers.{HasOneFailed, printers}
 use Rattle.command_words.specs.declared.status.Status.{Status}
 use Rattle.command_words.specs.declared.status.Status.TheVariants as exit
 use Rattle.story_commands.specs.rules.Scripts.{IsScript, IsFaultAt}
@@ -22,10 +22,10 @@ use Rattle.story_commands.specs.Said.{SaysLives}
 
 module _ (script wasm : List ℕ) (sizes : Sizes) (out out' err err' : PrinterState) where
   abbrev pub Says : Status → Type 0
-  Says status = TellsStory script wasm sizes out out' err err' status
+  Says status = TellsStory script wasm sizes (printers out err) (printers out' err') status
 
   -- a write has failed
-  says_unwritten : HasOneFailed out' err' → Says exit.Unwritten
+  says_unwritten : HasOneFailed (printers out' err') → Says exit.Unwritten
   says_unwritten failed = record {
     told = λ is. absurd cc;
     faulty = λ is. absurd cc;
@@ -117,7 +117,8 @@ module _ (script wasm : List ℕ) (sizes : Sizes) (out out' err err' : PrinterSt
   pub lives_told : (lives : List PlannedLife) → IsScript (lines_of script) lives
       → (prepared : Prepared) → IsPreparedAs (story_config sizes) wasm prepared
       → (reports : List LifeReport) → TellsLives wasm prepared.config lives reports
-      → (status : Status) → SaysLives reports out out' err err' status → Says status
+      → (status : Status) → SaysLives reports (printers out err) (printers out' err') status
+      → Says status
   lives_told lives spelled prepared prepares reports tells status (inl said) =
       subst Says (sym said.0) (record {
         told = λ is. (

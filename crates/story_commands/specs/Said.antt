@@ -1,8 +1,8 @@
 -- Texts that a sweep and a story print, and the status that comes with them.
-use Rattle.std.specs.Prelude.{◌≡◌, ◌⊎◌, ℕ, List}
+use Rattle.std.specs.Prelude.{◌≡◌, ◌⊎◌, ℕ, List, true}
 use Rattle.worker.specs.declared.recover_fault.RecoverFault.{RecoverFault}
 use Rattle.worker.specs.declared.story.report.LifeReport.{LifeReport}
-use Rattle.command_words.specs.rules.Printers.{PrinterState, IsPrinted, HasOneFailed}
+use Rattle.command_words.specs.rules.Printers.{PrinterState, Printers, IsPrinted, HasOneFailed}
 use Rattle.command_words.specs.declared.status.Status.{Status}
 use Rattle.command_words.specs.declared.status.Status.TheVariants as exit
 use Rattle.worker.specs.declared.fault.WorkFault.TheVariants as work
@@ -10,24 +10,25 @@ use Rattle.worker.specs.declared.upgrade_fault.UpgradeFault.TheVariants as upgra
 use Rattle.record_replay.specs.declared.slices.fault.Refusal.TheVariants as refusal
 use Rattle.record_replay.specs.declared.slices.fault.SliceFault.TheVariants as slice
 use Rattle.story_commands.specs.rules.Stories.{story_text}
-use Rattle.std.specs.Prelude.{true}
 use Rattle.story_commands.specs.rules.SweepTexts.{swept_line, plan_line}
 
 -- the line is printed, or memory is wanted for it, or a write has failed
-abbrev pub SaysSwept : ℕ → ℕ → PrinterState → PrinterState → PrinterState → PrinterState → Status
-    → Type 0
-SaysSwept cuts lines out out' err err' status =
-    ((status ≡ exit.Done) × IsPrinted out out' (swept_line cuts lines) × (err' ≡ err))
-    ⊎ ((status ≡ exit.OutOfMemory) × (out' ≡ out) × (err'.failed ≡ err.failed))
-    ⊎ ((status ≡ exit.Unwritten) × HasOneFailed out' err')
+abbrev pub SaysSwept : ℕ → ℕ → Printers → Printers → Status → Type 0
+SaysSwept cuts lines before after status =
+    ((status ≡ exit.Done) × IsPrinted before.out after.out (swept_line cuts lines)
+    × (after.err ≡ before.err))
+    ⊎ ((status ≡ exit.OutOfMemory) × (after.out ≡ before.out)
+    × (after.err.failed ≡ before.err.failed))
+    ⊎ ((status ≡ exit.Unwritten) × HasOneFailed after)
 
 -- lives that differ are told, or memory is wanted for that, or a write has failed
-abbrev pub SaysDifference : PrinterState → PrinterState → PrinterState → PrinterState → Status
-    → Type 0
-SaysDifference out out' err err' status =
-    ((status ≡ exit.Different) × (out'.failed ≡ out.failed) × (err'.failed ≡ err.failed))
-    ⊎ ((status ≡ exit.OutOfMemory) × (out' ≡ out) × (err'.failed ≡ err.failed))
-    ⊎ ((status ≡ exit.Unwritten) × HasOneFailed out' err')
+abbrev pub SaysDifference : Printers → Printers → Status → Type 0
+SaysDifference before after status =
+    ((status ≡ exit.Different) × (after.out.failed ≡ before.out.failed)
+    × (after.err.failed ≡ before.err.failed))
+    ⊎ ((status ≡ exit.OutOfMemory) × (after.out ≡ before.out)
+    × (after.err.failed ≡ before.err.failed))
+    ⊎ ((status ≡ exit.Unwritten) × HasOneFailed after)
 
 -- The line of a plan that can't be run to its end is printed. Or memory is wanted for it, or a
 -- write has failed.
@@ -38,9 +39,10 @@ SaysPlan number why err err' status =
     ⊎ ((status ≡ exit.Unwritten) × (err'.failed ≡ true))
 
 -- the text of these lives is printed, or memory is wanted for it, or a write has failed
-abbrev pub SaysLives : List LifeReport → PrinterState → PrinterState → PrinterState → PrinterState
-    → Status → Type 0
-SaysLives reports out out' err err' status =
-    ((status ≡ exit.Done) × IsPrinted out out' (story_text 1 reports) × (err' ≡ err))
-    ⊎ ((status ≡ exit.OutOfMemory) × (out' ≡ out) × (err'.failed ≡ err.failed))
-    ⊎ ((status ≡ exit.Unwritten) × HasOneFailed out' err')
+abbrev pub SaysLives : List LifeReport → Printers → Printers → Status → Type 0
+SaysLives reports before after status =
+    ((status ≡ exit.Done) × IsPrinted before.out after.out (story_text 1 reports)
+    × (after.err ≡ before.err))
+    ⊎ ((status ≡ exit.OutOfMemory) × (after.out ≡ before.out)
+    × (after.err.failed ≡ before.err.failed))
+    ⊎ ((status ≡ exit.Unwritten) × HasOneFailed after)

@@ -5,7 +5,7 @@ use Rattle.std.specs.Prelude.{Option, option_map, option_and_then, unwrap_or, if
 use Rattle.std.specs.List.{All}
 use Rattle.std.proofs.lemmas.List.Elements.{All-nil, All-push}
 use Rattle.worker.specs.declared.story.life.PlannedLife.{PlannedLife}
-use Rattle.story_commands.specs.declared.stories.draft.Draft.{Draft}
+use Rattle.story_commands.specs.declared.stories.draft.StoryDraft.{StoryDraft}
 use Rattle.story_commands.specs.declared.stories.line.ScriptLine.{ScriptLine}
 use Rattle.story_commands.specs.declared.stories.line.ScriptLine.TheVariants as said
 use Rattle.story_commands.specs.rules.Scripts.{said_by}
@@ -14,7 +14,7 @@ use Rattle.story_commands.specs.laws.Drafts.{IsCalmDraft, draft_start, lives_so_
 use Rattle.story_commands.specs.laws.Drafts.{put_in, put_line, put_text, with_life}
 
 -- all lives so far are calm
-pub calm_lives : (draft : Draft) → IsCalmDraft draft → All IsCalm (lives_so_far draft)
+pub calm_lives : (draft : StoryDraft) → IsCalmDraft draft → All IsCalm (lives_so_far draft)
 calm_lives draft calm = by draft.is_begun
   where
     by : (b : Bool) → All IsCalm (if b then draft.lives ++ draft.life ∷ [] else draft.lives)
@@ -28,23 +28,23 @@ calm_start = record {
 }
 
 -- the lives before the last one stay
-lives_stay : (draft new : Draft) (b : Bool) (made : Option PlannedLife)
+lives_stay : (draft new : StoryDraft) (b : Bool) (made : Option PlannedLife)
     → (if b then option_map (with_life draft) made else None) ≡ Some new → new.lives ≡ draft.lives
 lives_stay draft new true (Some life) e =
-    ap (λ (o : Option Draft). (unwrap_or o draft).lives) (sym e)
+    ap (λ (o : Option StoryDraft). (unwrap_or o draft).lives) (sym e)
 lives_stay draft new true None e = cc e
 lives_stay draft new false made e = cc e
 
-calm_behind : (line : ScriptLine) (draft new : Draft) → put_behind line draft ≡ Some new
+calm_behind : (line : ScriptLine) (draft new : StoryDraft) → put_behind line draft ≡ Some new
     → All IsCalm draft.lives → All IsCalm new.lives
 calm_behind line draft new e calm =
     subst (All IsCalm) (sym (lives_stay draft new draft.is_begun (put_in line draft.life) e)) calm
 
-calm_line : (line : ScriptLine) (draft new : Draft) → put_line line draft ≡ Some new
+calm_line : (line : ScriptLine) (draft new : StoryDraft) → put_line line draft ≡ Some new
     → IsCalmDraft draft → All IsCalm new.lives
 calm_line said.Life draft new e calm =
-    subst (λ (d : Draft). All IsCalm d.lives) (ap (λ (o : Option Draft). unwrap_or o draft) e)
-    (calm_lives draft calm)
+    subst (λ (d : StoryDraft). All IsCalm d.lives)
+    (ap (λ (o : Option StoryDraft). unwrap_or o draft) e) (calm_lives draft calm)
 calm_line (said.Answer answer) draft new e calm =
     calm_behind (said.Answer answer) draft new e calm.lives
 calm_line (said.Act act) draft new e calm = calm_behind (said.Act act) draft new e calm.lives
@@ -58,7 +58,7 @@ calm_line (said.Tears fronts) draft new e calm =
     calm_behind (said.Tears fronts) draft new e calm.lives
 
 -- one line more, after which nothing befalls the last life
-pub calm_text : (text : List ℕ) (draft new : Draft) → put_text text draft ≡ Some new
+pub calm_text : (text : List ℕ) (draft new : StoryDraft) → put_text text draft ≡ Some new
     → IsCalm new.life → IsCalmDraft draft → IsCalmDraft new
 calm_text text draft new e last calm = record { lives = by (said_by text) e; life = last }
   where

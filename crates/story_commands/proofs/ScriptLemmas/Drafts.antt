@@ -1,10 +1,7 @@
 -- Lives that are read line by line, and the lives of a script.
-use Rattle.std.proofs.Common.{◌≡◌, ℕ, ◌==◌, List}
-use Rattle.std.proofs.Common.{[], ◌∷◌, ◌++◌}
-use Rattle.std.proofs.Common.{length, Some, None, refl, sym, ap, ◌∙◌, subst, arith}
-use Rattle.std.proofs.Common.{append_assoc, append-nil}
-use Rattle.std.specs.Prelude.{Option, if◌then◌else◌, option_and_then, is_none}
-use Rattle.std.specs.Prelude.{unwrap_or}
+use Rattle.std.proofs.Common.{◌≡◌, ℕ, ◌==◌, List, [], ◌∷◌, ◌++◌, length, Some, None, refl, sym, ap}
+use Rattle.std.proofs.Common.{◌∙◌, subst, arith, append_assoc, append-nil}
+use Rattle.std.specs.Prelude.{Option, if◌then◌else◌, option_and_then, is_none, unwrap_or}
 use Rattle.std.proofs.lemmas.Bool.{cond-false, ne_eqb}
 use Rattle.std.proofs.lemmas.Option.{none-some}
 use Rattle.std.specs.List.{flat_map}

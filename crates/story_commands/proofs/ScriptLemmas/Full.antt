@@ -1,6 +1,5 @@
 -- Lines that say tears say at least one number.
-use Rattle.std.proofs.Common.{ℕ, Bool, true, false, List, [], ◌∷◌, Some, None, sym}
-use Rattle.std.proofs.Common.{subst}
+use Rattle.std.proofs.Common.{ℕ, Bool, true, false, List, [], ◌∷◌, Some, None, sym, subst}
 use Rattle.std.specs.Prelude.{Option, if◌then◌else◌, option_map, option_and_then, codes}
 use Rattle.std.specs.Str.{bytes_eq}
 use Rattle.command_words.specs.rules.Pieces.{split_once}

@@ -1,32 +1,28 @@
 -- The lives of a script, and what reading it line by line gives.
-use Rattle.std.proofs.Common.{◌≡◌, ℕ, true, List}
-use Rattle.std.proofs.Common.{[], ◌∷◌, ◌++◌}
-use Rattle.std.proofs.Common.{map, Some, None, refl, sym, ap, ◌∙◌, subst}
-use Rattle.std.proofs.Common.{append_assoc, append-nil}
+use Rattle.std.proofs.Common.{◌≡◌, ℕ, true, List, [], ◌∷◌, ◌++◌, map, Some, None, refl, sym, ap}
+use Rattle.std.proofs.Common.{◌∙◌, subst, append_assoc, append-nil}
 use Rattle.std.specs.Prelude.{Option, option_map, option_and_then, unwrap_or, IsSome}
 use Rattle.std.specs.Option.{option_to_list}
 use Rattle.worker.specs.declared.story.life.PlannedLife.{PlannedLife}
-use Rattle.story_commands.specs.declared.stories.draft.Draft.{Draft}
+use Rattle.story_commands.specs.declared.stories.draft.StoryDraft.{StoryDraft}
 use Rattle.story_commands.specs.declared.stories.line.ScriptLine.{ScriptLine}
 use Rattle.story_commands.specs.declared.stories.line.ScriptLine.TheVariants as said
 use Rattle.story_commands.specs.rules.Scripts.{said_by, SpellsLife, AreLivesOf, IsScript}
 use Rattle.story_commands.specs.laws.Drafts.{empty_life, draft_start, lives_so_far, put_in}
-use Rattle.story_commands.specs.laws.Drafts.{put_line}
-use Rattle.story_commands.specs.laws.Drafts.{put_texts, with_life}
-use Rattle.story_commands.proofs.ScriptLemmas.Drafts.{IsFull, AreFull, IsOnto, put_all_in}
-use Rattle.story_commands.proofs.ScriptLemmas.Drafts.{step_on}
+use Rattle.story_commands.specs.laws.Drafts.{put_line, put_texts, with_life}
+use Rattle.story_commands.proofs.ScriptLemmas.Drafts.{IsFull, AreFull, IsOnto, put_all_in, step_on}
 use Rattle.story_commands.proofs.ScriptLemmas.Drafts.{put_one, puts_all}
 
-abbrev pub begun : List PlannedLife → PlannedLife → Draft
+abbrev pub begun : List PlannedLife → PlannedLife → StoryDraft
 begun lives life = record { lives = lives; life = life; is_begun = true }
 
-abbrev pub put_all : List ScriptLine → Draft → Option Draft
+abbrev pub put_all : List ScriptLine → StoryDraft → Option StoryDraft
 put_all [] draft = Some draft
 put_all (line ∷ lines) draft = option_and_then (put_all lines) (put_line line draft)
 
 -- lines fall into what goes on with a life and the lives after it
 pub record GoesOnWith (lines : List ScriptLine) (before : List PlannedLife) (start : PlannedLife)
-    (draft : Draft) : Type 0 where
+    (draft : StoryDraft) : Type 0 where
   pub own : List ScriptLine
   pub rest : List ScriptLine
   pub life : PlannedLife
@@ -73,7 +69,7 @@ empty_onto own life is = record {
 
 -- a line of the life that was begun
 one_on : (line : ScriptLine) (lines : List ScriptLine) (before : List PlannedLife)
-    (start : PlannedLife) (draft : Draft)
+    (start : PlannedLife) (draft : StoryDraft)
     → IsFull line
     → ((mid : PlannedLife) → put_all lines (begun before mid) ≡ Some draft
     → GoesOnWith lines before mid draft)
@@ -96,7 +92,7 @@ one_on line lines before start draft full next (Some mid) is e =
     }
 
 goes_on : (lines : List ScriptLine) (before : List PlannedLife) (start : PlannedLife)
-    (draft : Draft)
+    (draft : StoryDraft)
     → AreFull lines → put_all lines (begun before start) ≡ Some draft
     → GoesOnWith lines before start draft
 goes_on [] before start draft full e = record {
@@ -148,7 +144,7 @@ goes_on (said.Tears fronts ∷ lines) before start draft full e =
     (λ mid. goes_on lines before mid draft full.1) (put_in (said.Tears fronts) start) refl e
 
 -- what was read from the start is lives
-pub read_lives : (lines : List ScriptLine) (draft : Draft) → AreFull lines
+pub read_lives : (lines : List ScriptLine) (draft : StoryDraft) → AreFull lines
     → put_all lines draft_start ≡ Some draft → AreLivesOf lines (lives_so_far draft)
 read_lives [] draft full e =
     subst (λ d. AreLivesOf [] (lives_so_far d)) (ap (λ o. unwrap_or o draft_start) e) refl
@@ -205,8 +201,8 @@ full_front : (own rest : List ScriptLine) → AreFull (own ++ rest) → AreFull 
 full_front [] rest full = (tt, full)
 full_front (line ∷ own) rest full = let f = full_front own rest full.1 in ((full.0, f.0), f.1)
 
-lives_put : (lives : List PlannedLife) (lines : List ScriptLine) (draft : Draft) → AreFull lines
-    → AreLivesOf lines lives → IsSome (put_all lines draft)
+lives_put : (lives : List PlannedLife) (lines : List ScriptLine) (draft : StoryDraft)
+    → AreFull lines → AreLivesOf lines lives → IsSome (put_all lines draft)
 lives_put [] lines draft full is = subst (λ l. IsSome (put_all l draft)) (sym is) refl
 lives_put (life ∷ lives) lines draft full is =
     let own = is.0 in
@@ -238,7 +234,7 @@ are_full full (text ∷ texts) (line ∷ lines) e =
     let tail : map said_by texts ≡ map Some lines = cc e in
     (subst IsFullOption head (full text), are_full full texts lines tail)
 
-texts_put : (texts : List (List ℕ)) (lines : List ScriptLine) (draft : Draft)
+texts_put : (texts : List (List ℕ)) (lines : List ScriptLine) (draft : StoryDraft)
     → map said_by texts ≡ map Some lines → put_texts texts draft ≡ put_all lines draft
 unfolding put_texts
 texts_put [] [] draft e = refl
@@ -250,21 +246,21 @@ texts_put (text ∷ texts) (line ∷ lines) draft e =
     ap (λ o. option_and_then (put_texts texts) (option_and_then (λ l. put_line l draft) o)) head
     ∙ on (put_line line draft) (λ d. texts_put texts lines d tail)
   where
-    on : (o : Option Draft) → ((d : Draft) → put_texts texts d ≡ put_all lines d)
+    on : (o : Option StoryDraft) → ((d : StoryDraft) → put_texts texts d ≡ put_all lines d)
         → option_and_then (put_texts texts) o ≡ option_and_then (put_all lines) o
     on None h = refl
     on (Some d) h = h d
 
 -- what was put was said
-were_said : (texts : List (List ℕ)) (from to : Draft) → put_texts texts from ≡ Some to
+were_said : (texts : List (List ℕ)) (from to : StoryDraft) → put_texts texts from ≡ Some to
     → (lines : List ScriptLine) × (map said_by texts ≡ map Some lines)
 unfolding put_texts
 were_said [] from to e = ([], refl)
 were_said (text ∷ texts) from to e = by (said_by text) refl e (λ d. were_said texts d to)
   where
-    next : (line : ScriptLine) → said_by text ≡ Some line → (o : Option Draft)
+    next : (line : ScriptLine) → said_by text ≡ Some line → (o : Option StoryDraft)
         → option_and_then (put_texts texts) o ≡ Some to
-        → ((d : Draft) → put_texts texts d ≡ Some to
+        → ((d : StoryDraft) → put_texts texts d ≡ Some to
         → (lines : List ScriptLine) × (map said_by texts ≡ map Some lines))
         → (lines : List ScriptLine) × (map said_by (text ∷ texts) ≡ map Some lines)
     next line is None e more = cc e
@@ -277,14 +273,14 @@ were_said (text ∷ texts) from to e = by (said_by text) refl e (λ d. were_said
 
     by : (o : Option ScriptLine) → said_by text ≡ o
         → option_and_then (put_texts texts) (option_and_then (λ l. put_line l from) o) ≡ Some to
-        → ((d : Draft) → put_texts texts d ≡ Some to
+        → ((d : StoryDraft) → put_texts texts d ≡ Some to
         → (lines : List ScriptLine) × (map said_by texts ≡ map Some lines))
         → (lines : List ScriptLine) × (map said_by (text ∷ texts) ≡ map Some lines)
     by None is e more = cc e
     by (Some line) is e more = next line is (put_line line from) e more
 
 -- what was read is a script
-pub read_is_script : SayFull → (texts : List (List ℕ)) (draft : Draft)
+pub read_is_script : SayFull → (texts : List (List ℕ)) (draft : StoryDraft)
     → put_texts texts draft_start ≡ Some draft → IsScript texts (lives_so_far draft)
 read_is_script full texts draft e =
     let s = were_said texts draft_start draft e in (
@@ -301,6 +297,6 @@ script_is_read full texts lives is none =
     let some = lives_put lives is.0 draft_start (are_full full texts is.0 is.1) is.2 in
     absurd (by (put_all is.0 draft_start) (sym (texts_put texts is.0 draft_start is.1) ∙ none) some)
   where
-    by : (o : Option Draft) → o ≡ None → IsSome o → ⊥
+    by : (o : Option StoryDraft) → o ≡ None → IsSome o → ⊥
     by None e s = cc s
     by (Some d) e s = cc e

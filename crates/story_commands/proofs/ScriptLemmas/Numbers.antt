@@ -45,9 +45,6 @@ number_read ds r parsed digits =
     (parse_digits (numerals_by_value _ tells_all_ascii_digits) 64 ds r parsed digits)
     ∙ sym (cond-true _ _ _ digits)
 
-pub number_refused : (ds : List ℕ) → all_ascii_digits ds ≡ false → None ≡ number_spelled ds
-number_refused ds digits = sym (cond-false _ _ _ digits)
-
 pub ascii_digits : (ds : List ℕ) → all_ascii_digits ds ≡ true → IsAscii ds
 ascii_digits [] e = IsAscii-nil
 ascii_digits (d ∷ ds) e =

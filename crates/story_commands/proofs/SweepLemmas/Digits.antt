@@ -1,9 +1,9 @@
 -- Digits in groups, digit after digit.
-use Rattle.std.proofs.Common.{◌≡◌, ℕ, ◌+◌, ◌<◌, ◌≤◌, List, [], ◌∷◌, ◌++◌, length, drop, get_or, sym}
-use Rattle.std.proofs.Common.{ap, ◌∙◌, subst, append_assoc, arith, length-drop}
+use Rattle.std.proofs.Common.{◌≡◌, ℕ, ◌+◌, ◌<◌, List, [], ◌∷◌, ◌++◌, length, drop, get_or, sym}
+use Rattle.std.proofs.Common.{ap, ◌∙◌, append_assoc, arith, length-drop}
 use Rattle.std.specs.Prelude.{Option}
 use Rattle.std.specs.Io.KnownBytes.{Appends}
-use Rattle.std.proofs.lemmas.List.{append-nil, drop_all, drop_more}
+use Rattle.std.proofs.lemmas.List.{drop_more}
 use Rattle.command_words.proofs.LineLemmas.Printed.{appends_both}
 use Rattle.story_commands.specs.rules.SweepTexts.{comma_before, grouped}
 
@@ -34,14 +34,6 @@ digit_more digits i digit digits_left before now mid next within is count has fi
           ∙ ap (λ (n : ℕ). has.text ++ ((digit ∷ comma_before n) ++ grouped rest)) behind
           ∙ ap (λ (l : List ℕ). has.text ++ grouped l) (sym whole) ∙ has.whole;
     }
-
--- and all of them
-pub digits_spelled : (digits : List ℕ) (i : ℕ) (before now : Option (List ℕ))
-    → length digits ≤ i → HasSpelled digits i before now → Appends before now (grouped digits)
-digits_spelled digits i before now past has =
-    let nothing : grouped (drop i digits) ≡ [] = ap grouped (drop_all i digits past) in
-    subst (Appends before now)
-    (sym (append-nil has.text) ∙ ap (λ l. has.text ++ l) (sym nothing) ∙ has.whole) has.written
 
 -- five texts, one after the other
 pub appends_five : (a b c d e f : Option (List ℕ)) (p q r s t : List ℕ) → Appends a b p

@@ -1,14 +1,10 @@
 -- Lists that the loops of a sweep make.
 use Rattle.std.proofs.Common.{◌≡◌, ℕ, ◌+◌, ◌<◌, ◌≤◌, List, [], ◌∷◌, ◌++◌, length, take, drop}
-use Rattle.std.proofs.Common.{Bool, true, false, get_or, sym, ap, ◌∙◌, append_assoc, subst}
+use Rattle.std.proofs.Common.{Bool, false, get_or, sym, ap, ◌∙◌, append_assoc, subst}
 use Rattle.std.specs.Prelude.{◌||◌}
 use Rattle.std.specs.List.{All, flat_map, list_any}
 use Rattle.std.proofs.lemmas.List.Elements.{All-push}
-use Rattle.std.proofs.lemmas.List.{append-nil, drop_all, drop_more, flat_map_more, take_more}
-use Rattle.wasi_abi.specs.declared.answer.Answer.{Answer}
-use Rattle.worker.specs.declared.story.life.PlannedLife.{PlannedLife}
-use Rattle.worker.specs.declared.story.report.LifeReport.{LifeReport}
-use Rattle.story_commands.specs.rules.Sweeps.{answers_kept, kept_in}
+use Rattle.std.proofs.lemmas.List.{drop_all, drop_more, flat_map_more, take_more}
 
 -- one item more
 pub taken_more : {X : Type 0} (xs : List X) (i : ℕ) (x : X) → i < length xs → x ≡ get_or xs i x
@@ -36,14 +32,6 @@ any_later test xs i other all within off so_far =
     ap (λ (b : Bool). b || list_any test (drop (i + 1) xs)) (sym off)
     ∙ ap (list_any test) (sym (drop_more xs i other within)) ∙ so_far
 
--- one for which it does
-pub any_found : {X : Type 0} (test : X → Bool) (xs : List X) (i : ℕ) (other : X) (all : Bool)
-    → i < length xs → test (get_or xs i other) ≡ true → list_any test (drop i xs) ≡ all
-    → true ≡ all
-any_found test xs i other all within on so_far =
-    ap (λ (b : Bool). b || list_any test (drop (i + 1) xs)) (sym on)
-    ∙ ap (list_any test) (sym (drop_more xs i other within)) ∙ so_far
-
 -- and none at all
 pub any_nowhere : {X : Type 0} (test : X → Bool) (xs : List X) (i : ℕ) (all : Bool)
     → length xs ≤ i → list_any test (drop i xs) ≡ all → false ≡ all
@@ -54,26 +42,3 @@ pub flat_more : {X A : Type 0} (f : X → List A) (xs : List X) (i : ℕ) (x : X
     → x ≡ get_or xs i x → flat_map f (take i xs) ++ f x ≡ flat_map f (take (i + 1) xs)
 flat_more f xs i x within is =
     flat_map_more f [] (take i xs) x ∙ ap (flat_map f) (sym (taken_more xs i x within is))
-
--- the answers of one life more
-pub more_answers : (list : List Answer) (lives : List PlannedLife) (i : ℕ) (life : PlannedLife)
-    (later : List LifeReport) (all : List Answer) → i < length lives → life ≡ get_or lives i life
-    → list ++ answers_kept (drop i lives) later ≡ all
-    → (list ++ kept_in later life.answers) ++ answers_kept (drop (i + 1) lives) (drop 1 later)
-    ≡ all
-more_answers list lives i life later all within is so_far =
-    let whole : drop i lives ≡ life ∷ drop (i + 1) lives =
-    drop_more lives i life within
-    ∙ ap (λ (x : PlannedLife). x ∷ drop (i + 1) lives) (sym is) in
-    append_assoc list (kept_in later life.answers)
-    (answers_kept (drop (i + 1) lives) (drop 1 later))
-    ∙ ap (λ (ls : List PlannedLife). list ++ answers_kept ls later) (sym whole) ∙ so_far
-
--- and of all lives
-pub all_answers : (list : List Answer) (lives : List PlannedLife) (i : ℕ)
-    (later : List LifeReport) (all : List Answer) → length lives ≤ i
-    → list ++ answers_kept (drop i lives) later ≡ all → list ≡ all
-all_answers list lives i later all past so_far =
-    sym (append-nil list)
-    ∙ ap (λ (ls : List PlannedLife). list ++ answers_kept ls later)
-    (sym (drop_all i lives past)) ∙ so_far

@@ -1,5 +1,5 @@
 -- What is known of lives that were run, by why a sweep ends early.
-use Rattle.std.proofs.Common.{◌≡◌, ℕ, ◌+◌, ◌≤◌, List, [], ◌++◌, Ok, Err, Result, arith, drop, inl}
+use Rattle.std.proofs.Common.{◌≡◌, ℕ, ◌+◌, List, [], ◌++◌, Ok, Err, Result, arith, drop, inl}
 use Rattle.std.proofs.Common.{Bool, ap, append_assoc, inr, length, refl, subst, sym, take, ◌∙◌}
 use Rattle.std.proofs.lemmas.List.Elements.{All-append, All-take}
 use Rattle.std.specs.Prelude.{◌<◌, IfErr, IfOk, Some}
@@ -18,12 +18,12 @@ use Rattle.story_commands.specs.declared.sweeping.cutting.Sweep.{Sweep}
 use Rattle.story_commands.specs.declared.sweeping.fault.SweepFault.{SweepFault}
 use Rattle.story_commands.specs.declared.sweeping.fault.SweepFault.TheVariants as fault
 use Rattle.story_commands.specs.declared.sweeping.running.RunLives.{RunLives}
-use Rattle.story_commands.specs.rules.Sweeps.{AreCutsTo, IsCutRun, IsSwept, and_idle, cut_at}
+use Rattle.story_commands.specs.rules.Sweeps.{AreCutsTo, IsCutRun, IsSwept, SweptPartValue}
+use Rattle.story_commands.specs.rules.Sweeps.{and_idle, cut_at, swept_part}
 use Rattle.story_commands.specs.rules.Sweeps.{HadMemory, HasFailedPlan, end_at, first_stopped}
 use Rattle.story_commands.specs.rules.Sweeps.{given_at, lives_after}
-use Rattle.story_commands.specs.laws.CutRuns.{AreRun, CallsBegun, HasRunCut, HaveAgreed}
-use Rattle.story_commands.specs.laws.CutRuns.{IsCutFault, IsStarted, cut_of}
-use Rattle.story_commands.specs.laws.CutRuns.{IsFoundFirst, IsPlainRun, IsPlanFault}
+use Rattle.story_commands.specs.laws.CutRuns.{AreRun, CallsBegun, HasRunCut, HaveAgreed, IsCutFault}
+use Rattle.story_commands.specs.laws.CutRuns.{IsStarted, cut_of, IsPlainRun, IsPlanFault}
 use Rattle.story_commands.specs.laws.CutRuns.{IsSweepFault, IsSweepOf, IsSweptAt, IsTestFault}
 use Rattle.story_commands.specs.laws.CutRuns.{IsPlainUpTo, IsToldPlain}
 
@@ -71,36 +71,6 @@ cut_run sweep place given lives (Ok reports) is planned told fed =
       fed = fed;
     }
 cut_run sweep place given lives (Err why) is planned told fed = tt
-
--- a cut is run after the plan and the upgrade were
-pub cut_is_late : {P : Type 0} (sweep : Sweep) (calls : ℕ) (why : SweepFault)
-    → IsCutFault sweep calls why → IsFoundFirst why → P
-cut_is_late sweep calls fault.Memory h first = absurd first
-cut_is_late sweep calls (fault.Plan number why) h first = absurd h
-cut_is_late sweep calls (fault.Upgrade run) h first = absurd h
-cut_is_late sweep calls (fault.Differs run) h first = absurd first
-
--- out of memory
-pub starved_cut : (sweep : Sweep) (calls : ℕ) (why : SweepFault) → why ≡ fault.Memory
-    → IsCutFault sweep calls why
-starved_cut sweep calls why is = subst (IsCutFault sweep calls) (sym is) tt
-
-pub starved_upgrade : (sweep : Sweep) (why : SweepFault) → why ≡ fault.Memory
-    → IsTestFault sweep why
-starved_upgrade sweep why is = subst (IsTestFault sweep) (sym is) tt
-
-pub starved_plan : (wasm : List ℕ) (config : Settings) (lives : List PlannedLife)
-    (why : SweepFault) → why ≡ fault.Memory → IsPlanFault wasm config lives why
-starved_plan wasm config lives why is = subst (IsPlanFault wasm config lives) (sym is) tt
-
--- a cut up to a call is one up to a later call
-pub later_cut : (sweep : Sweep) (call calls : ℕ) (why : SweepFault) → call ≤ calls
-    → IsCutFault sweep call why → IsCutFault sweep calls why
-later_cut sweep call calls fault.Memory within h = tt
-later_cut sweep call calls (fault.Plan number why) within h = absurd h
-later_cut sweep call calls (fault.Upgrade run) within h = absurd h
-later_cut sweep call calls (fault.Differs run) within (place, given, early, lives, has) =
-    (place, given, omega (arith, early, within), lives, has)
 
 -- the run without a cut
 pub plan_ends : (wasm : List ℕ) (config : Settings) (lives : List PlannedLife) (place : ℕ)
@@ -235,15 +205,17 @@ same_runs : (w wasm : List ℕ) (c config : Settings) (e earlier s swept : List 
     (t told : List LifeReport) (l texts : List NumberedLine) (before : ℕ)
     (Holds : (FaultPoint → Bool → Type 0) → Type 0)
     → w ≡ wasm → c ≡ config → e ≡ earlier → s ≡ swept → t ≡ told → l ≡ texts
-    → Holds (IsCutRun w c e s t l before)
-    → Holds (IsCutRun wasm config earlier swept told texts before)
+    → Holds (IsCutRun w c (swept_part e s t before) l)
+    → Holds (IsCutRun wasm config (swept_part earlier swept told before) texts)
 same_runs w wasm c config e earlier s swept t told l texts before Holds hw hc he hs ht hl runs =
-    subst (λ (x : List ℕ). Holds (IsCutRun x config earlier swept told texts before)) hw
-    (subst (λ (x : Settings). Holds (IsCutRun w x earlier swept told texts before)) hc
-    (subst (λ (x : List PlannedLife). Holds (IsCutRun w c x swept told texts before)) he
-    (subst (λ (x : List PlannedLife). Holds (IsCutRun w c e x told texts before)) hs
-    (subst (λ (x : List LifeReport). Holds (IsCutRun w c e s x texts before)) ht
-    (subst (λ (x : List NumberedLine). Holds (IsCutRun w c e s t x before)) hl runs)))))
+    let of : List PlannedLife → List PlannedLife → List LifeReport → SweptPartValue =
+    λ e s t. swept_part e s t before in
+    subst (λ (x : List ℕ). Holds (IsCutRun x config (of earlier swept told) texts)) hw
+    (subst (λ (x : Settings). Holds (IsCutRun w x (of earlier swept told) texts)) hc
+    (subst (λ (x : List PlannedLife). Holds (IsCutRun w c (of x swept told) texts)) he
+    (subst (λ (x : List PlannedLife). Holds (IsCutRun w c (of e x told) texts)) hs
+    (subst (λ (x : List LifeReport). Holds (IsCutRun w c (of e s x) texts)) ht
+    (subst (λ (x : List NumberedLine). Holds (IsCutRun w c (of e s t) x)) hl runs)))))
 
 -- all cuts agree
 pub all_agree : (wasm : List ℕ) (config : Settings) (lives : List PlannedLife) (place : ℕ)

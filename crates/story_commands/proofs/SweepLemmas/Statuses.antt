@@ -11,6 +11,7 @@ use Rattle.command_words.specs.declared.preparing.Unprepared.TheVariants as unpr
 use Rattle.command_words.specs.rules.Preparations.{IsPreparedAs, status_unprepared}
 use Rattle.command_words.specs.rules.Pieces.{lines_of}
 use Rattle.command_words.specs.rules.Printers.{PrinterState, IsSaid, HasOneFailed, SaysText}
+use Rattle.command_words.specs.rules.Printers.{printers}
 use Rattle.command_words.specs.declared.status.Status.{Status}
 use Rattle.command_words.specs.declared.status.Status.TheVariants as exit
 use Rattle.story_commands.specs.rules.Stories.{script_line, story_config}
@@ -18,11 +19,9 @@ use Rattle.story_commands.specs.declared.stories.fault.ScriptFault.{ScriptFault}
 use Rattle.story_commands.specs.declared.stories.fault.ScriptFault.TheVariants as unread
 use Rattle.story_commands.specs.rules.Sweeps.{AreCompared, AreSweptLives, HasFailedPlan}
 use Rattle.story_commands.specs.rules.Sweeps.{IsDoneAgain, IsSwept}
-use Rattle.story_commands.specs.rules.SweepTexts.{IsOfScript, IsUnsweepable}
-use Rattle.story_commands.specs.Said.{SaysDifference}
-use Rattle.story_commands.specs.rules.SweepTexts.{SaysScriptFault}
-use Rattle.story_commands.specs.Said.{SaysPlan, SaysSwept}
+use Rattle.story_commands.specs.rules.SweepTexts.{IsOfScript, IsUnsweepable, SaysScriptFault}
 use Rattle.story_commands.specs.rules.SweepTexts.{TellsSweep, no_upgrade_line}
+use Rattle.story_commands.specs.Said.{SaysDifference, SaysPlan, SaysSwept}
 use Rattle.story_commands.specs.declared.sweeping.fault.SweepFault.{SweepFault}
 use Rattle.story_commands.specs.declared.sweeping.fault.SweepFault.TheVariants as fault
 use Rattle.story_commands.specs.declared.sweeping.whole_sweep.Swept.{Swept}
@@ -43,10 +42,11 @@ script_fault_said unread.Memory old status new faulty starved = inr (inr (starve
 module _ (script wasm : List ℕ) (sizes : Sizes) (fronts : List ℕ) (number : Option ℕ)
     (out out' err mid err' : PrinterState) (steady : mid.failed ≡ err.failed) where
   abbrev pub Says : Status → Type 0
-  Says status = TellsSweep script wasm sizes fronts number out out' err err' status
+  Says status = TellsSweep script wasm sizes fronts number (printers out err)
+      (printers out' err') status
 
   -- a write has failed
-  pub says_unwritten : HasOneFailed out' err' → Says exit.Unwritten
+  pub says_unwritten : HasOneFailed (printers out' err') → Says exit.Unwritten
   says_unwritten failed = record {
     done = λ is. absurd cc;
     differs = λ is. absurd cc;
@@ -125,7 +125,8 @@ module _ (script wasm : List ℕ) (sizes : Sizes) (fronts : List ℕ) (number : 
       → AreSweptLives (lines_of script) number lives place
       → (prepared : Prepared) → IsPreparedAs (story_config sizes) wasm prepared
       → AreCompared wasm prepared.config lives place
-      → (status : Status) → SaysDifference out out' mid err' status → Says status
+      → (status : Status) → SaysDifference (printers out mid) (printers out' err') status
+      → Says status
   differs lives place spelled prepared prepares compared status (inl said) =
       subst Says (sym said.0)
       (says_different (of_script lives place spelled prepared prepares compared) said.1 said.2)
@@ -152,7 +153,8 @@ module _ (script wasm : List ℕ) (sizes : Sizes) (fronts : List ℕ) (number : 
       → AreSweptLives (lines_of script) number lives place
       → (prepared : Prepared) → IsPreparedAs (story_config sizes) wasm prepared
       → (cuts count : ℕ) → IsSwept wasm prepared.config lives place fronts cuts count
-      → (status : Status) → SaysSwept cuts count out out' mid err' status → Says status
+      → (status : Status) → SaysSwept cuts count (printers out mid) (printers out' err') status
+      → Says status
   swept_whole lives place spelled prepared prepares cuts count swept status (inl said) =
       subst Says (sym said.0) (record {
         done = λ is. record {
@@ -186,13 +188,14 @@ module _ (script wasm : List ℕ) (sizes : Sizes) (fronts : List ℕ) (number : 
 module _ (script wasm : List ℕ) (sizes : Sizes) (fronts : List ℕ) (number : Option ℕ)
     (out out' err err' : PrinterState) where
   abbrev Now : Status → Type 0
-  Now status = TellsSweep script wasm sizes fronts number out out' err err' status
+  Now status = TellsSweep script wasm sizes fronts number (printers out err)
+      (printers out' err') status
 
   two : IsUnsweepable script wasm sizes number err.contents err'.contents → out' ≡ out
       → err'.failed ≡ err.failed → Now exit.Usage
   two = says_usage script wasm sizes fronts number out out' err err err' refl
 
-  seven : HasOneFailed out' err' → Now exit.Unwritten
+  seven : HasOneFailed (printers out' err') → Now exit.Unwritten
   seven = says_unwritten script wasm sizes fronts number out out' err err err' refl
 
   -- a script that can't be read
@@ -258,7 +261,7 @@ module _ (script wasm : List ℕ) (sizes : Sizes) (fronts : List ℕ) (number : 
 
   pub refused_now : (why : Unprepared) (status : Status)
       → IsSaid (status_unprepared why) err status err' → out' ≡ out
-      → TellsSweep script wasm sizes fronts number out out' err err' status
+      → TellsSweep script wasm sizes fronts number (printers out err) (printers out' err') status
   refused_now why status said stays =
       refused script wasm sizes fronts number out out' err err err' refl why status said stays
 
@@ -271,8 +274,8 @@ pub ended_now : (script wasm : List ℕ) (sizes : Sizes) (fronts : List ℕ) (nu
     → IfOk ended (λ o. IfSome o (λ swept. IsSwept wasm prepared.config lives place fronts
     swept.cuts swept.lines)) → IfErr ended (IsSweepFault wasm prepared.config lives place)
     → HeedsProgress ended err mid → IfErr ended (λ why. IsFoundFirst why → mid ≡ err)
-    → (status : Status) → SaysEnd ended out out' mid err' status
-    → TellsSweep script wasm sizes fronts number out out' err err' status
+    → (status : Status) → SaysEnd ended (printers out mid) (printers out' err') status
+    → TellsSweep script wasm sizes fronts number (printers out err) (printers out' err') status
 ended_now script wasm sizes fronts number out out' err mid err' lives place spelled prepared
     prepares
     (Ok (Some swept)) ok failed heeds quiet status said =
@@ -281,7 +284,8 @@ ended_now script wasm sizes fronts number out out' err mid err' lives place spel
 ended_now script wasm sizes fronts number out out' err mid err' lives place spelled prepared
     prepares
     (Ok None) ok failed heeds quiet status said =
-    subst (TellsSweep script wasm sizes fronts number out out' err err') (sym said.0)
+    subst (TellsSweep script wasm sizes fronts number (printers out err) (printers out' err'))
+    (sym said.0)
     (says_unwritten script wasm sizes fronts number out out' err err err' refl
     (inr (ap (λ (p : PrinterState). p.failed) said.2 ∙ heeds)))
 ended_now script wasm sizes fronts number out out' err mid err' lives place spelled prepared

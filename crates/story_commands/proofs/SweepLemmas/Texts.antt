@@ -1,7 +1,6 @@
 -- The texts of lines, line after line.
-use Rattle.std.proofs.Common.{◌≡◌, ℕ, zero, suc, ◌+◌, ◌-◌, List, [], ◌∷◌, ◌++◌, length}
-use Rattle.std.proofs.Common.{take, drop, Some, inl, inr, refl, sym, ap, ◌∙◌, subst, arith}
-use Rattle.std.proofs.Common.{take-append-drop}
+use Rattle.std.proofs.Common.{◌≡◌, ℕ, zero, suc, ◌+◌, ◌-◌, List, [], ◌∷◌, ◌++◌, length, take, drop}
+use Rattle.std.proofs.Common.{Some, inl, inr, refl, sym, ap, ◌∙◌, subst, arith, take-append-drop}
 use Rattle.std.specs.Prelude.{slice_get, ◌⊎◌}
 use Rattle.std.specs.List.{Contains}
 use Rattle.std.proofs.lemmas.List.Elements.{All-nil, All-push, All-weaker, Contains-append_left}
@@ -13,13 +12,6 @@ use Rattle.story_commands.specs.rules.Sweeps.{AreTextsOf}
 
 abbrev pub line_of : ℕ → OutputStream → List ℕ → NumberedLine
 line_of number stream text = record { number = number; stream = stream; text = text }
-
-pub same_line : (a b : NumberedLine) → a.number ≡ b.number → a.stream ≡ b.stream
-    → a.text ≡ b.text → a ≡ b
-same_line a b number stream text =
-    ap (λ (n : ℕ). line_of n a.stream a.text) number
-    ∙ ap (λ (s : OutputStream). line_of b.number s a.text) stream
-    ∙ ap (λ (t : List ℕ). line_of b.number b.stream t) text
 
 get_front : {X : Type 0} (xs ys : List X) (k : ℕ) (x : X) → slice_get xs k ≡ Some x
     → slice_get (xs ++ ys) k ≡ Some x

@@ -16,10 +16,9 @@ use Rattle.story_commands.specs.declared.sweeping.fault.SweepFault.{SweepFault}
 use Rattle.story_commands.specs.declared.sweeping.fault.SweepFault.TheVariants as fault
 use Rattle.story_commands.specs.declared.sweeping.running.RunLives.{RunLives}
 use Rattle.story_commands.specs.rules.Sweeps.{AreTextsOf, AreCompared, AreCutsOf, AreCutsTo}
-use Rattle.story_commands.specs.rules.Sweeps.{HadMemory}
-use Rattle.story_commands.specs.rules.Sweeps.{HasFailedPlan, HasDoneAll, IsCutRun, IsDoneAgain}
-use Rattle.story_commands.specs.rules.Sweeps.{and_idle, cut_at, end_at, given_at, given_to}
-use Rattle.story_commands.specs.rules.Sweeps.{lines_told, lives_after}
+use Rattle.story_commands.specs.rules.Sweeps.{HadMemory, HasFailedPlan, HasDoneAll, IsCutRun}
+use Rattle.story_commands.specs.rules.Sweeps.{IsDoneAgain, and_idle, cut_at, end_at, given_at}
+use Rattle.story_commands.specs.rules.Sweeps.{given_to, lines_told, lives_after, swept_part}
 
 -- The life at this place was opened, its worker was given so many answers by then, and all from it
 -- on finished. The first texts of all lines are these, with those of other lives before.
@@ -76,8 +75,9 @@ pub record HasRunCut (sweep : Sweep) (point : FaultPoint) (given : ℕ) (reports
 
 -- they were run, with the power cut inside of a write or elsewhere, and agree
 abbrev pub IsSweptAt : Sweep → FaultPoint → Bool → Type 0
-IsSweptAt sweep point in_write = IsCutRun sweep.wasm.now sweep.config.now sweep.part.earlier.now
-    sweep.part.swept.now sweep.part.told.now sweep.texts.now sweep.part.before point in_write
+IsSweptAt sweep point in_write = IsCutRun sweep.wasm.now sweep.config.now
+    (swept_part sweep.part.earlier.now sweep.part.swept.now sweep.part.told.now
+    sweep.part.before) sweep.texts.now point in_write
 
 -- so many cuts were made of the calls up to this one, and agree
 abbrev pub HaveAgreed : Sweep → ℕ → List ℕ → ℕ → Type 0

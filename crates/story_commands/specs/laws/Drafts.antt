@@ -1,11 +1,10 @@
 -- Lives that are read line by line.
 use Rattle.std.specs.Prelude.{◌≡◌, ℕ, ◌≤◌, ◌-◌, ◌==◌, Bool, true, false, List, [], ◌∷◌, ◌++◌}
-use Rattle.std.specs.Prelude.{length, take, if◌then◌else◌}
-use Rattle.std.specs.Prelude.{Option, Some, None, is_none, option_map, option_and_then}
-use Rattle.std.specs.Prelude.{IsSome}
+use Rattle.std.specs.Prelude.{length, take, if◌then◌else◌, Option, Some, None, is_none, option_map}
+use Rattle.std.specs.Prelude.{option_and_then, IsSome}
 use Rattle.std.specs.List.{All}
 use Rattle.worker.specs.declared.story.life.PlannedLife.{PlannedLife}
-use Rattle.story_commands.specs.declared.stories.draft.Draft.{Draft}
+use Rattle.story_commands.specs.declared.stories.draft.StoryDraft.{StoryDraft}
 use Rattle.story_commands.specs.declared.stories.line.ScriptLine.{ScriptLine}
 use Rattle.story_commands.specs.declared.stories.line.ScriptLine.TheVariants as said
 use Rattle.story_commands.specs.declared.stories.fault.ScriptFault.{ScriptFault}
@@ -25,19 +24,19 @@ empty_life = record {
 }
 
 -- no life is begun
-abbrev pub draft_start : Draft
+abbrev pub draft_start : StoryDraft
 draft_start = record { lives = []; life = empty_life; is_begun = false }
 
 -- the lives so far, the one that is begun last
-abbrev pub lives_so_far : Draft → List PlannedLife
+abbrev pub lives_so_far : StoryDraft → List PlannedLife
 lives_so_far draft = if draft.is_begun then draft.lives ++ draft.life ∷ [] else draft.lives
 
 -- no life is begun after those so far
-abbrev pub ended : Draft → Draft
+abbrev pub ended : StoryDraft → StoryDraft
 ended draft = record { lives = lives_so_far draft; life = empty_life; is_begun = false }
 
 -- nothing befalls the lives so far
-pub record IsCalmDraft (draft : Draft) : Type 0 where
+pub record IsCalmDraft (draft : StoryDraft) : Type 0 where
   pub lives : All IsCalm draft.lives
   pub life : IsCalm draft.life
 
@@ -94,16 +93,16 @@ put_in (said.Tears fronts) life = if length life.tears == 0 then Some (record {
 }) else None
 
 -- the draft with another last life
-abbrev pub with_life : Draft → PlannedLife → Draft
+abbrev pub with_life : StoryDraft → PlannedLife → StoryDraft
 with_life draft life = record { lives = draft.lives; life = life; is_begun = draft.is_begun }
 
 -- a draft with one line more that isn't `life`
-abbrev pub put_behind : ScriptLine → Draft → Option Draft
+abbrev pub put_behind : ScriptLine → StoryDraft → Option StoryDraft
 put_behind line draft =
     if draft.is_begun then option_map (with_life draft) (put_in line draft.life) else None
 
 -- a draft with one line more, if that may be there
-abbrev pub put_line : ScriptLine → Draft → Option Draft
+abbrev pub put_line : ScriptLine → StoryDraft → Option StoryDraft
 put_line said.Life draft =
     Some (record { lives = lives_so_far draft; life = empty_life; is_begun = true })
 put_line (said.Answer answer) draft = put_behind (said.Answer answer) draft
@@ -114,7 +113,7 @@ put_line (said.Refuse number) draft = put_behind (said.Refuse number) draft
 put_line (said.Tears fronts) draft = put_behind (said.Tears fronts) draft
 
 -- what a line's text puts after a draft
-abbrev pub put_text : List ℕ → Draft → Option Draft
+abbrev pub put_text : List ℕ → StoryDraft → Option StoryDraft
 put_text text draft = option_and_then (λ line. put_line line draft) (said_by text)
 
 -- whether it was put, and what came of it
@@ -123,18 +122,18 @@ Comes true made new = made ≡ Some new
 Comes false made new = made ≡ None
 
 -- what these texts put after a draft, one after another
-unfoldable pub put_texts : List (List ℕ) → Draft → Option Draft
+unfoldable pub put_texts : List (List ℕ) → StoryDraft → Option StoryDraft
 put_texts [] draft = Some draft
 put_texts (text ∷ texts) draft = option_and_then (put_texts texts) (put_text text draft)
 
 -- the first line that can't be put
-pub record StopsReading (texts : List (List ℕ)) (draft : Draft) (number : ℕ) : Type 0 where
+pub record StopsReading (texts : List (List ℕ)) (draft : StoryDraft) (number : ℕ) : Type 0 where
   pub from_one : 1 ≤ number
   pub inside : number ≤ length texts
   pub before : IsSome (put_texts (take (number - 1) texts) draft)
   pub stops : put_texts (take number texts) draft ≡ None
 
 -- a fault names the first line that could not be put, or is out of memory
-abbrev pub IsReadingFault : List (List ℕ) → Draft → ScriptFault → Type 0
+abbrev pub IsReadingFault : List (List ℕ) → StoryDraft → ScriptFault → Type 0
 IsReadingFault texts draft (fault.Line number) = StopsReading texts draft number
 IsReadingFault texts draft fault.Memory = Unit {0}

@@ -1,7 +1,7 @@
 -- What is said of how a sweep has ended.
 use Rattle.std.specs.Prelude.{◌≡◌, Option, Some, None, Result, Ok, Err}
 use Rattle.command_words.specs.declared.telling.Obstacle.TheVariants as obstacle
-use Rattle.command_words.specs.rules.Printers.{PrinterState, SaysText}
+use Rattle.command_words.specs.rules.Printers.{Printers, SaysText}
 use Rattle.command_words.specs.rules.Reports.{SaysLine, obstacle_words}
 use Rattle.command_words.specs.declared.status.Status.{Status}
 use Rattle.command_words.specs.declared.status.Status.TheVariants as exit
@@ -13,16 +13,17 @@ use Rattle.story_commands.specs.rules.SweepTexts.{no_upgrade_line}
 
 -- What is printed on the two outputs, and the exit status. Where a person couldn't be shown how far
 -- it has come, nothing more is printed.
-abbrev pub SaysEnd : Result (Option Swept) SweepFault → (out out' err err' : PrinterState) → Status
-    → Type 0
-SaysEnd (Ok (Some swept)) out out' err err' status =
-    SaysSwept swept.cuts swept.lines out out' err err' status
-SaysEnd (Ok None) out out' err err' status = (status ≡ exit.Unwritten) × (out' ≡ out) × (err' ≡ err)
-SaysEnd (Err fault.Memory) out out' err err' status =
-    SaysLine (obstacle_words obstacle.Memory) exit.OutOfMemory err status err' × (out' ≡ out)
-SaysEnd (Err (fault.Plan number why)) out out' err err' status =
-    SaysPlan number why err err' status × (out' ≡ out)
-SaysEnd (Err (fault.Upgrade run)) out out' err err' status =
-    SaysText no_upgrade_line exit.Usage err status err' × (out' ≡ out)
-SaysEnd (Err (fault.Differs run)) out out' err err' status =
-    SaysDifference out out' err err' status
+abbrev pub SaysEnd : Result (Option Swept) SweepFault → Printers → Printers → Status → Type 0
+SaysEnd (Ok (Some swept)) before after status =
+    SaysSwept swept.cuts swept.lines before after status
+SaysEnd (Ok None) before after status =
+    (status ≡ exit.Unwritten) × (after.out ≡ before.out) × (after.err ≡ before.err)
+SaysEnd (Err fault.Memory) before after status =
+    SaysLine (obstacle_words obstacle.Memory) exit.OutOfMemory before.err status after.err
+    × (after.out ≡ before.out)
+SaysEnd (Err (fault.Plan number why)) before after status =
+    SaysPlan number why before.err after.err status × (after.out ≡ before.out)
+SaysEnd (Err (fault.Upgrade run)) before after status =
+    SaysText no_upgrade_line exit.Usage before.err status after.err × (after.out ≡ before.out)
+SaysEnd (Err (fault.Differs run)) before after status =
+    SaysDifference before after status

@@ -6,8 +6,7 @@ use Rattle.sha2.specs.Sha256.{sha256}
 use Rattle.record_replay.specs.declared.line_list.NumberedLine.{NumberedLine}
 use Rattle.worker.specs.declared.story.life.PlannedLife.{PlannedLife}
 use Rattle.worker.specs.declared.story.report.Opening.{Opening}
-use Rattle.worker.specs.declared.story.report.Opening.TheVariants.{Created, Recovered}
-use Rattle.worker.specs.declared.story.report.Opening.TheVariants.{Unopened}
+use Rattle.worker.specs.declared.story.report.Opening.TheVariants.{Created, Recovered, Unopened}
 use Rattle.worker.specs.declared.fault.WorkFault.TheVariants as work
 use Rattle.worker.specs.declared.upgrade_fault.UpgradeFault.TheVariants as upgrade
 use Rattle.worker.specs.declared.recover_fault.RecoverFault.{RecoverFault}
@@ -25,9 +24,8 @@ use Rattle.wasi_abi.specs.rules.Configs.{Settings}
 use Rattle.command_words.specs.rules.Preparations.{IsPreparedAs, IsUnprepared, config_as}
 use Rattle.command_words.specs.rules.Preparations.{status_unprepared}
 use Rattle.command_words.specs.rules.Pieces.{lines_of}
-use Rattle.command_words.specs.rules.Printers.{PrinterState, HeedsBoth}
-use Rattle.command_words.specs.rules.Texts.{named_number}
-use Rattle.command_words.specs.rules.Texts.{printed}
+use Rattle.command_words.specs.rules.Printers.{Printers, HeedsBoth}
+use Rattle.command_words.specs.rules.Texts.{named_number, printed}
 use Rattle.command_words.specs.declared.status.Status.{Status}
 use Rattle.command_words.specs.declared.status.Status.TheVariants as exit
 use Rattle.story_commands.specs.rules.Scripts.{IsScript, IsFaultAt}
@@ -131,13 +129,15 @@ pub record IsStoryRefused (script wasm : List ℕ) (sizes : Sizes) : Type 0 wher
 -- `Done`: the story is told. `Usage`: a line of the script is faulty. `Refused`: the worker is
 -- refused. `OutOfMemory`: there is no memory. `Unwritten`: a write of a printer has failed. Nothing
 -- is printed on the output but a whole story, and nothing on the error output beside one.
-pub record TellsStory (script wasm : List ℕ) (sizes : Sizes) (out out' err err' : PrinterState)
+pub record TellsStory (script wasm : List ℕ) (sizes : Sizes) (before after : Printers)
     (status : Status) : Type 0 where
-  pub told : status ≡ exit.Done → IsStoryPrinted script wasm sizes out.contents out'.contents
-      × (err' ≡ err)
-  pub faulty : status ≡ exit.Usage → IsLineReported script err.contents err'.contents × (out' ≡ out)
-  pub refused : status ≡ exit.Refused → IsStoryRefused script wasm sizes × (out' ≡ out)
-  pub starved : status ≡ exit.OutOfMemory → out' ≡ out
-  pub heeded : HeedsBoth out out' err err' status
+  pub told : status ≡ exit.Done
+      → IsStoryPrinted script wasm sizes before.out.contents after.out.contents
+      × (after.err ≡ before.err)
+  pub faulty : status ≡ exit.Usage
+      → IsLineReported script before.err.contents after.err.contents × (after.out ≡ before.out)
+  pub refused : status ≡ exit.Refused → IsStoryRefused script wasm sizes × (after.out ≡ before.out)
+  pub starved : status ≡ exit.OutOfMemory → after.out ≡ before.out
+  pub heeded : HeedsBoth before after status
   pub known : (status ≡ exit.Done) ⊎ (status ≡ exit.Usage) ⊎ (status ≡ exit.Refused)
       ⊎ (status ≡ exit.OutOfMemory) ⊎ (status ≡ exit.Unwritten)

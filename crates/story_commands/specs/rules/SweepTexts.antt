@@ -11,8 +11,7 @@ use Rattle.command_words.specs.declared.preparing.Prepared.{Prepared}
 use Rattle.command_words.specs.rules.Preparations.{IsPreparedAs}
 use Rattle.command_words.specs.rules.Pieces.{lines_of}
 use Rattle.command_words.specs.declared.telling.Obstacle.TheVariants.{NoLife}
-use Rattle.command_words.specs.rules.Printers.{PrinterState, IsSaid, SaysText}
-use Rattle.command_words.specs.rules.Printers.{HeedsBoth}
+use Rattle.command_words.specs.rules.Printers.{PrinterState, Printers, IsSaid, SaysText, HeedsBoth}
 use Rattle.command_words.specs.rules.Reports.{SaysLine, obstacle_words}
 use Rattle.command_words.specs.rules.Texts.{named_number}
 use Rattle.command_words.specs.declared.status.Status.{Status}
@@ -102,13 +101,13 @@ IsUnsweepable script wasm sizes number err err' =
 -- nothing was cut, and it is told why. `Unwritten` comes just where a write of a printer has
 -- failed. The others are `Refused` and `OutOfMemory`.
 pub record TellsSweep (script wasm : List ℕ) (sizes : Sizes) (fronts : List ℕ)
-    (number : Option ℕ) (out out' err err' : PrinterState) (status : Status) : Type 0 where
+    (number : Option ℕ) (before after : Printers) (status : Status) : Type 0 where
   pub done : status ≡ exit.Done
-      → IsSweepDone script wasm sizes fronts number out.contents out'.contents
+      → IsSweepDone script wasm sizes fronts number before.out.contents after.out.contents
   pub differs : status ≡ exit.Different
       → IsOfScript script wasm sizes number (AreCompared wasm (story_config sizes))
-  pub unswept : status ≡ exit.Usage → (out' ≡ out)
-      × IsUnsweepable script wasm sizes number err.contents err'.contents
-  pub heeded : HeedsBoth out out' err err' status
+  pub unswept : status ≡ exit.Usage → (after.out ≡ before.out)
+      × IsUnsweepable script wasm sizes number before.err.contents after.err.contents
+  pub heeded : HeedsBoth before after status
   pub known : (status ≡ exit.Done) ⊎ (status ≡ exit.Different) ⊎ (status ≡ exit.Usage)
       ⊎ (status ≡ exit.Refused) ⊎ (status ≡ exit.OutOfMemory) ⊎ (status ≡ exit.Unwritten)

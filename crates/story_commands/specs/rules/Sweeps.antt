@@ -1,10 +1,8 @@
 -- What `wasmhost sweep` runs and compares: a script's lives, and then the same lives with the power
 -- cut at each call of one of them (this project's own).
-use Rattle.std.specs.Prelude.{◌≡◌, ◌⊎◌, ℕ, zero, suc, ◌+◌, ◌-◌, ◌<◌, ◌≤◌, max, Bool}
-use Rattle.std.specs.Prelude.{true, false}
-use Rattle.std.specs.Prelude.{if◌then◌else◌, length, map, take, drop, unwrap_or, slice_get}
-use Rattle.std.specs.Prelude.{List, [], ◌∷◌, ◌++◌, Option, Some, None, option_and_then}
-use Rattle.std.specs.Prelude.{option_map, codes}
+use Rattle.std.specs.Prelude.{◌≡◌, ◌⊎◌, ℕ, zero, suc, ◌+◌, ◌-◌, ◌<◌, ◌≤◌, max, Bool, true, false}
+use Rattle.std.specs.Prelude.{if◌then◌else◌, length, map, take, drop, unwrap_or, slice_get, List}
+use Rattle.std.specs.Prelude.{[], ◌∷◌, ◌++◌, Option, Some, None, option_and_then, option_map, codes}
 use Rattle.std.specs.List.{All, Contains, flat_map, list_any}
 use Rattle.std.specs.Option.{option_to_list}
 use Rattle.wasi_abi.specs.declared.answer.Answer.{Answer}
@@ -18,8 +16,7 @@ use Rattle.worker.specs.declared.story.report.LifeEnd.{LifeEnd}
 use Rattle.worker.specs.declared.story.report.LifeEnd.TheVariants.{Finished, Stopped, Failed}
 use Rattle.worker.specs.declared.story.report.LifeReport.{LifeReport}
 use Rattle.worker.specs.declared.story.report.Opening.{Opening}
-use Rattle.worker.specs.declared.story.report.Opening.TheVariants.{Created, Recovered}
-use Rattle.worker.specs.declared.story.report.Opening.TheVariants.{Unopened}
+use Rattle.worker.specs.declared.story.report.Opening.TheVariants.{Created, Recovered, Unopened}
 use Rattle.sector_disk.specs.declared.fault.DiskFault.TheVariants as disk
 use Rattle.worker.specs.declared.fault.WorkFault.TheVariants as work
 use Rattle.worker.specs.declared.recover_fault.RecoverFault.{RecoverFault}
@@ -240,24 +237,41 @@ front_left place reports =
 abbrev pub end_at : ℕ → List LifeReport → Option LifeEnd
 end_at place reports = option_map (λ (report : LifeReport). report.ended) (slice_get reports place)
 
+-- a part of a script that is swept: the lives before the swept one, that one and those after it,
+-- what the run without a cut has told of these, and how many answers come before an upgrade that is
+-- done again
+pub record SweptPartValue : Type 0 where
+  pub earlier : List PlannedLife
+  pub swept : List PlannedLife
+  pub told : List LifeReport
+  pub before : ℕ
+
+-- a part of these
+abbrev pub swept_part : (earlier swept : List PlannedLife) → List LifeReport → ℕ → SweptPartValue
+swept_part earlier swept told before = record {
+  earlier = earlier;
+  swept = swept;
+  told = told;
+  before = before;
+}
+
 -- The lives of one cut were run. The power was cut there, inside of a write or elsewhere, and
 -- nowhere else. Those after it were opened, handed out all answers that their worker hadn't been
 -- given, and did all that they were told. Of all lines each number has one text, none is missing,
 -- and the first texts are these.
-pub record IsCutRun (wasm : List ℕ) (config : Settings) (earlier swept : List PlannedLife)
-    (told : List LifeReport) (texts : List NumberedLine) (before : ℕ) (point : FaultPoint)
-    (in_write : Bool) : Type 0
-  where
-    pub given : ℕ
-    pub reports : List LifeReport
-    pub tells : TellsLives wasm config (cut_at earlier swept told point before given) reports
-    pub done : All HasDoneAll (take (length earlier) reports)
-    pub stopped : end_at (length earlier) reports ≡ Some Stopped
-    pub front : front_left (length earlier) reports ≡ Some in_write
-    pub opened : given_to (length earlier + 1) reports ≡ Some given
-    pub finished : All HasDoneAll (drop (length earlier + 1) reports)
-    pub more : List NumberedLine
-    pub agrees : AreTextsOf (texts ++ more) (flat_map lines_told reports)
+pub record IsCutRun (wasm : List ℕ) (config : Settings) (of : SweptPartValue)
+    (texts : List NumberedLine) (point : FaultPoint) (in_write : Bool) : Type 0 where
+  pub given : ℕ
+  pub reports : List LifeReport
+  pub tells : TellsLives wasm config
+      (cut_at of.earlier of.swept of.told point of.before given) reports
+  pub done : All HasDoneAll (take (length of.earlier) reports)
+  pub stopped : end_at (length of.earlier) reports ≡ Some Stopped
+  pub front : front_left (length of.earlier) reports ≡ Some in_write
+  pub opened : given_to (length of.earlier + 1) reports ≡ Some given
+  pub finished : All HasDoneAll (drop (length of.earlier + 1) reports)
+  pub more : List NumberedLine
+  pub agrees : AreTextsOf (texts ++ more) (flat_map lines_told reports)
 
 -- The lives were run without a cut, were opened, and did all that they were told. Then they were
 -- run with each cut of the life at this place: of a read or a sync with one, of a write with one
@@ -275,8 +289,8 @@ pub record IsSwept (wasm : List ℕ) (config : Settings) (lives : List PlannedLi
   pub life_is : slice_get plain place ≡ Some life
   pub before : ℕ
   pub made : List FaultPoint
-  pub runs : AreCutsTo (IsCutRun wasm config (take place lives) (drop place lives)
-      (drop place plain) texts before) life.calls fronts made
+  pub runs : AreCutsTo (IsCutRun wasm config (swept_part (take place lives) (drop place lives)
+      (drop place plain) before) texts) life.calls fronts made
   pub cuts_are : cuts ≡ length made
 
 -- ---- what else was run, where a sweep ends early

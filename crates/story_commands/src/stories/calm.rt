@@ -5,7 +5,7 @@ ghost use Rattle.command_words.specs.rules.Pieces.{lines_of};
 ghost use Rattle.story_commands.specs.rules.Sweeps.{IsCalm, IsCalmScript};
 ghost use Rattle.story_commands.specs.laws.Drafts.{IsCalmDraft, put_text, put_texts};
 
-use crate::stories::draft::Draft;
+use crate::stories::draft::StoryDraft;
 use crate::stories::fault::ScriptFault;
 use crate::stories::lives::{close, new_draft, put_text};
 use command_words::cut_line;
@@ -22,7 +22,7 @@ fn is_calm(life: &PlannedLife) -> bool
 
 /// Reads a line, and puts what it says after a draft, if it may be there and nothing befalls its
 /// life by then.
-fn put_calm(alloc: Global, draft: &mut Draft, text: &[u8]) -> Result<bool, AllocError>
+fn put_calm(alloc: Global, draft: &mut StoryDraft, text: &[u8]) -> Result<bool, AllocError>
     ensures { IfOk result (λ is_put. is_put ≡ true
         → (put_text text.now draft.old ≡ Some draft.new) × IsCalm draft.new.life) }
 {
@@ -33,7 +33,7 @@ fn put_calm(alloc: Global, draft: &mut Draft, text: &[u8]) -> Result<bool, Alloc
 }
 
 /// Puts what the lines say after a draft, up to the first one that may not be there.
-fn put_calm_lines(alloc: Global, draft: &mut Draft, text: &[u8]) -> Result<(), ScriptFault>
+fn put_calm_lines(alloc: Global, draft: &mut StoryDraft, text: &[u8]) -> Result<(), ScriptFault>
     ensures { OnOk result ((put_texts (lines_of text.now) draft.old ≡ Some draft.new)
         × (IsCalmDraft draft.old → IsCalmDraft draft.new)) }
 {
@@ -61,6 +61,6 @@ pub(crate) fn read_calm_script(
     let mut draft = new_draft(alloc);
     put_calm_lines(alloc, &mut draft, text)?;
     close(alloc, &mut draft)?;
-    let Draft { lives, .. } = draft;
+    let StoryDraft { lives, .. } = draft;
     Ok(lives)
 }

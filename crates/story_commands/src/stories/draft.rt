@@ -5,7 +5,7 @@ use worker::story::PlannedLife;
 
 /// What the lines so far say.
 #[derive(Debug, Drop)]
-pub struct Draft {
+pub struct StoryDraft {
     /// The lives before the last `life`.
     pub lives: ItemList<PlannedLife>,
     /// The one after it.

@@ -2,8 +2,7 @@
 
 ghost use Rattle.std.specs.Prelude.{◌≡◌, IfOk, option_and_then};
 ghost use Rattle.story_commands.specs.rules.Scripts.{said_by, said_alone, said_counted, said_with};
-ghost use Rattle.story_commands.specs.rules.Scripts.{said_with_number, hex_bytes};
-ghost use Rattle.story_commands.specs.rules.Scripts.{fronts_between};
+ghost use Rattle.story_commands.specs.rules.Scripts.{said_with_number, hex_bytes, fronts_between};
 ghost use Rattle.story_commands.specs.rules.Scripts.{number_spelled};
 
 use crate::stories::line::ScriptLine;

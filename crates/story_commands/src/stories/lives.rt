@@ -2,11 +2,10 @@
 
 ghost use Rattle.std.specs.Prelude.{◌≡◌, IfOk, OnOk};
 ghost use Rattle.story_commands.specs.laws.Drafts.{empty_life, draft_start, lives_so_far, ended};
-ghost use Rattle.story_commands.specs.laws.Drafts.{put_in};
-ghost use Rattle.story_commands.specs.laws.Drafts.{put_behind, put_line, put_text, Comes};
+ghost use Rattle.story_commands.specs.laws.Drafts.{put_in, put_behind, put_line, put_text, Comes};
 ghost use Rattle.story_commands.specs.declared.stories.line.ScriptLine.TheVariants as said;
 
-use crate::stories::draft::Draft;
+use crate::stories::draft::StoryDraft;
 use crate::stories::keywords::read_line;
 use crate::stories::line::ScriptLine;
 use sector_disk::FaultPoint;
@@ -30,10 +29,10 @@ fn empty_life(alloc: Global) -> PlannedLife
     }
 }
 
-pub(super) fn new_draft(alloc: Global) -> Draft
+pub(super) fn new_draft(alloc: Global) -> StoryDraft
     ensures { result ≡ draft_start }
 {
-    Draft {
+    StoryDraft {
         lives: ItemList::new(alloc),
         life: empty_life(alloc),
         is_begun: false,
@@ -41,7 +40,7 @@ pub(super) fn new_draft(alloc: Global) -> Draft
 }
 
 /// Puts the life that is begun after the others.
-pub(super) fn close(alloc: Global, draft: &mut Draft) -> Result<(), AllocError>
+pub(super) fn close(alloc: Global, draft: &mut StoryDraft) -> Result<(), AllocError>
     ensures { OnOk result (draft.new ≡ ended draft.old) }
 {
     let life = mem::replace(&mut draft.life, empty_life(alloc));
@@ -122,7 +121,7 @@ fn put_into(life: &mut PlannedLife, line: ScriptLine) -> Result<bool, AllocError
 }
 
 /// Begins another life.
-fn begin(alloc: Global, draft: &mut Draft) -> Result<bool, AllocError>
+fn begin(alloc: Global, draft: &mut StoryDraft) -> Result<bool, AllocError>
     ensures { IfOk result (λ is_put. Comes is_put (put_line said.Life draft.old) draft.new) }
 {
     close(alloc, draft)?;
@@ -130,7 +129,7 @@ fn begin(alloc: Global, draft: &mut Draft) -> Result<bool, AllocError>
     Ok(true)
 }
 
-fn put_behind(draft: &mut Draft, line: ScriptLine) -> Result<bool, AllocError>
+fn put_behind(draft: &mut StoryDraft, line: ScriptLine) -> Result<bool, AllocError>
     ensures { IfOk result (λ is_put. Comes is_put (put_behind line draft.old) draft.new) }
 {
     if !draft.is_begun {
@@ -140,7 +139,7 @@ fn put_behind(draft: &mut Draft, line: ScriptLine) -> Result<bool, AllocError>
 }
 
 /// Puts what a line says after a draft, if it may be there.
-fn put(alloc: Global, draft: &mut Draft, line: ScriptLine) -> Result<bool, AllocError>
+fn put(alloc: Global, draft: &mut StoryDraft, line: ScriptLine) -> Result<bool, AllocError>
     ensures { IfOk result (λ is_put. Comes is_put (put_line line draft.old) draft.new) }
 {
     match line {
@@ -150,7 +149,11 @@ fn put(alloc: Global, draft: &mut Draft, line: ScriptLine) -> Result<bool, Alloc
 }
 
 /// Reads a line, and puts what it says after a draft, if it may be there.
-pub(super) fn put_text(alloc: Global, draft: &mut Draft, text: &[u8]) -> Result<bool, AllocError>
+pub(super) fn put_text(
+    alloc: Global,
+    draft: &mut StoryDraft,
+    text: &[u8],
+) -> Result<bool, AllocError>
     ensures { IfOk result (λ is_put. Comes is_put (put_text text.now draft.old) draft.new) }
 {
     match read_line(alloc, text)? {

@@ -3,8 +3,7 @@
 ghost use Rattle.std.specs.Prelude.{◌≡◌};
 ghost use Rattle.std.specs.List.{list_all};
 ghost use Rattle.std.specs.Char.{is_ascii_digit};
-ghost use Rattle.story_commands.specs.rules.Scripts.{number_spelled, count_spelled};
-ghost use Rattle.story_commands.specs.rules.Scripts.{front_spelled};
+ghost use Rattle.story_commands.specs.rules.Scripts.{number_spelled, count_spelled, front_spelled};
 ghost use Rattle.story_commands.specs.rules.Scripts.{batch_spelled, point_spelled};
 
 use command_words::split_once;

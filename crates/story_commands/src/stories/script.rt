@@ -5,7 +5,7 @@ ghost use Rattle.command_words.specs.rules.Pieces.{lines_of};
 ghost use Rattle.story_commands.specs.rules.Scripts.{IsScript, IsScriptFault};
 ghost use Rattle.story_commands.specs.laws.Drafts.{put_texts, IsReadingFault};
 
-use crate::stories::draft::Draft;
+use crate::stories::draft::StoryDraft;
 use crate::stories::fault::ScriptFault;
 use crate::stories::lives::{close, new_draft, put_text};
 use command_words::cut_line;
@@ -14,7 +14,7 @@ use wasm_syntax::ItemList;
 use worker::story::PlannedLife;
 
 /// Puts what the lines say after a draft, up to the first one that may not be there.
-fn put_lines(alloc: Global, draft: &mut Draft, text: &[u8]) -> Result<(), ScriptFault>
+fn put_lines(alloc: Global, draft: &mut StoryDraft, text: &[u8]) -> Result<(), ScriptFault>
     ensures put { OnOk result (put_texts (lines_of text.now) draft.old ≡ Some draft.new) }
     ensures fault { IfErr result (IsReadingFault (lines_of text.now) draft.old) }
 {
@@ -40,6 +40,6 @@ pub fn read_script(alloc: Global, text: &[u8]) -> Result<ItemList<PlannedLife>, 
     let mut draft = new_draft(alloc);
     put_lines(alloc, &mut draft, text)?;
     close(alloc, &mut draft)?;
-    let Draft { lives, .. } = draft;
+    let StoryDraft { lives, .. } = draft;
     Ok(lives)
 }

@@ -3,8 +3,7 @@
 ghost use Rattle.std.specs.Prelude.{◌≡◌, ◌++◌, OnOk, codes};
 ghost use Rattle.std.specs.Io.KnownBytes.{Appends};
 ghost use Rattle.command_words.specs.rules.Texts.{named_number};
-ghost use Rattle.story_commands.specs.rules.Stories.{process_image_text, life_text};
-ghost use Rattle.story_commands.specs.rules.Stories.{opening_line};
+ghost use Rattle.story_commands.specs.rules.Stories.{process_image_text, life_text, opening_line};
 ghost use Rattle.story_commands.specs.rules.Stories.{releases_text, story_text, error_name};
 ghost use Rattle.story_commands.specs.rules.Stories.{end_line};
 

@@ -1,13 +1,11 @@
 //! `wasmhost story`.
 
 ghost use Rattle.std.specs.Prelude.{◌≡◌, ℕ, IfOk};
-ghost use Rattle.command_words.specs.rules.Printers.{IsSaid, SaysText};
+ghost use Rattle.command_words.specs.rules.Printers.{IsSaid, SaysText, printers};
 ghost use Rattle.command_words.specs.declared.status.Status.TheVariants as exit;
-ghost use Rattle.story_commands.specs.declared.stories.fault.ScriptFault.TheVariants.{Line};
-ghost use Rattle.story_commands.specs.declared.stories.fault.ScriptFault.TheVariants.{Memory};
-ghost use Rattle.story_commands.specs.rules.Stories.{TellsStory, script_line};
+ghost use Rattle.story_commands.specs.declared.stories.fault.ScriptFault.TheVariants.{Line, Memory};
+ghost use Rattle.story_commands.specs.rules.Stories.{TellsStory, script_line, story_text};
 ghost use Rattle.story_commands.specs.Said.{SaysLives};
-ghost use Rattle.story_commands.specs.rules.Stories.{story_text};
 
 use crate::stories::fault::ScriptFault;
 use crate::stories::script::read_script;
@@ -67,7 +65,7 @@ fn say_lives<W: Write + Drop, E: Write + Drop>(
     out: &mut Printer<W>,
     err: &mut Printer<E>,
 ) -> Status
-    ensures { SaysLives reports.now out.old out.new err.old err.new result }
+    ensures { SaysLives reports.now (printers out.old err.old) (printers out.new err.new) result }
 {
     match text_of(alloc, reports) {
         Ok(text) => say_text(out, text.as_slice()),
@@ -90,7 +88,8 @@ pub fn tell<W: Write + Drop, E: Write + Drop>(
     out: &mut Printer<W>,
     err: &mut Printer<E>,
 ) -> Status
-    ensures { TellsStory script.now wasm.now sizes out.old out.new err.old err.new result }
+    ensures { TellsStory script.now wasm.now sizes (printers out.old err.old)
+        (printers out.new err.new) result }
 {
     let lives = match read_script(alloc, script) {
         Ok(lives) => lives,

@@ -4,8 +4,7 @@ ghost use Rattle.std.specs.Prelude.{◌≡◌, IfErr, IfNone, IfOk, IfSome, Some
 ghost use Rattle.std.specs.List.{All};
 ghost use Rattle.worker.specs.declared.story.report.LifeEnd.TheVariants.{Stopped};
 ghost use Rattle.story_commands.specs.declared.sweeping.fault.SweepFault.TheVariants.{Memory};
-ghost use Rattle.story_commands.specs.rules.Sweeps.{HasDoneAll, end_at, front_left};
-ghost use Rattle.story_commands.specs.rules.Sweeps.{was_opened};
+ghost use Rattle.story_commands.specs.rules.Sweeps.{HasDoneAll, end_at, front_left, was_opened};
 ghost use Rattle.story_commands.specs.laws.CutRuns.{AgreesWith};
 
 use crate::sweeping::fault::SweepFault;

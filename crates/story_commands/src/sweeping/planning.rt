@@ -3,8 +3,7 @@
 ghost use Rattle.std.specs.Prelude.{◌≡◌, ◌++◌, ◌∷◌, [], ◌-◌, IfOk, OnOk, drop, take, max};
 ghost use Rattle.std.specs.List.{flat_map, list_any};
 ghost use Rattle.story_commands.specs.rules.Sweeps.{acts_of, and_idle, calm_life, cut_at};
-ghost use Rattle.story_commands.specs.rules.Sweeps.{done_again, first_stopped, given_at};
-ghost use Rattle.story_commands.specs.rules.Sweeps.{idle_life};
+ghost use Rattle.story_commands.specs.rules.Sweeps.{done_again, first_stopped, given_at, idle_life};
 ghost use Rattle.story_commands.specs.rules.Sweeps.{is_upgrade, lives_after, stopped_at};
 ghost use Rattle.story_commands.specs.rules.Sweeps.{upgrade_first, upgrading_life};
 

@@ -2,6 +2,7 @@
 
 ghost use Rattle.std.specs.Prelude.{◌≡◌, ◌<◌, ℕ, IfOk, List, length};
 ghost use Rattle.command_words.specs.rules.Pieces.{lines_of};
+ghost use Rattle.command_words.specs.rules.Printers.{printers};
 ghost use Rattle.story_commands.specs.Said.{SaysDifference, SaysPlan, SaysSwept};
 ghost use Rattle.story_commands.specs.rules.Sweeps.{AreSweptLives};
 ghost use Rattle.story_commands.specs.rules.SweepTexts.{TellsSweep, plan_line, swept_line};
@@ -46,7 +47,8 @@ fn say_swept<W: Write + Drop, E: Write + Drop>(
     out: &mut Printer<W>,
     err: &mut Printer<E>,
 ) -> Status
-    ensures { SaysSwept swept.cuts swept.lines out.old out.new err.old err.new result }
+    ensures { SaysSwept swept.cuts swept.lines (printers out.old err.old)
+        (printers out.new err.new) result }
 {
     match swept_text(alloc, swept) {
         Ok(text) => say_text(out, text.as_slice()),
@@ -68,7 +70,7 @@ fn say_difference<W: Write + Drop, E: Write + Drop>(
     out: &mut Printer<W>,
     err: &mut Printer<E>,
 ) -> Status
-    ensures { SaysDifference out.old out.new err.old err.new result }
+    ensures { SaysDifference (printers out.old err.old) (printers out.new err.new) result }
 {
     let Ok(text) = script_of(alloc, lives) else {
         return report(err, Obstacle::Memory);
@@ -121,7 +123,7 @@ fn say_end<W: Write + Drop, E: Write + Drop>(
     out: &mut Printer<W>,
     err: &mut Printer<E>,
 ) -> Status
-    ensures { SaysEnd ended out.old out.new err.old err.new result }
+    ensures { SaysEnd ended (printers out.old err.old) (printers out.new err.new) result }
 {
     match ended {
         Ok(Some(swept)) => say_swept(alloc, swept, out, err),
@@ -148,7 +150,7 @@ fn sweep_read<W: Write + Drop, E: Write + Drop>(
     ensures { (script : List ℕ)
         → AreSweptLives (lines_of script) choice.entry.life swept.now.lives swept.now.place
         → TellsSweep script wasm.now choice.entry.sizes choice.entry.fronts.now choice.entry.life
-        out.old out.new err.old err.new result }
+        (printers out.old err.old) (printers out.new err.new) result }
 {
     match prepare(alloc, wasm, choice.sizes, &[], &[]) {
         Ok(prepared) => {
@@ -184,7 +186,7 @@ pub fn tell_sweep<W: Write + Drop, E: Write + Drop>(
     err: &mut Printer<E>,
 ) -> Status
     ensures { TellsSweep script.now wasm.now choice.entry.sizes choice.entry.fronts.now
-        choice.entry.life out.old out.new err.old err.new result }
+        choice.entry.life (printers out.old err.old) (printers out.new err.new) result }
 {
     match read_sweep(alloc, script, choice.life) {
         Ok(swept) => {

@@ -1,5 +1,4 @@
-use Rattle.std.proofs.Common.{sym, ap, ◌∙◌, Some}
-use Rattle.std.proofs.Common.{subst, ◌≡◌, ◌++◌}
+use Rattle.std.proofs.Common.{sym, ap, ◌∙◌, Some, subst, ◌≡◌, ◌++◌}
 use Rattle.std.specs.Prelude.{option_copied, option_map}
 use Rattle.command_words.proofs.PieceLemmas.{some_shorter}
 use Rattle.story_commands.specs.rules.Scripts.{fronts_between}

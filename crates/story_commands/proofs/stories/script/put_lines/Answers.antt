@@ -1,6 +1,5 @@
 use Rattle.command_words.proofs.PieceLemmas.{nothing_left}
-use Rattle.story_commands.proofs.ScriptLemmas.Reading.{begun_putting, all_put, next_put}
-use Rattle.story_commands.proofs.ScriptLemmas.Reading.{stops_at}
+use Rattle.story_commands.proofs.ScriptLemmas.Reading.{begun_putting, all_put, next_put, stops_at}
 use Rattle.story_commands.proofs.ScriptLemmas.Reading.{came, came_none}
 use Rattle.story_commands.proofs.stories.script.put_lines.Goals as goal
 

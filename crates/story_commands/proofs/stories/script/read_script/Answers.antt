@@ -6,7 +6,7 @@ use Rattle.command_words.specs.rules.Pieces.{lines_of}
 use Rattle.story_commands.specs.declared.stories.fault.ScriptFault.{ScriptFault}
 use Rattle.story_commands.specs.rules.Scripts.{IsScript, IsScriptFault}
 use Rattle.story_commands.specs.laws.Drafts.{put_texts, IsReadingFault}
-use Rattle.story_commands.specs.declared.stories.draft.Draft.{Draft}
+use Rattle.story_commands.specs.declared.stories.draft.StoryDraft.{StoryDraft}
 use Rattle.story_commands.proofs.ScriptLemmas.Reading.{all_is_script, fault_is}
 use Rattle.story_commands.proofs.stories.script.read_script.Goals as goal
 
@@ -28,5 +28,5 @@ returns-clause-read c =
     let lines = lines_of c.args.text.now in
     let put = subst (λ d. put_texts lines d ≡ Some c.put_lines.new.draft) c.new_draft-draft.ensures
     c.in_ok-put_lines.ensures.put in
-    subst (IsScript lines) (sym (ap (λ (d : Draft). d.lives) c.in_ok-close.ensures))
+    subst (IsScript lines) (sym (ap (λ (d : StoryDraft). d.lives) c.in_ok-close.ensures))
     (all_is_script lines c.put_lines.new.draft put)

@@ -2,6 +2,7 @@ use Rattle.std.proofs.Common.{List, subst}
 use Rattle.worker.specs.declared.story.life.PlannedLife.{PlannedLife}
 use Rattle.worker.specs.declared.story.report.LifeReport.{LifeReport}
 use Rattle.worker.specs.rules.StoryDisks.{TellsLives}
+use Rattle.command_words.specs.rules.Printers.{printers}
 use Rattle.story_commands.specs.Said.{SaysLives}
 use Rattle.story_commands.proofs.TellingLemmas.{lives_told}
 use Rattle.story_commands.proofs.stories.telling.tell.Goals as goal
@@ -20,5 +21,5 @@ returns-in-Ok-story g c =
     c.in-Ok.ensures.read prepared c.in-Ok-prepare.ensures.prepared told.lives
     (subst (λ (z : List PlannedLife). TellsLives wasm prepared.config z told.lives)
     c.as_slice.ensures c.in-Ok-story.ensures) status
-    (subst (λ (z : List LifeReport). SaysLives z out out' err err' status)
+    (subst (λ (z : List LifeReport). SaysLives z (printers out err) (printers out' err') status)
     c.as_slice-in-Ok-story.ensures c.say_lives.ensures)

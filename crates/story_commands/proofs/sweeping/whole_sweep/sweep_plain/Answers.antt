@@ -1,7 +1,6 @@
 use Rattle.std.proofs.Common.{refl}
 use Rattle.story_commands.specs.laws.CutRuns.{IsSweepFault}
-use Rattle.story_commands.proofs.SweepLemmas.Runs.{all_agree, cut_ends, kept_fault}
-use Rattle.story_commands.proofs.SweepLemmas.Runs.{upgrade_ends}
+use Rattle.story_commands.proofs.SweepLemmas.Runs.{all_agree, cut_ends, kept_fault, upgrade_ends}
 use Rattle.story_commands.proofs.SweepLemmas.Starts.{is_started}
 use Rattle.story_commands.proofs.sweeping.whole_sweep.sweep_plain.Goals as goal
 
