@@ -60,7 +60,8 @@ UNSEEN = [
     ("", "no such file or directory"), ("echo.wasm/a", "not a directory"),
     (".", "is a directory"), ("loop", "too many levels of symbolic links"),
     ("x" * 256, "file name too long"), ("./" * 2_048, "file name too long"),
-    *((it, "the system failed") for it in ("fifo", "socket", "/dev/null", "/dev/zero")),
+    *((it, "neither a regular file nor a block device")
+      for it in ("fifo", "socket", "/dev/null", "/dev/zero")),
 ]
 
 # Disks that stand still: what is done with a fresh one. With and without `--live` all is the same.
