@@ -3,7 +3,7 @@ use Rattle.std.proofs.Common.{◌≡◌, ℕ, zero, suc, ◌-◌, ◌/◌, ◌%�
 use Rattle.std.proofs.Common.{not, ◌==◌, ◌&&◌, if◌then◌else◌, Result, Ok, Err, IfOk, ℤ, pos, refl}
 use Rattle.std.proofs.Common.{arith, suc-le-suc}
 use Rattle.std.specs.Prelude.{int_div, int_rem, unsigned_abs}
-use Rattle.std.specs.Int.{Width, w8, w16, w32, w64, w128, cast_signed, cast_unsigned}
+use Rattle.std.specs.Int.{Width, w8, w16, w32, w64, cast_signed, cast_unsigned}
 use Rattle.std.specs.Int.{int_div_euclid}
 use Rattle.std.proofs.Math.IntN.{negsuc, neg_ℤ}
 use Rattle.std.proofs.Math.Nat.{mod-lt, mod-le, div-le_self, lt_of_le_of_lt, lt_of_lt_of_le}
@@ -18,9 +18,9 @@ use Rattle.wasm_syntax.specs.declared.value.Trap.TheVariants.{DivideByZero, Inte
 use Rattle.wasm_syntax.specs.declared.operator.UnaryOperator.{UnaryOperator}
 use Rattle.wasm_syntax.specs.declared.operator.UnaryOperator.TheVariants.{Clz, Ctz, Popcnt}
 use Rattle.wasm_syntax.specs.declared.operator.BinaryOperator.{BinaryOperator}
-use Rattle.wasm_syntax.specs.declared.operator.BinaryOperator.TheVariants.{Add, Sub, Mul, DivS}
+use Rattle.wasm_syntax.specs.declared.operator.BinaryOperator.TheVariants.{DivS}
 use Rattle.wasm_syntax.specs.declared.operator.BinaryOperator.TheVariants.{DivU, RemS, RemU, And}
-use Rattle.wasm_syntax.specs.declared.operator.BinaryOperator.TheVariants.{Or, Xor, Shl, ShrS, ShrU}
+use Rattle.wasm_syntax.specs.declared.operator.BinaryOperator.TheVariants.{Or, Xor, ShrS, ShrU}
 use Rattle.wasm_syntax.specs.declared.operator.BinaryOperator.TheVariants.{Rotl, Rotr}
 use Rattle.wasm_syntax.specs.declared.operator.Conversion.{Conversion}
 use Rattle.wasm_syntax.specs.declared.operator.Conversion.TheVariants.{I32WrapI64, I64ExtendI32S}
@@ -39,10 +39,7 @@ truth_below false = omega arith
 -- a count of bits is a number of that many bits
 bits_below : (w : Width) → bits w < 2 ^ bits w
 bits_below w8 = omega arith
-bits_below w16 = omega arith
-bits_below w32 = omega arith
-bits_below w64 = omega arith
-bits_below w128 = omega arith
+bits_below _ = omega arith
 
 pub unary_below : (w : Width) (operator : UnaryOperator) (a : ℕ) → a < 2 ^ bits w
     → unary_of w operator a < 2 ^ bits w
@@ -145,9 +142,6 @@ module _ (w : Width) (a b : ℕ) (in_a : a < 2 ^ bits w) (in_b : b < 2 ^ bits w)
       else quotient) (unless overflows IntegerOverflow quotient fits)
 
   binary_ok : (operator : BinaryOperator) → IfOk (binary_of w operator a b) below
-  binary_ok Add = mod-lt _ (pow_pos (bits w))
-  binary_ok Sub = mod-lt _ (pow_pos (bits w))
-  binary_ok Mul = mod-lt _ (pow_pos (bits w))
   binary_ok DivS = signed_quotient_ok
   binary_ok DivU = unless (b == 0) DivideByZero (Ok (a / b)) (lt_of_le_of_lt (div-le_self a b) in_a)
   binary_ok RemS =
@@ -157,12 +151,12 @@ module _ (w : Width) (a b : ℕ) (in_a : a < 2 ^ bits w) (in_b : b < 2 ^ bits w)
   binary_ok And = lt_of_le_of_lt (and_le_l a b) in_a
   binary_ok Or = or_lt (bits w) a b in_a in_b
   binary_ok Xor = xor_lt (bits w) a b in_a in_b
-  binary_ok Shl = mod-lt _ (pow_pos (bits w))
   binary_ok ShrS = let by = 2 ^ (b % bits w) in
       nearer_below w a (int_div_euclid x (pos by)) in_a (unsigned_abs-div_euclid x by)
   binary_ok ShrU = lt_of_le_of_lt (div-le_self a _) in_a
   binary_ok Rotl = rotated_left_below w a b in_a
   binary_ok Rotr = rotated_right_below w a b in_a
+  binary_ok _ = mod-lt _ (pow_pos (bits w))
 
 pub binary_below : (w : Width) (operator : BinaryOperator) (a b n : ℕ) → a < 2 ^ bits w
     → b < 2 ^ bits w → binary_of w operator a b ≡ Ok n → n < 2 ^ bits w

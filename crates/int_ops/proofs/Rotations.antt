@@ -1,7 +1,7 @@
 -- A rotation as std has it, by `|` of two shifts, is the sum of the two parts: they share no bit.
 use Rattle.std.proofs.Common.{◌≡◌, ℕ, zero, suc, ◌+◌, ◌-◌, ◌*◌, ◌/◌, ◌%◌, ◌^◌, ◌<◌, ap, ◌∙◌, subst}
 use Rattle.std.proofs.Common.{arith, bit_or}
-use Rattle.std.specs.Int.{Width, w8, w16, w32, w64, w128, rotate_left, rotate_right}
+use Rattle.std.specs.Int.{Width, w8, rotate_left, rotate_right}
 use Rattle.std.specs.Int.Bits.{or_self}
 use Rattle.std.proofs.Math.Nat.{mod-eq_of_lt, mod_self, mul-mod_left, mod-lt, div-one, mul-one}
 use Rattle.std.proofs.Math.Nat.{div-eq_of_lt, add_comm, sub-zero, add-zero}
@@ -44,10 +44,7 @@ right a n (suc q) p h =
 
 bits_pos : (w : Width) → 0 < bits w
 bits_pos w8 = omega arith
-bits_pos w16 = omega arith
-bits_pos w32 = omega arith
-bits_pos w64 = omega arith
-bits_pos w128 = omega arith
+bits_pos _ = omega arith
 
 pub rotate_left_is : (w : Width) (a k : ℕ) → a < 2 ^ bits w
     → rotate_left w a k ≡ rotated_left w a (k % bits w)

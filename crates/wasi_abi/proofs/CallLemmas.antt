@@ -91,36 +91,7 @@ call_named name = find (λ c. bytes_eq (name_of c) name) all_calls
 
 call_named-name_of : (c : Call) → call_named (name_of c) ≡ Some c
 call_named-name_of call.ArgsGet = refl
-call_named-name_of call.ArgsSizesGet = refl
-call_named-name_of call.EnvironGet = refl
-call_named-name_of call.EnvironSizesGet = refl
-call_named-name_of call.ClockResGet = refl
-call_named-name_of call.ClockTimeGet = refl
-call_named-name_of call.FdClose = refl
-call_named-name_of call.FdDatasync = refl
-call_named-name_of call.FdFdstatGet = refl
-call_named-name_of call.FdFdstatSetFlags = refl
-call_named-name_of call.FdFilestatGet = refl
-call_named-name_of call.FdFilestatSetSize = refl
-call_named-name_of call.FdPread = refl
-call_named-name_of call.FdPrestatGet = refl
-call_named-name_of call.FdPrestatDirName = refl
-call_named-name_of call.FdPwrite = refl
-call_named-name_of call.FdRead = refl
-call_named-name_of call.FdReaddir = refl
-call_named-name_of call.FdSeek = refl
-call_named-name_of call.FdSync = refl
-call_named-name_of call.FdTell = refl
-call_named-name_of call.FdWrite = refl
-call_named-name_of call.PathCreateDirectory = refl
-call_named-name_of call.PathFilestatGet = refl
-call_named-name_of call.PathOpen = refl
-call_named-name_of call.PathRemoveDirectory = refl
-call_named-name_of call.PathRename = refl
-call_named-name_of call.PathUnlinkFile = refl
-call_named-name_of call.ProcExit = refl
-call_named-name_of call.SchedYield = refl
-call_named-name_of call.RandomGet = refl
+call_named-name_of _ = refl
 
 pub name_of-injective : (c d : Call) → name_of c ≡ name_of d → c ≡ d
 name_of-injective c d e =

@@ -26,9 +26,7 @@ one_counts : (module_name name : List ℕ) (item : ImportItem) → let i : Impor
     record { module_name = module_name; name = name; item = item } in
     count_by is_function (i ∷ []) ≡ functions_of_item item
 one_counts module_name name (import.Function t) = refl
-one_counts module_name name (import.Table t) = refl
-one_counts module_name name (import.Memory t) = refl
-one_counts module_name name (import.Global t) = refl
+one_counts module_name name _ = refl
 
 pub one_more : (imports : List Import) (i : Import)
     → count_by is_function (imports ++ i ∷ [])
@@ -39,16 +37,12 @@ one_more imports i = sum_by-append (λ (j : Import). cond (is_function j) 1 0) i
 pub still_few : (functions : ℕ) (item : ImportItem) → functions ≤ FUNCTIONS
     → is_one_too_many functions item ≡ false → functions + functions_of_item item ≤ FUNCTIONS
 still_few functions (import.Function t) h e = omega (arith, leb-false _ _ e)
-still_few functions (import.Table t) h e = omega arith
-still_few functions (import.Memory t) h e = omega arith
-still_few functions (import.Global t) h e = omega arith
+still_few functions _ h e = omega arith
 
 too_many : (functions : ℕ) (item : ImportItem) → is_one_too_many functions item ≡ true
     → FUNCTIONS < functions + functions_of_item item
 too_many functions (import.Function t) e = omega (arith, leb-true _ _ e)
-too_many functions (import.Table t) e = absurd cc
-too_many functions (import.Memory t) e = absurd cc
-too_many functions (import.Global t) e = absurd cc
+too_many functions _ e = absurd cc
 
 -- ---- what an import read within the count says of it alone
 

@@ -1,6 +1,6 @@
 -- Imports, read one after another with a count of the functions among them.
 use Rattle.std.proofs.Common.{◌≡◌, ℕ, ◌+◌, ◌-◌, ◌≤◌, ◌<◌, false, cond, eqb, List, []}
-use Rattle.std.proofs.Common.{◌∷◌, ◌++◌, length, Option, Some, None, refl, sym, ap, ◌∙◌, arith}
+use Rattle.std.proofs.Common.{◌∷◌, ◌++◌, length, Some, None, refl, ap, ◌∙◌, arith}
 use Rattle.std.proofs.lemmas.Bool.{ne_eqb}
 use Rattle.std.proofs.lemmas.List.Sums.{sum_by-append}
 use Rattle.wasm_syntax.specs.declared.module.Import.{Import}
@@ -20,9 +20,7 @@ one_counts : (module_name name : List ℕ) (item : ImportItem) → let i : Impor
     record { module_name = module_name; name = name; item = item } in
     count_functions (i ∷ []) ≡ functions_of_item item
 one_counts module_name name (import.Function t) = refl
-one_counts module_name name (import.Table t) = refl
-one_counts module_name name (import.Memory t) = refl
-one_counts module_name name (import.Global t) = refl
+one_counts module_name name _ = refl
 
 one_more : (imports : List Import) (i : Import)
     → count_functions (imports ++ i ∷ []) ≡ count_functions imports + functions_of_item i.item
@@ -31,9 +29,7 @@ one_more imports i = sum_by-append (λ (j : Import). cond (is_function j) 1 0) i
 
 at_most_one : (item : ImportItem) → functions_of_item item ≤ 1
 at_most_one (import.Function t) = omega arith
-at_most_one (import.Table t) = omega arith
-at_most_one (import.Memory t) = omega arith
-at_most_one (import.Global t) = omega arith
+at_most_one _ = omega arith
 
 -- ---- what the loop has
 

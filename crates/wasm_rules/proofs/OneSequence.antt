@@ -87,7 +87,6 @@ unique (InBlock b body s) (InBlock b' body' t) e f x y n m c d h =
     (sym (follows body instr.End s e x) ∙ tails ∙ follows body' instr.End t f y) in
     let r = unique s t e f x y n.1 m.1 c d inner.2 in
     let one = inner.0 in let two = r.0 in (cc, r.1, r.2)
-unique (InBlock b body s) (InLoop b' body' t) e f x y n m c d h = absurd (cc)
 unique (InBlock b body s) (InIf b' first t) e f x y n m c d h = absurd (cc)
 unique (InBlock b body s) (InIfElse b' first second t) e f x y n m c d h = absurd (cc)
 unique (InLoop b body s) Stop e f x y n m c d h = absurd (closing_not_loop f b (cc) d)
@@ -106,7 +105,6 @@ unique (InLoop b body s) (InIfElse b' first second t) e f x y n m c d h = absurd
 unique (InIf b first s) Stop e f x y n m c d h = absurd (closing_not_if f b (cc) d)
 unique (InIf b first s) (Plain j t) e f x y n m c d h = absurd (plain_not_if j b (cc) m.0)
 unique (InIf b first s) (InBlock b' body' t) e f x y n m c d h = absurd (cc)
-unique (InIf b first s) (InLoop b' body' t) e f x y n m c d h = absurd (cc)
 unique (InIf b first s) (InIf b' first' t) e f x y n m c d h =
     let head : b ≡ b' = cc in
     let tails : (spelled first ++ (instr.End ∷ spelled s)) ++ (e ∷ x)
@@ -126,7 +124,6 @@ unique (InIfElse b first second s) Stop e f x y n m c d h = absurd (closing_not_
 unique (InIfElse b first second s) (Plain j t) e f x y n m c d h =
     absurd (plain_not_if j b (cc) m.0)
 unique (InIfElse b first second s) (InBlock b' body' t) e f x y n m c d h = absurd (cc)
-unique (InIfElse b first second s) (InLoop b' body' t) e f x y n m c d h = absurd (cc)
 unique (InIfElse b first second s) (InIf b' first' t) e f x y n m c d h =
     let tails : (spelled first ++ (instr.Else ∷ (spelled second ++ (instr.End ∷ spelled s))))
     ++ (e ∷ x) ≡ (spelled first' ++ (instr.End ∷ spelled t)) ++ (f ∷ y) = cc in
@@ -143,6 +140,7 @@ unique (InIfElse b first second s) (InIfElse b' first' second' t) e f x y n m c 
     let inner = unique second second' instr.End instr.End _ _ n.1 m.1 tt tt part.2 in
     let r = unique s t e f x y n.2 m.2 c d inner.2 in
     let one = part.0 in let two = inner.0 in let three = r.0 in (cc, r.1, r.2)
+unique _ (InLoop b' body' t) e f x y n m c d h = absurd (cc)
 
 pub one_sequence : OneSequence
 one_sequence opcodes s t a b =

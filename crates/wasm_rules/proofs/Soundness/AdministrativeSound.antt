@@ -7,7 +7,7 @@ use Rattle.std.specs.List.{AllByRecursion}
 use Rattle.wasm_syntax.specs.declared.types.ValueType.{ValueType}
 use Rattle.wasm_syntax.specs.declared.types.FunctionType.{FunctionType}
 use Rattle.wasm_syntax.specs.declared.value.Value.{Value}
-use Rattle.wasm_syntax.specs.rules.Sequence.{Sequence, Stop, Plain, InBlock, InLoop, InIf, InIfElse}
+use Rattle.wasm_syntax.specs.rules.Sequence.{Sequence, Stop}
 use Rattle.wasm_rules.specs.Types.{AreOf, takes_of, gives_of}
 use Rattle.wasm_rules.specs.Typing.{Context, body_context}
 use Rattle.wasm_rules.specs.Configuration.{Imported, Own, Program, Store, Part, Label, LabelOf}
@@ -87,12 +87,6 @@ frame_step_typed : (base : Context) (program : Program) (f : ℕ) (ls : List Val
     → exited rest f ls labels vs frames ≡ Some t
     → IsTypedThread base program [] (FrameOf f ls labels vs rest ∷ frames)
     → IsTypedThread base program [] t
-frame_step_typed base program f ls labels vs (Plain i rest) frames t e h = absurd (cc)
-frame_step_typed base program f ls labels vs (InBlock b first rest) frames t e h = absurd (cc)
-frame_step_typed base program f ls labels vs (InLoop b first rest) frames t e h = absurd (cc)
-frame_step_typed base program f ls labels vs (InIf b first rest) frames t e h = absurd (cc)
-frame_step_typed base program f ls labels vs (InIfElse b first second rest) frames t e
-    h = absurd (cc)
 frame_step_typed base program f ls (LabelOf keeps target below after which
     ∷ labels) vs Stop frames t e h =
     let same : FrameOf f ls labels (vs ++ below) after ∷ frames ≡ t = cc in
@@ -105,6 +99,7 @@ frame_step_typed base program f ls [] vs Stop frames t e h =
     let o : AreOf h.4.out vs = (rw (h.4.typed_rest) at h.4.values) in
     subst (λ t. IsTypedThread base program [] t) same
     (frame_exited base program h.0 h.1 vs frames h.4.branches h.4.out o h.4.typed_labels h.5)
+frame_step_typed base program f ls labels vs _ frames t e h = absurd (cc)
 
 -- the host's next call
 entry_typed : (base : Context) (program : Program) (f : ℕ) (t : Thread)

@@ -113,9 +113,7 @@ function_item : (o : Option FunctionType) (types : List FunctionType) (item : Im
     × (o ≡ Some signature) × (slice_get types x ≡ Some signature)
 function_item None types item h = absurd h
 function_item (Some signature) types (import.Function x) h = (x, signature, refl, refl, h)
-function_item (Some signature) types (import.Table t) h = absurd h
-function_item (Some signature) types (import.Memory t) h = absurd h
-function_item (Some signature) types (import.Global t) h = absurd h
+function_item (Some signature) types _ h = absurd h
 
 no_globals : (offer : Offer) (types : List FunctionType) (imports : List Import)
     → AllByRecursion (IsOffered offer types) imports → imported_globals imports ≡ []

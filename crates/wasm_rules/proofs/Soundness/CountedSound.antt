@@ -294,11 +294,6 @@ module _ (base : Context) (program : Program) (typed : IsTypedProgram base progr
       call_sound branches labels x vs rest h.0 below out h.1 (rw h.2 at o) (rw h.3 at r) t
   execute_sound branches labels (instr.CallIndirect x) vs rest p q below out o h r t =
       indirect_sound branches labels x vs rest h.0 below out h.1 (rw h.3 at o) (rw h.4 at r) t
-  execute_sound branches labels (instr.Block b) vs rest p q below out o h r t = absurd h
-  execute_sound branches labels (instr.Loop b) vs rest p q below out o h r t = absurd h
-  execute_sound branches labels (instr.If b) vs rest p q below out o h r t = absurd h
-  execute_sound branches labels instr.Else vs rest p q below out o h r t = absurd h
-  execute_sound branches labels instr.End vs rest p q below out o h r t = absurd h
   execute_sound branches labels instr.Unreachable vs rest p q below out o h r t = tt
   execute_sound branches labels instr.Nop vs rest p q below out o h r t =
       effect_sound branches labels instr.Nop vs rest p q below out tt o h r t
@@ -340,6 +335,7 @@ module _ (base : Context) (program : Program) (typed : IsTypedProgram base progr
       effect_sound branches labels (instr.Binary b op) vs rest p q below out tt o h r t
   execute_sound branches labels (instr.Convert op) vs rest p q below out o h r t =
       effect_sound branches labels (instr.Convert op) vs rest p q below out tt o h r t
+  execute_sound branches labels _ vs rest p q below out o h r t = absurd h
 
   -- ---- blocks
 

@@ -84,23 +84,14 @@ module _ (c : Context) (program : Program) (few : program.most_pages ≤ 2 ^ 16)
   loaded_below load.I32 bytes h e = let r = number_below bytes h in rw e at r
   loaded_below load.I64 bytes h e = let r = number_below bytes h in rw e at r
   loaded_below load.I32Bits8S bytes h e = sign_extended_below w8 w32 (number_of bytes) (omega arith)
-  loaded_below load.I32Bits8U bytes h e = let r = number_below bytes h in let s = (rw e at r) in
-      omega arith
   loaded_below load.I32Bits16S bytes h e =
       sign_extended_below w16 w32 (number_of bytes) (omega arith)
-  loaded_below load.I32Bits16U bytes h e = let r = number_below bytes h in let s = (rw e at r) in
-      omega arith
   loaded_below load.I64Bits8S bytes h e = sign_extended_below w8 w64 (number_of bytes) (omega arith)
-  loaded_below load.I64Bits8U bytes h e = let r = number_below bytes h in let s = (rw e at r) in
-      omega arith
   loaded_below load.I64Bits16S bytes h e =
       sign_extended_below w16 w64 (number_of bytes) (omega arith)
-  loaded_below load.I64Bits16U bytes h e = let r = number_below bytes h in let s = (rw e at r) in
-      omega arith
   loaded_below load.I64Bits32S bytes h e =
       sign_extended_below w32 w64 (number_of bytes) (omega arith)
-  loaded_below load.I64Bits32U bytes h e = let r = number_below bytes h in let s = (rw e at r) in
-      omega arith
+  loaded_below _ bytes h e = let r = number_below bytes h in let s = (rw e at r) in omega arith
 
   load_below : (o : LoadOperator) (memory : List ℕ) (from n : ℕ) → AllByRecursion IsByte memory
       → load_at o memory from ≡ Ok n → n < 2 ^ bits (width_of (loaded_type o))

@@ -1,6 +1,6 @@
 -- Instructions are read exactly.
 use Rattle.std.proofs.Common.{◌≡◌, ℕ, zero, suc, ltb, eqb, List, [], ◌∷◌, map, Option, Some, refl}
-use Rattle.std.proofs.Common.{sym, ap, subst}
+use Rattle.std.proofs.Common.{true, sym, ap, subst}
 use Rattle.std.specs.Prelude.{slice_get}
 use Rattle.std.proofs.lemmas.Bool.{eqb-true}
 use Rattle.wasm_syntax.specs.declared.types.ValueType.{ValueType}
@@ -9,18 +9,11 @@ use Rattle.wasm_syntax.specs.declared.value.Value.TheVariants as value
 use Rattle.wasm_syntax.specs.declared.operator.UnaryOperator.{UnaryOperator}
 use Rattle.wasm_syntax.specs.declared.operator.UnaryOperator.TheVariants.{Clz, Ctz, Popcnt}
 use Rattle.wasm_syntax.specs.declared.operator.BinaryOperator.{BinaryOperator}
-use Rattle.wasm_syntax.specs.declared.operator.BinaryOperator.TheVariants.{Add, Sub, Mul, DivS}
-use Rattle.wasm_syntax.specs.declared.operator.BinaryOperator.TheVariants.{DivU, RemS, RemU, And}
-use Rattle.wasm_syntax.specs.declared.operator.BinaryOperator.TheVariants.{Or, Xor, Shl, ShrS, ShrU}
-use Rattle.wasm_syntax.specs.declared.operator.BinaryOperator.TheVariants.{Rotl, Rotr}
+use Rattle.wasm_syntax.specs.declared.operator.BinaryOperator.TheVariants.{Add}
 use Rattle.wasm_syntax.specs.declared.operator.Comparison.{Comparison}
-use Rattle.wasm_syntax.specs.declared.operator.Comparison.TheVariants.{Eq, Ne, LtS, LtU, GtS, GtU}
-use Rattle.wasm_syntax.specs.declared.operator.Comparison.TheVariants.{LeS, LeU, GeS, GeU}
+use Rattle.wasm_syntax.specs.declared.operator.Comparison.TheVariants.{Eq}
 use Rattle.wasm_syntax.specs.declared.operator.Conversion.{Conversion}
-use Rattle.wasm_syntax.specs.declared.operator.Conversion.TheVariants.{I32WrapI64, I64ExtendI32S}
-use Rattle.wasm_syntax.specs.declared.operator.Conversion.TheVariants.{I64ExtendI32U, I32Extend8S}
-use Rattle.wasm_syntax.specs.declared.operator.Conversion.TheVariants.{I32Extend16S, I64Extend8S}
-use Rattle.wasm_syntax.specs.declared.operator.Conversion.TheVariants.{I64Extend16S, I64Extend32S}
+use Rattle.wasm_syntax.specs.declared.operator.Conversion.TheVariants.{I32WrapI64}
 use Rattle.wasm_syntax.specs.declared.operator.LoadOperator.{LoadOperator}
 use Rattle.wasm_syntax.specs.declared.operator.LoadOperator.TheVariants as load
 use Rattle.wasm_syntax.specs.declared.operator.StoreOperator.{StoreOperator}
@@ -95,28 +88,39 @@ with_item IsItem item_at reads make b bytes i rest e h =
     carry (IsInstruction (b ∷ bytes)) (make x.0.0) i x.0.1 rest x.2
     (h x.0.0 x.0.1 (reads.sound bytes x.0.0 x.0.1 x.1))
 
-with_index : (make : ℕ → Instruction) (b : ℕ) (bytes : List ℕ) (i : Instruction) (rest : List ℕ)
-    → read_as make leb_u32_at bytes ≡ Some (i, rest) → ((n : ℕ) (r : List ℕ) → IsU32 bytes n r
-    → IsInstruction (b ∷ bytes) (make n) r) → IsInstruction (b ∷ bytes) i rest
-with_index make b bytes i rest e h = with_item IsU32 leb_u32_at Reads-u32_at make b bytes i rest e h
+-- this opcode, which was tested, and one item
+with_front : {X : Type 0} (IsItem : List ℕ → X → List ℕ → Type 0) (item_at : List ℕ
+    → Option (X × List ℕ)) → Reads IsItem item_at
+    → (make : X → Instruction) (k b : ℕ) (bytes : List ℕ) (i : Instruction) (rest : List ℕ)
+    → eqb b k ≡ true → read_as make item_at bytes ≡ Some (i, rest)
+    → ((x : X) (r : List ℕ) → IsThisByte k (b ∷ bytes) bytes → IsItem bytes x r
+    → IsInstruction (b ∷ bytes) (make x) r) → IsInstruction (b ∷ bytes) i rest
+with_front IsItem item_at reads make k b bytes i rest t e h =
+    with_item IsItem item_at reads make b bytes i rest e (λ x r is. h x r (front_is b k bytes t) is)
 
-with_block_type : (make : Option ValueType
-    → Instruction) (b : ℕ) (bytes : List ℕ) (i : Instruction) (rest : List ℕ)
-    → read_as make block_type_at bytes ≡ Some (i, rest) → ((t : Option ValueType) (r : List ℕ)
+with_index : (make : ℕ → Instruction) (k b : ℕ) (bytes : List ℕ) (i : Instruction) (rest : List ℕ)
+    → eqb b k ≡ true → read_as make leb_u32_at bytes ≡ Some (i, rest)
+    → ((n : ℕ) (r : List ℕ) → IsThisByte k (b ∷ bytes) bytes → IsU32 bytes n r
+    → IsInstruction (b ∷ bytes) (make n) r) → IsInstruction (b ∷ bytes) i rest
+with_index = with_front IsU32 leb_u32_at Reads-u32_at
+
+with_block_type : (make : Option ValueType → Instruction) (k b : ℕ) (bytes : List ℕ)
+    (i : Instruction) (rest : List ℕ) → eqb b k ≡ true
+    → read_as make block_type_at bytes ≡ Some (i, rest)
+    → ((t : Option ValueType) (r : List ℕ) → IsThisByte k (b ∷ bytes) bytes
     → IsBlockType bytes t r → IsInstruction (b ∷ bytes) (make t) r)
     → IsInstruction (b ∷ bytes) i rest
-with_block_type make b bytes i rest e h =
-    with_item IsBlockType block_type_at Reads-block_type_at make b bytes i rest e h
+with_block_type = with_front IsBlockType block_type_at Reads-block_type_at
 
--- an opcode and a zero byte
-with_zero : (x : Instruction) (b : ℕ) (bytes : List ℕ) (i : Instruction) (rest : List ℕ)
-    → read_as (λ (mark : Unit {0}). x) (exactly_at 0x00) bytes ≡ Some (i, rest)
-    → ((r : List ℕ) → IsThisByte 0x00 bytes r → IsInstruction (b ∷ bytes) x r)
-    → IsInstruction (b ∷ bytes) i rest
-with_zero x b bytes i rest e h =
+-- this opcode and a zero byte
+with_zero : (x : Instruction) (k b : ℕ) (bytes : List ℕ) (i : Instruction) (rest : List ℕ)
+    → eqb b k ≡ true → read_as (λ (mark : Unit {0}). x) (exactly_at 0x00) bytes ≡ Some (i, rest)
+    → ((r : List ℕ) → IsThisByte k (b ∷ bytes) bytes → IsThisByte 0x00 bytes r
+    → IsInstruction (b ∷ bytes) x r) → IsInstruction (b ∷ bytes) i rest
+with_zero x k b bytes i rest t e h =
     let mark = bind_some (exactly_at 0x00 bytes) _ _ e in
     carry (IsInstruction (b ∷ bytes)) x i mark.0.1 rest mark.2
-    (h mark.0.1 (byte_sound 0x00 bytes mark.0.0 mark.0.1 mark.1))
+    (h mark.0.1 (front_is b k bytes t) (byte_sound 0x00 bytes mark.0.0 mark.0.1 mark.1))
 
 br_table_sound : (bytes : List ℕ) (i : Instruction) (rest : List ℕ)
     → (vector_at leb_u32_at bytes >>= λ labels. leb_u32_at labels.1
@@ -160,41 +164,26 @@ control_sound b bytes i rest e =
     (front_is b 0x00 bytes t)) (λ f e.
     pick (eqb b 0x01) _ _ _ e (λ t h. alone b bytes instr.Nop i rest h (front_is b 0x01 bytes t))
     (λ f e.
-    pick (eqb b 0x02) _ _ _ e (λ t h. with_block_type instr.Block b bytes i rest h (λ x r is.
-    (bytes, front_is b 0x02 bytes t, is))) (λ f e.
-    pick (eqb b 0x03) _ _ _ e (λ t h. with_block_type instr.Loop b bytes i rest h (λ x r is. (
-      bytes,
-      front_is b 0x03 bytes t,
-      is,
-    ))) (λ f e.
-    pick (eqb b 0x04) _ _ _ e (λ t h. with_block_type instr.If b bytes i rest h (λ x r is. (
-      bytes,
-      front_is b 0x04 bytes t,
-      is,
-    ))) (λ f e.
+    pick (eqb b 0x02) _ _ _ e (λ t h. with_block_type instr.Block 0x02 b bytes i rest t h
+    (λ x r front is. (bytes, front, is))) (λ f e.
+    pick (eqb b 0x03) _ _ _ e (λ t h. with_block_type instr.Loop 0x03 b bytes i rest t h
+    (λ x r front is. (bytes, front, is))) (λ f e.
+    pick (eqb b 0x04) _ _ _ e (λ t h. with_block_type instr.If 0x04 b bytes i rest t h
+    (λ x r front is. (bytes, front, is))) (λ f e.
     pick (eqb b 0x05) _ _ _ e (λ t h. alone b bytes instr.Else i rest h (front_is b 0x05 bytes t))
     (λ f e.
     pick (eqb b 0x0b) _ _ _ e (λ t h. alone b bytes instr.End i rest h (front_is b 0x0b bytes t))
     (λ f e.
-    pick (eqb b 0x0c) _ _ _ e (λ t h. with_index instr.Br b bytes i rest h (λ x r is. (
-      bytes,
-      front_is b 0x0c bytes t,
-      is,
-    ))) (λ f e.
-    pick (eqb b 0x0d) _ _ _ e (λ t h. with_index instr.BrIf b bytes i rest h (λ x r is. (
-      bytes,
-      front_is b 0x0d bytes t,
-      is,
-    ))) (λ f e.
+    pick (eqb b 0x0c) _ _ _ e (λ t h. with_index instr.Br 0x0c b bytes i rest t h
+    (λ x r front is. (bytes, front, is))) (λ f e.
+    pick (eqb b 0x0d) _ _ _ e (λ t h. with_index instr.BrIf 0x0d b bytes i rest t h
+    (λ x r front is. (bytes, front, is))) (λ f e.
     pick (eqb b 0x0e) _ _ _ e (λ t h. subst (λ (bs : List ℕ). IsInstruction bs i rest)
     (sym (front_is b 0x0e bytes t)) (br_table_sound bytes i rest h)) (λ f e.
     pick (eqb b 0x0f) _ _ _ e (λ t h. alone b bytes instr.Return i rest h (front_is b 0x0f bytes t))
     (λ f e.
-    pick (eqb b 0x10) _ _ _ e (λ t h. with_index instr.Call b bytes i rest h (λ x r is. (
-      bytes,
-      front_is b 0x10 bytes t,
-      is,
-    ))) (λ f e.
+    pick (eqb b 0x10) _ _ _ e (λ t h. with_index instr.Call 0x10 b bytes i rest t h
+    (λ x r front is. (bytes, front, is))) (λ f e.
     let k = pass_some (eqb b 0x11) _ _ e in
     subst (λ (bs : List ℕ). IsInstruction bs i rest) (sym (front_is b 0x11 bytes k.0))
     (call_indirect_sound bytes i rest k.1)))))))))))))
@@ -206,46 +195,25 @@ variable_sound b bytes i rest e =
     (λ f e.
     pick (eqb b 0x1b) _ _ _ e (λ t h. alone b bytes instr.Select i rest h (front_is b 0x1b bytes t))
     (λ f e.
-    pick (eqb b 0x20) _ _ _ e (λ t h. with_index instr.LocalGet b bytes i rest h (λ x r is. (
-      bytes,
-      front_is b 0x20 bytes t,
-      is,
-    ))) (λ f e.
-    pick (eqb b 0x21) _ _ _ e (λ t h. with_index instr.LocalSet b bytes i rest h (λ x r is. (
-      bytes,
-      front_is b 0x21 bytes t,
-      is,
-    ))) (λ f e.
-    pick (eqb b 0x22) _ _ _ e (λ t h. with_index instr.LocalTee b bytes i rest h (λ x r is. (
-      bytes,
-      front_is b 0x22 bytes t,
-      is,
-    ))) (λ f e.
-    pick (eqb b 0x23) _ _ _ e (λ t h. with_index instr.GlobalGet b bytes i rest h (λ x r is. (
-      bytes,
-      front_is b 0x23 bytes t,
-      is,
-    ))) (λ f e.
+    pick (eqb b 0x20) _ _ _ e (λ t h. with_index instr.LocalGet 0x20 b bytes i rest t h
+    (λ x r front is. (bytes, front, is))) (λ f e.
+    pick (eqb b 0x21) _ _ _ e (λ t h. with_index instr.LocalSet 0x21 b bytes i rest t h
+    (λ x r front is. (bytes, front, is))) (λ f e.
+    pick (eqb b 0x22) _ _ _ e (λ t h. with_index instr.LocalTee 0x22 b bytes i rest t h
+    (λ x r front is. (bytes, front, is))) (λ f e.
+    pick (eqb b 0x23) _ _ _ e (λ t h. with_index instr.GlobalGet 0x23 b bytes i rest t h
+    (λ x r front is. (bytes, front, is))) (λ f e.
     let k = pass_some (eqb b 0x24) _ _ e in
-    with_index instr.GlobalSet b bytes i rest k.1 (λ x r is. (
-      bytes,
-      front_is b 0x24 bytes k.0,
-      is,
-    ))))))))
+    with_index instr.GlobalSet 0x24 b bytes i rest k.0 k.1
+    (λ x r front is. (bytes, front, is))))))))
 
 memory_sound : (b : ℕ) (bytes : List ℕ) (i : Instruction) (rest : List ℕ)
     → memory_at b bytes ≡ Some (i, rest) → IsInstruction (b ∷ bytes) i rest
 memory_sound b bytes i rest e =
-    pick (eqb b 0x3f) _ _ _ e (λ t h. with_zero instr.MemorySize b bytes i rest h (λ r is. (
-      bytes,
-      front_is b 0x3f bytes t,
-      is,
-    ))) (λ f e.
-    pick (eqb b 0x40) _ _ _ e (λ t h. with_zero instr.MemoryGrow b bytes i rest h (λ r is. (
-      bytes,
-      front_is b 0x40 bytes t,
-      is,
-    ))) (λ f e.
+    pick (eqb b 0x3f) _ _ _ e (λ t h. with_zero instr.MemorySize 0x3f b bytes i rest t h
+    (λ r front is. (bytes, front, is))) (λ f e.
+    pick (eqb b 0x40) _ _ _ e (λ t h. with_zero instr.MemoryGrow 0x40 b bytes i rest t h
+    (λ r front is. (bytes, front, is))) (λ f e.
     pick (ltb b 0x36) _ _ _ e
     (λ t h.
     let o = bind_some (load_of b) _ _ h in
@@ -323,18 +291,12 @@ by_numeric_opcode b _ bytes e = absurd cc
 numeric_sound : (b : ℕ) (bytes : List ℕ) (i : Instruction) (rest : List ℕ)
     → numeric_at b bytes ≡ Some (i, rest) → IsInstruction (b ∷ bytes) i rest
 numeric_sound b bytes i rest e =
-    pick (eqb b 0x41) _ _ _ e (λ t h. with_item (IsSigned 32) (signed_at 32) (Reads-signed_at 32)
-    (λ (n : ℕ). instr.Const (value.I32 n)) b bytes i rest h (λ x r is. (
-      bytes,
-      front_is b 0x41 bytes t,
-      is,
-    ))) (λ f e.
-    pick (eqb b 0x42) _ _ _ e (λ t h. with_item (IsSigned 64) (signed_at 64) (Reads-signed_at 64)
-    (λ (n : ℕ). instr.Const (value.I64 n)) b bytes i rest h (λ x r is. (
-      bytes,
-      front_is b 0x42 bytes t,
-      is,
-    ))) (λ f e.
+    pick (eqb b 0x41) _ _ _ e (λ t h. with_front (IsSigned 32) (signed_at 32)
+    (Reads-signed_at 32) (λ (n : ℕ). instr.Const (value.I32 n)) 0x41 b bytes i rest t h
+    (λ x r front is. (bytes, front, is))) (λ f e.
+    pick (eqb b 0x42) _ _ _ e (λ t h. with_front (IsSigned 64) (signed_at 64)
+    (Reads-signed_at 64) (λ (n : ℕ). instr.Const (value.I64 n)) 0x42 b bytes i rest t h
+    (λ x r front is. (bytes, front, is))) (λ f e.
     pick (ltb b 0x67) _ _ _ e
     (λ t h. (let x = bind_some (comparison_of b) _ _ h in
     alone b bytes x.0 i rest x.2 (by_numeric_opcode b x.0 bytes (comparison_sound b x.0 x.1))))
@@ -360,44 +322,21 @@ load_complete : (operator : LoadOperator) (m : MemoryArgument) (bytes rest : Lis
     → behind_opcode (load_opcode operator) bytes ≡ Some (instr.Load operator m, rest)
 unfolding behind_opcode higher_at
 load_complete load.I32 m bytes rest e = rw e refl
-load_complete load.I64 m bytes rest e = rw e refl
-load_complete load.I32Bits8S m bytes rest e = rw e refl
-load_complete load.I32Bits8U m bytes rest e = rw e refl
-load_complete load.I32Bits16S m bytes rest e = rw e refl
-load_complete load.I32Bits16U m bytes rest e = rw e refl
-load_complete load.I64Bits8S m bytes rest e = rw e refl
-load_complete load.I64Bits8U m bytes rest e = rw e refl
-load_complete load.I64Bits16S m bytes rest e = rw e refl
-load_complete load.I64Bits16U m bytes rest e = rw e refl
-load_complete load.I64Bits32S m bytes rest e = rw e refl
-load_complete load.I64Bits32U m bytes rest e = rw e refl
+load_complete _ m bytes rest e = rw e refl
 
 store_complete : (operator : StoreOperator) (m : MemoryArgument) (bytes rest : List ℕ)
     → memory_argument_at bytes ≡ Some (m, rest)
     → behind_opcode (store_opcode operator) bytes ≡ Some (instr.Store operator m, rest)
 unfolding behind_opcode higher_at
 store_complete store.I32 m bytes rest e = rw e refl
-store_complete store.I64 m bytes rest e = rw e refl
-store_complete store.I32Bits8 m bytes rest e = rw e refl
-store_complete store.I32Bits16 m bytes rest e = rw e refl
-store_complete store.I64Bits8 m bytes rest e = rw e refl
-store_complete store.I64Bits16 m bytes rest e = rw e refl
-store_complete store.I64Bits32 m bytes rest e = rw e refl
+store_complete _ m bytes rest e = rw e refl
 
 -- where every operator is in its table
 
 comparison_listed : (operator : Comparison)
     → slice_get comparisons (compare_place operator) ≡ Some operator
 comparison_listed Eq = refl
-comparison_listed Ne = refl
-comparison_listed LtS = refl
-comparison_listed LtU = refl
-comparison_listed GtS = refl
-comparison_listed GtU = refl
-comparison_listed LeS = refl
-comparison_listed LeU = refl
-comparison_listed GeS = refl
-comparison_listed GeU = refl
+comparison_listed _ = refl
 
 unary_listed : (operator : UnaryOperator)
     → slice_get unary_operators (unary_place operator) ≡ Some operator
@@ -408,20 +347,7 @@ unary_listed Popcnt = refl
 binary_listed : (operator : BinaryOperator)
     → slice_get binary_operators (binary_place operator) ≡ Some operator
 binary_listed Add = refl
-binary_listed Sub = refl
-binary_listed Mul = refl
-binary_listed DivS = refl
-binary_listed DivU = refl
-binary_listed RemS = refl
-binary_listed RemU = refl
-binary_listed And = refl
-binary_listed Or = refl
-binary_listed Xor = refl
-binary_listed Shl = refl
-binary_listed ShrS = refl
-binary_listed ShrU = refl
-binary_listed Rotl = refl
-binary_listed Rotr = refl
+binary_listed _ = refl
 
 -- what holds of each item of a list holds of the one at a place
 agree_at : {X Y : Type 0} (f g : X → Y) (xs : List X) (k : ℕ) (x : X) → map f xs ≡ map g xs
@@ -478,27 +404,17 @@ convert_complete : (operator : Conversion) (bytes : List ℕ)
     → behind_opcode (convert_opcode operator) bytes ≡ Some (instr.Convert operator, bytes)
 unfolding behind_opcode higher_at
 convert_complete I32WrapI64 bytes = refl
-convert_complete I64ExtendI32S bytes = refl
-convert_complete I64ExtendI32U bytes = refl
-convert_complete I32Extend8S bytes = refl
-convert_complete I32Extend16S bytes = refl
-convert_complete I64Extend8S bytes = refl
-convert_complete I64Extend16S bytes = refl
-convert_complete I64Extend32S bytes = refl
+convert_complete _ bytes = refl
 
 instruction_complete : (bytes : List ℕ) (i : Instruction) (rest : List ℕ)
     → IsInstruction bytes i rest → instruction_at bytes ≡ Some (i, rest)
 unfolding instruction_at behind_opcode higher_at prefixed_at
-instruction_complete bytes instr.Unreachable rest h = rw h refl
-instruction_complete bytes instr.Nop rest h = rw h refl
 instruction_complete bytes (instr.Block t) rest h =
     rw (h.1, Reads-block_type_at.complete h.0 t rest h.2) refl
 instruction_complete bytes (instr.Loop t) rest h =
     rw (h.1, Reads-block_type_at.complete h.0 t rest h.2) refl
 instruction_complete bytes (instr.If t) rest h =
     rw (h.1, Reads-block_type_at.complete h.0 t rest h.2) refl
-instruction_complete bytes instr.Else rest h = rw h refl
-instruction_complete bytes instr.End rest h = rw h refl
 instruction_complete bytes (instr.Br label) rest h =
     rw (h.1, Reads-u32_at.complete h.0 label rest h.2) refl
 instruction_complete bytes (instr.BrIf label) rest h =
@@ -509,13 +425,10 @@ instruction_complete bytes (instr.BrTable labels last) rest h =
       Reads-indices.complete h.0 labels h.2.0 h.2.1,
       Reads-u32_at.complete h.2.0 last rest h.2.2,
     ) refl
-instruction_complete bytes instr.Return rest h = rw h refl
 instruction_complete bytes (instr.Call function) rest h =
     rw (h.1, Reads-u32_at.complete h.0 function rest h.2) refl
 instruction_complete bytes (instr.CallIndirect t) rest h =
     rw (h.1, Reads-u32_at.complete h.0 t h.2.0 h.2.1, byte_complete 0x00 h.2.0 rest h.2.2) refl
-instruction_complete bytes instr.Drop rest h = rw h refl
-instruction_complete bytes instr.Select rest h = rw h refl
 instruction_complete bytes (instr.LocalGet local) rest h =
     rw (h.1, Reads-u32_at.complete h.0 local rest h.2) refl
 instruction_complete bytes (instr.LocalSet local) rest h =
@@ -555,6 +468,7 @@ instruction_complete bytes (instr.Compare t operator) rest h =
 instruction_complete bytes (instr.Unary t operator) rest h = rw h (unary_complete t operator rest)
 instruction_complete bytes (instr.Binary t operator) rest h = rw h (binary_complete t operator rest)
 instruction_complete bytes (instr.Convert operator) rest h = rw h (convert_complete operator rest)
+instruction_complete bytes _ rest h = rw h refl
 
 pub Reads-instruction_at : Reads IsInstruction instruction_at
 Reads-instruction_at = record { sound = instruction_sound; complete = instruction_complete }

@@ -64,16 +64,12 @@ behind_byte : (b : ℕ) (bytes a rest : List ℕ) → IsThisByte b bytes a → l
 behind_byte b bytes a rest h lt = omega (arith, byte_shorter b bytes a h, lt)
 
 pub instruction_shorter : TakesBytes IsInstruction
-instruction_shorter bytes instr.Unreachable rest h = byte_shorter _ bytes rest h
-instruction_shorter bytes instr.Nop rest h = byte_shorter _ bytes rest h
 instruction_shorter bytes (instr.Block t) rest h =
     behind_byte _ bytes h.0 rest h.1 (block_type_shorter h.0 t rest h.2)
 instruction_shorter bytes (instr.Loop t) rest h =
     behind_byte _ bytes h.0 rest h.1 (block_type_shorter h.0 t rest h.2)
 instruction_shorter bytes (instr.If t) rest h =
     behind_byte _ bytes h.0 rest h.1 (block_type_shorter h.0 t rest h.2)
-instruction_shorter bytes instr.Else rest h = byte_shorter _ bytes rest h
-instruction_shorter bytes instr.End rest h = byte_shorter _ bytes rest h
 instruction_shorter bytes (instr.Br n) rest h =
     behind_byte _ bytes h.0 rest h.1 (u32_shorter h.0 n rest h.2)
 instruction_shorter bytes (instr.BrIf n) rest h =
@@ -86,15 +82,12 @@ instruction_shorter bytes (instr.BrTable labels last) rest h =
       u32_shorter h.2.0 last rest h.2.2,
     ) in
     behind_byte _ bytes h.0 rest h.1 lt
-instruction_shorter bytes instr.Return rest h = byte_shorter _ bytes rest h
 instruction_shorter bytes (instr.Call n) rest h =
     behind_byte _ bytes h.0 rest h.1 (u32_shorter h.0 n rest h.2)
 instruction_shorter bytes (instr.CallIndirect n) rest h =
     let lt : length rest < length h.0 =
     omega (arith, u32_shorter h.0 n h.2.0 h.2.1, byte_shorter 0x00 h.2.0 rest h.2.2) in
     behind_byte _ bytes h.0 rest h.1 lt
-instruction_shorter bytes instr.Drop rest h = byte_shorter _ bytes rest h
-instruction_shorter bytes instr.Select rest h = byte_shorter _ bytes rest h
 instruction_shorter bytes (instr.LocalGet n) rest h =
     behind_byte _ bytes h.0 rest h.1 (u32_shorter h.0 n rest h.2)
 instruction_shorter bytes (instr.LocalSet n) rest h =
@@ -130,8 +123,4 @@ instruction_shorter bytes (instr.Const (value.I32 n)) rest h =
     behind_byte _ bytes h.0 rest h.1 (signed_shorter 32 h.0 n rest h.2)
 instruction_shorter bytes (instr.Const (value.I64 n)) rest h =
     behind_byte _ bytes h.0 rest h.1 (signed_shorter 64 h.0 n rest h.2)
-instruction_shorter bytes (instr.Eqz t) rest h = byte_shorter _ bytes rest h
-instruction_shorter bytes (instr.Compare t operator) rest h = byte_shorter _ bytes rest h
-instruction_shorter bytes (instr.Unary t operator) rest h = byte_shorter _ bytes rest h
-instruction_shorter bytes (instr.Binary t operator) rest h = byte_shorter _ bytes rest h
-instruction_shorter bytes (instr.Convert operator) rest h = byte_shorter _ bytes rest h
+instruction_shorter bytes _ rest h = byte_shorter _ bytes rest h

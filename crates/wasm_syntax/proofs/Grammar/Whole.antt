@@ -210,19 +210,7 @@ module_sound bytes m e =
 
 pub holds_of : (bytes : List ℕ) (m : Module) → (is : IsModule bytes m)
     → Holds (λ id. body_of id is.sections) m
-holds_of bytes m is = record {
-  types = is.types;
-  imports = is.imports;
-  function_types = is.function_types;
-  tables = is.tables;
-  memories = is.memories;
-  globals = is.globals;
-  exports = is.exports;
-  start = is.start;
-  elements = is.elements;
-  codes = is.codes;
-  data_segments = is.data_segments;
-}
+holds_of bytes m is = search
 
 pub module_complete : (bytes : List ℕ) (m : Module) → IsModule bytes m → module_at bytes ≡ Some m
 unfolding module_at

@@ -287,31 +287,10 @@ contents_within_complete body m h fits =
 
 pub limits_of : (bytes : List ℕ) (m : Module) → length bytes ≤ MODULE_BYTES → Fits m
     → IsWithinLimits bytes m
-limits_of bytes m size fits = record {
-  size = size;
-  types = fits.types;
-  imports = fits.imports;
-  functions = fits.functions;
-  bodies = fits.bodies;
-  tables = fits.tables;
-  globals = fits.globals;
-  initials = fits.initials;
-  element_offsets = fits.element_offsets;
-  data_offsets = fits.data_offsets;
-}
+limits_of bytes m size fits = search
 
 pub fits_of : (bytes : List ℕ) (m : Module) → IsWithinLimits bytes m → Fits m
-fits_of bytes m is = record {
-  types = is.types;
-  imports = is.imports;
-  functions = is.functions;
-  bodies = is.bodies;
-  tables = is.tables;
-  globals = is.globals;
-  initials = is.initials;
-  element_offsets = is.element_offsets;
-  data_offsets = is.data_offsets;
-}
+fits_of bytes m is = search
 
 pub module_within_sound : (bytes : List ℕ) (m : Module) → module_within_at bytes ≡ Some m
     → IsModule bytes m × IsWithinLimits bytes m

@@ -126,7 +126,6 @@ module _ (c : Context) (labels : List (List ValueType)) (p q : List ValueType) w
   pub type_of_arrow : (i : Instruction) → Meets (arrow_of c labels i) p q
       → HasInstructionType c labels i p q
   type_of_arrow instr.Unreachable h = tt
-  type_of_arrow instr.Nop h = h
   type_of_arrow (instr.Br l) h = let s = some_of (slice_get labels l) (λ ts. Jump ts) p q h in
       (s.0, s.2.0, s.1, s.2.1)
   type_of_arrow (instr.BrIf l) h =
@@ -137,7 +136,6 @@ module _ (c : Context) (labels : List (List ValueType)) (p q : List ValueType) w
       p q h in
       let o = only_of (are_labels labels s.0 ls) (Jump (I32 ∷ s.0)) p q s.2 in
       (s.0, o.1.0, labels_there c labels s.0 ls o.0, s.1, o.1.1)
-  type_of_arrow instr.Return h = h
   type_of_arrow (instr.Call x) h =
       let s = some_of (slice_get c.functions x) (λ f. Fixed (takes_of f) (gives_of f)) p q h in
       (s.0, s.1, s.2.0, s.2.1)
@@ -146,8 +144,6 @@ module _ (c : Context) (labels : List (List ValueType)) (p q : List ValueType) w
       only (has_table c) (Fixed (I32 ∷ takes_of f) (gives_of f))) p q h in
       let o = only_of (has_table c) (Fixed (I32 ∷ takes_of s.0) (gives_of s.0)) p q s.2 in
       (s.0, s.1, there (slice_get c.tables 0) o.0, o.1.0, o.1.1)
-  type_of_arrow instr.Drop h = h
-  type_of_arrow instr.Select h = h
   type_of_arrow (instr.LocalGet x) h =
       let s = some_of (slice_get c.locals x) (λ t. Fixed [] (t ∷ [])) p q h in
       (s.0, s.1, s.2.0, s.2.1)
@@ -180,21 +176,11 @@ module _ (c : Context) (labels : List (List ValueType)) (p q : List ValueType) w
       (there (slice_get c.memories 0) o.0, o.1.0, o.1.1)
   type_of_arrow (instr.Const v) h = let o = only_of (is_number v) _ p q h in
       (type_of v, number_of_type v o.0, o.1.0, o.1.1)
-  type_of_arrow (instr.Eqz t) h = h
-  type_of_arrow (instr.Compare t o) h = h
-  type_of_arrow (instr.Unary t o) h = h
-  type_of_arrow (instr.Binary t o) h = h
-  type_of_arrow (instr.Convert o) h = h
-  type_of_arrow (instr.Block t) h = h
-  type_of_arrow (instr.Loop t) h = h
-  type_of_arrow (instr.If t) h = h
-  type_of_arrow instr.Else h = h
-  type_of_arrow instr.End h = h
+  type_of_arrow _ h = h
 
   pub arrow_of_type : (i : Instruction) → HasInstructionType c labels i p q
       → Meets (arrow_of c labels i) p q
   arrow_of_type instr.Unreachable h = (p, refl)
-  arrow_of_type instr.Nop h = h
   arrow_of_type (instr.Br l) h = to_some (slice_get labels l) (λ ts. Jump ts) p q h.0 h.2 (h.1, h.3)
   arrow_of_type (instr.BrIf l) h =
       to_some (slice_get labels l) (λ ts. Fixed (I32 ∷ ts) ts) p q h.0 h.1 (h.2, h.3)
@@ -202,7 +188,6 @@ module _ (c : Context) (labels : List (List ValueType)) (p q : List ValueType) w
       to_some (slice_get labels l) (λ ts. only (are_labels labels ts ls) (Jump (I32 ∷ ts))) p q h.0
       h.3 (to_only (are_labels labels h.0 ls) (Jump (I32 ∷ h.0)) p q
       (labels_are c labels h.0 ls h.2) (h.1, h.4))
-  arrow_of_type instr.Return h = h
   arrow_of_type (instr.Call x) h =
       to_some (slice_get c.functions x) (λ f. Fixed (takes_of f) (gives_of f)) p q h.0 h.1 (
         h.2,
@@ -213,8 +198,6 @@ module _ (c : Context) (labels : List (List ValueType)) (p q : List ValueType) w
       only (has_table c) (Fixed (I32 ∷ takes_of f) (gives_of f))) p q h.0 h.1
       (to_only (has_table c) (Fixed (I32 ∷ takes_of h.0) (gives_of h.0)) p q
       (is_there (slice_get c.tables 0) h.2.0 h.2.1) (h.3, h.4))
-  arrow_of_type instr.Drop h = h
-  arrow_of_type instr.Select h = h
   arrow_of_type (instr.LocalGet x) h =
       to_some (slice_get c.locals x) (λ t. Fixed [] (t ∷ [])) p q h.0 h.1 (h.2, h.3)
   arrow_of_type (instr.LocalSet x) h =
@@ -246,13 +229,4 @@ module _ (c : Context) (labels : List (List ValueType)) (p q : List ValueType) w
       let n = type_of_number h.0 v h.1 in
       let same = n.1 in
       to_only (is_number v) (Fixed [] (type_of v ∷ [])) p q n.0 (h.2, rw same h.3)
-  arrow_of_type (instr.Eqz t) h = h
-  arrow_of_type (instr.Compare t o) h = h
-  arrow_of_type (instr.Unary t o) h = h
-  arrow_of_type (instr.Binary t o) h = h
-  arrow_of_type (instr.Convert o) h = h
-  arrow_of_type (instr.Block t) h = h
-  arrow_of_type (instr.Loop t) h = h
-  arrow_of_type (instr.If t) h = h
-  arrow_of_type instr.Else h = h
-  arrow_of_type instr.End h = h
+  arrow_of_type _ h = h

@@ -168,7 +168,6 @@ module _ (c : Context) (labels : List (List ValueType)) (p q below : List ValueT
   pub typed_leads : (i : Instruction) → HasInstructionType c labels i p q
       → Leads (arrow_of c labels i) (types_behind c i (p ++ below)) (q ++ below)
   typed_leads instr.Unreachable h = refl
-  typed_leads instr.Nop h = rw (h.0, h.1) refl
   typed_leads (instr.Br l) h = rw h.2 refl
   typed_leads (instr.BrIf l) h = rw (h.1, h.2, h.3) refl
   typed_leads (instr.BrTable ls l) h = rw h.3 (jump_leads _ _ _)
@@ -195,16 +194,12 @@ module _ (c : Context) (labels : List (List ValueType)) (p q below : List ValueT
   typed_leads (instr.Const v) h =
       rw (h.2, h.3)
       (fixed_leads _ _ _ _ _ (ap (λ t. Some (t ∷ below)) (value_type h.0 v h.1)))
-  typed_leads (instr.Eqz t) h = rw (h.0, h.1) refl
-  typed_leads (instr.Compare t o) h = rw (h.0, h.1) refl
-  typed_leads (instr.Unary t o) h = rw (h.0, h.1) refl
-  typed_leads (instr.Binary t o) h = rw (h.0, h.1) refl
-  typed_leads (instr.Convert o) h = rw (h.0, h.1) refl
   typed_leads (instr.Block t) h = absurd h
   typed_leads (instr.Loop t) h = absurd h
   typed_leads (instr.If t) h = absurd h
   typed_leads instr.Else h = absurd h
   typed_leads instr.End h = absurd h
+  typed_leads _ h = rw (h.0, h.1) refl
 
 -- A level after an instruction: typing goes on with these types, and the level is as reached as
 -- before. Or typing goes on nowhere, and a jump is before.

@@ -75,11 +75,7 @@ after_length c i (l ∷ levels) levels' h =
 pub opcode_fault_is : (c : Context) (i : Instruction) (l : Level) (levels : List Level)
     → opcode_fault c i (l ∷ levels) ≡ fault_of c (labels_of (l ∷ levels)) i
 opcode_fault_is c (instr.Block t) l levels = refl
-opcode_fault_is c (instr.Loop t) l levels = refl
-opcode_fault_is c (instr.If t) l levels = refl
-opcode_fault_is c instr.Else l levels = refl
-opcode_fault_is c instr.End l levels = refl
-opcode_fault_is c i l levels = refl
+opcode_fault_is c _ l levels = refl
 
 -- the same of all open sequences
 pub fault_is : (c : Context) (i : Instruction) (levels : List Level) → levels ≢ []
@@ -89,11 +85,7 @@ fault_is c i (l ∷ levels) some = sym (opcode_fault_is c i l levels)
 
 opcode_fault_none : (c : Context) (i : Instruction) → opcode_fault c i [] ≡ Typing
 opcode_fault_none c (instr.Block t) = refl
-opcode_fault_none c (instr.Loop t) = refl
-opcode_fault_none c (instr.If t) = refl
-opcode_fault_none c instr.Else = refl
-opcode_fault_none c instr.End = refl
-opcode_fault_none c i = refl
+opcode_fault_none c _ = refl
 
 -- ---- indices
 

@@ -1,8 +1,8 @@
 -- A fault handed on.
 use Rattle.std.proofs.Common.{◌≡◌, ◌⊎◌, inl, inr, sym, subst, Result, Ok, Err}
 use Rattle.wasm_validate.specs.declared.parts.fault.ValidFault.{ValidFault}
-use Rattle.wasm_validate.specs.declared.parts.fault.ValidFault.TheVariants.{Typing, Index, Limits}
-use Rattle.wasm_validate.specs.declared.parts.fault.ValidFault.TheVariants.{DuplicateExport, Memory}
+use Rattle.wasm_validate.specs.declared.parts.fault.ValidFault.TheVariants.{Typing, Index}
+use Rattle.wasm_validate.specs.declared.parts.fault.ValidFault.TheVariants.{Memory}
 use Rattle.wasm_validate.specs.rules.Answers.{Denies, DeniesOutright, Decides, Judges}
 use Rattle.wasm_validate.specs.rules.Answers.{DemandsInTurn}
 
@@ -10,24 +10,15 @@ use Rattle.wasm_validate.specs.rules.Answers.{DemandsInTurn}
 pub outright_as : {P Q : Type 0} (e : ValidFault) → (P → Q) → DeniesOutright e Q
     → DeniesOutright e P
 outright_as Memory f h = h
-outright_as Typing f h = λ p. h (f p)
-outright_as Index f h = λ p. h (f p)
-outright_as Limits f h = λ p. h (f p)
-outright_as DuplicateExport f h = λ p. h (f p)
+outright_as _ f h = λ p. h (f p)
 
 pub denies_as : {P Q : Type 0} (e : ValidFault) → (P → Q) → DeniesOutright e Q → Denies e P
 denies_as Memory f h = tt
-denies_as Typing f h = λ p. h (f p)
-denies_as Index f h = λ p. h (f p)
-denies_as Limits f h = λ p. h (f p)
-denies_as DuplicateExport f h = λ p. h (f p)
+denies_as _ f h = λ p. h (f p)
 
 pub denies_still : {P Q : Type 0} (e : ValidFault) → (P → Q) → Denies e Q → Denies e P
 denies_still Memory f h = tt
-denies_still Typing f h = λ p. h (f p)
-denies_still Index f h = λ p. h (f p)
-denies_still Limits f h = λ p. h (f p)
-denies_still DuplicateExport f h = λ p. h (f p)
+denies_still _ f h = λ p. h (f p)
 
 -- of two checks in turn
 pub turn_as : {P Q R : Type 0} (e : ValidFault) → (R → Q) → ((e ≡ Index) × (P → ⊥) × (Q → ⊥))

@@ -108,10 +108,8 @@ module _ (m : Module) where
   -- a function has no type
   pub types_fault : (e : ValidFault) → IsFor Index (HasFunctionTypes m) e → HasFault m e
   types_fault Memory h = tt
-  types_fault Typing h = let is = h.0 in absurd (cc)
   types_fault Index h = λ functions are n. h.1 (functions, are)
-  types_fault Limits h = let is = h.0 in absurd (cc)
-  types_fault DuplicateExport h = let is = h.0 in absurd (cc)
+  types_fault _ h = let is = h.0 in absurd (cc)
 
   -- an export names nothing, or has the name of another
   pub exports_fault : (functions : List FunctionType) → AreFunctionTypes m functions

@@ -19,8 +19,8 @@ use Rattle.wasm_rules.specs.Validity.{AreTypesAt, IsTableTypeValid, IsMemoryType
 use Rattle.wasm_rules.specs.Validity.{IsValid, memories_of, tables_of}
 use Rattle.wasm_validate.specs.declared.parts.imports.Before.{Before}
 use Rattle.wasm_validate.specs.declared.parts.fault.ValidFault.{ValidFault}
-use Rattle.wasm_validate.specs.declared.parts.fault.ValidFault.TheVariants.{Typing, Index, Limits}
-use Rattle.wasm_validate.specs.declared.parts.fault.ValidFault.TheVariants.{DuplicateExport, Memory}
+use Rattle.wasm_validate.specs.declared.parts.fault.ValidFault.TheVariants.{Index, Limits}
+use Rattle.wasm_validate.specs.declared.parts.fault.ValidFault.TheVariants.{Memory}
 use Rattle.wasm_validate.specs.rules.Answers.{Denies}
 use Rattle.wasm_validate.specs.rules.Faults.{HasFault}
 use Rattle.wasm_validate.specs.Parts.Parts.{IsFirstImportFault, IsImportItemValid}
@@ -123,10 +123,7 @@ some_first xs ys h = let e = length-append xs ys in omega arith
 
 denied : {P : Type 0} (e : ValidFault) → (P → ⊥) → Denies e P
 denied Memory h = tt
-denied Typing h = h
-denied Index h = h
-denied Limits h = h
-denied DuplicateExport h = h
+denied _ h = h
 
 module _ (m : Module) where
   abbrev own : List ℕ

@@ -29,18 +29,14 @@ IsTableImportValid i = IsImportedTableValid i.item
 
 with_valid_table : (item : ImportItem) (ts : List TableType) → IsImportedTableValid item
     → AllByRecursion IsTableTypeValid ts → AllByRecursion IsTableTypeValid (with_table_type item ts)
-with_valid_table (import.Function x) ts h k = k
 with_valid_table (import.Table t) ts h k = (h, k)
-with_valid_table (import.Memory t) ts h k = k
-with_valid_table (import.Global t) ts h k = k
+with_valid_table _ ts h k = k
 
 of_valid_table : (item : ImportItem) (ts : List TableType)
     → AllByRecursion IsTableTypeValid (with_table_type item ts) → IsImportedTableValid item
     × AllByRecursion IsTableTypeValid ts
-of_valid_table (import.Function x) ts h = (tt, h)
 of_valid_table (import.Table t) ts h = h
-of_valid_table (import.Memory t) ts h = (tt, h)
-of_valid_table (import.Global t) ts h = (tt, h)
+of_valid_table _ ts h = (tt, h)
 
 pub tables_from_imports : (imports : List Import) → AllByRecursion IsTableImportValid imports
     → AllByRecursion IsTableTypeValid (imported_tables imports)
@@ -63,18 +59,14 @@ IsMemoryImportValid i = IsImportedMemoryValid i.item
 with_valid_memory : (item : ImportItem) (ts : List MemoryType) → IsImportedMemoryValid item
     → AllByRecursion IsMemoryTypeValid ts
     → AllByRecursion IsMemoryTypeValid (with_memory_type item ts)
-with_valid_memory (import.Function x) ts h k = k
-with_valid_memory (import.Table t) ts h k = k
 with_valid_memory (import.Memory t) ts h k = (h, k)
-with_valid_memory (import.Global t) ts h k = k
+with_valid_memory _ ts h k = k
 
 of_valid_memory : (item : ImportItem) (ts : List MemoryType)
     → AllByRecursion IsMemoryTypeValid (with_memory_type item ts) → IsImportedMemoryValid item
     × AllByRecursion IsMemoryTypeValid ts
-of_valid_memory (import.Function x) ts h = (tt, h)
-of_valid_memory (import.Table t) ts h = (tt, h)
 of_valid_memory (import.Memory t) ts h = h
-of_valid_memory (import.Global t) ts h = (tt, h)
+of_valid_memory _ ts h = (tt, h)
 
 pub memories_from_imports : (imports : List Import) → AllByRecursion IsMemoryImportValid imports
     → AllByRecursion IsMemoryTypeValid (imported_memories imports)

@@ -115,16 +115,9 @@ module _ (m : Module) (v : IsValid m) where
   }
 
   are_kept : AreLimitsKept m
-  are_kept = record {
-    types = v.types;
-    tables = v.tables;
-    memories = v.memories;
-    one_table = v.one_table;
-    one_memory = v.one_memory;
-    alignments =
-        each
-        (IsFunctionValid m v.functions) IsFunctionAligned m.functions function_aligned v.bodies;
-  }
+  are_kept =
+      search (each (IsFunctionValid m v.functions) IsFunctionAligned m.functions function_aligned
+      v.bodies)
 
   pub no_fault : (fault : ValidFault) → HasFault m fault → fault ≡ Memory
   no_fault Memory h = refl

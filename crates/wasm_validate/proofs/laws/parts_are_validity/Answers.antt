@@ -14,22 +14,4 @@ returns-clause-needed c = λ m functions are v.
     ++ map function_type_of m.functions) v.functions functions v.function_types are in
     let P : List FunctionType → Type 0 = λ fs. IsValidButBodies m fs
     × AllByRecursion (IsFunctionValid m fs) m.functions in
-    subst P e (
-      record {
-        function_types = v.function_types;
-        before = record {
-          types = v.types;
-          tables = v.tables;
-          memories = v.memories;
-          one_table = v.one_table;
-          one_memory = v.one_memory;
-          globals = v.globals;
-          exports = v.exports;
-          names = v.names;
-          start = v.start;
-          elements = v.elements;
-        };
-        after = v.data_segments;
-      },
-      v.bodies,
-    )
+    subst P e (search)
