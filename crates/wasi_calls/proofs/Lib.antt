@@ -28,6 +28,5 @@ pub mod SmallInFront
 pub mod Told
 pub mod CallRulesInFront
 pub mod Questions
-pub mod PathsInFront
 pub mod OpeningInFront
 pub mod MovesInFront

@@ -1,13 +1,11 @@
 -- Rules don't look at the lines that were emitted before: with other lines in front a call does the
 -- same.
 use Rattle.std.proofs.Common.{◌≡◌, ℕ, List, [], ◌∷◌, ◌++◌, take, length, refl, sym, ap, ◌∙◌}
-use Rattle.std.specs.Prelude.{if◌then◌else◌, Result, Ok, Err, IsOk, is_ok}
+use Rattle.std.specs.Prelude.{Result, Ok, Err, IsOk, is_ok}
 use Rattle.guest_memory.specs.rules.Bytes.{with_part}
 use Rattle.file_tree.specs.rules.Files.{bytes_of_node}
 use Rattle.wasi_abi.specs.rules.Layouts.{u32_bytes}
 use Rattle.wasi_abi.specs.rules.Numbers.{fd_write_right}
-use Rattle.wasi_abi.specs.declared.answer.Question.TheVariants as question
-use Rattle.wasi_abi.specs.declared.answer.Answer.TheVariants as answer
 use Rattle.wasi_calls_rules.specs.WasiStates.{Line, Target, Stream, Node, Descriptor, WasiState}
 use Rattle.wasi_calls_rules.specs.Checks.{Bytes, Halt, Ruling, ◌>>=◌, open_descriptor, no_directory}
 use Rattle.wasi_calls_rules.specs.Checks.{with_right, in_memory, buffers}
@@ -18,11 +16,9 @@ use Rattle.wasi_calls_rules.specs.declared.output_stream.OutputStream.TheVariant
 use Rattle.wasi_calls_rules.specs.Small.{call_done, roomy}
 use Rattle.wasi_calls_rules.specs.Moving.{size_after, file_written, write_offset, offset_after}
 use Rattle.wasi_calls_rules.specs.Moving.{target_written, fd_write}
-use Rattle.wasi_calls_rules.specs.CallRules.{CallEnding, IsDone, IsRefused, IsAsk, IsExit, NoMemory}
-use Rattle.wasi_calls_rules.specs.CallRules.{TellsCallRule}
+use Rattle.wasi_calls_rules.specs.CallRules.{CallEnding, IsDone, NoMemory, TellsCallRule}
 use Rattle.wasi_calls.specs.rules.Held.{HeldWasiState, ShowsWasiState, behind_lines}
 use Rattle.wasi_calls.specs.Held.{behind_lines_of_call_rule}
-use Rattle.wasi_calls.specs.declared.stop.CallStop.TheVariants as stop
 use Rattle.wasi_calls.specs.rules.Calls.{ShowsCallRule}
 use Rattle.wasi_calls.proofs.Cuts.{behind_cut, all_behind}
 
@@ -146,23 +142,13 @@ module _ (r : WasiState → Ruling) (behind : (before : List Line) (h : WasiStat
     refl,
     record { before = s.before; count = s.count ∙ sym released; is = refl },
   )
-  shown_of (IsRefused e) k = (
-    at ∙ ap (behind_lines_of_call_rule s.before) k.0,
-    k.1,
-    same_held held.released old.released held.host old.host released k.2,
-  )
-  shown_of (IsAsk question) k = (
-    at ∙ ap (behind_lines_of_call_rule s.before) k.0,
-    k.1,
-    same_held held.released old.released held.host old.host released k.2,
-  )
-  shown_of (IsExit code) k = (
-    at ∙ ap (behind_lines_of_call_rule s.before) k.0,
-    k.1,
-    same_held held.released old.released held.host old.host released k.2,
-  )
   shown_of NoMemory k = (
     ap is_ok at ∙ ok_behind s.before (r old.host) k.0,
+    k.1,
+    same_held held.released old.released held.host old.host released k.2,
+  )
+  shown_of _ k = (
+    at ∙ ap (behind_lines_of_call_rule s.before) k.0,
     k.1,
     same_held held.released old.released held.host old.host released k.2,
   )

@@ -13,7 +13,7 @@ use Rattle.wasi_calls_rules.specs.Checks.{no_directory, with_right, few_buffers,
 use Rattle.wasi_calls_rules.specs.Checks.{movable, gathered, scattered, node_named, answered_by}
 use Rattle.wasi_calls_rules.specs.Small.{call_done}
 use Rattle.wasi_calls_rules.specs.Moving.{Got, input_taken, has_bytes, input_read, target_read}
-use Rattle.wasi_calls_rules.specs.Moving.{fd_read, fd_pread, file_written, fd_pwrite}
+use Rattle.wasi_calls_rules.specs.Moving.{fd_read, file_written, fd_pwrite}
 use Rattle.wasi_calls.specs.rules.Held.{behind_lines}
 use Rattle.wasi_calls.specs.Held.{behind_lines_of_call_rule}
 use Rattle.wasi_calls.proofs.LinesInFront.{next, host_next, file_behind}
@@ -38,15 +38,6 @@ module _ (before : List Line) (m : Bytes) (h : WasiState) where
       host_next before (file_written k offset bytes (behind_lines before h))
       (file_written k offset bytes h) (with_part m ret (u32_bytes (length bytes)))
       (file_behind before k offset bytes h))))))))
-
-  pub pread_behind : (fd iovs count offset ret : ℕ)
-      → IsBehind before (fd_pread fd iovs count offset ret m) h
-  pread_behind fd iovs count offset ret =
-      next before (open_descriptor h fd) _ _ (λ d. next before (a_file h d) _ _ (λ _.
-      next before (with_right fd_read_right d) _ _ (λ _.
-      next before (with_right fd_seek_right d) _ _ (λ _.
-      next before (few_buffers count) _ _ (λ _. next before (buffers m iovs count) _ _ (λ bs.
-      next before (in_memory m ret 4) _ _ (λ _. refl)))))))
 
   -- ---- reads that move on
 

@@ -28,11 +28,9 @@ short_on (a ∷ b ∷ name) h = absurd (omega (arith, h))
 
 -- nor do three and more
 pub long_on : (name : Name) → 3 ≤ length name → false ≡ is_back name
-long_on [] h = absurd (omega (arith, h))
-long_on (a ∷ []) h = absurd (omega (arith, h))
-long_on (a ∷ b ∷ []) h = absurd (omega (arith, h))
 long_on (a ∷ b ∷ c ∷ name) h =
     sym (ap (λ (t : Bool). (a == dot) && t) (both_false (b == dot)) ∙ both_false (a == dot))
+long_on _ h = absurd (omega (arith, h))
 
 -- ---- the first part
 

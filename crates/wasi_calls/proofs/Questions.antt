@@ -5,7 +5,7 @@ use Rattle.wasi_abi.specs.declared.answer.Question.{Question}
 use Rattle.wasi_abi.specs.declared.call.Call.{Call}
 use Rattle.wasi_abi.specs.declared.call.Call.TheVariants as call
 use Rattle.wasi_calls_rules.specs.WasiStates.{Line, WasiState}
-use Rattle.wasi_calls_rules.specs.Checks.{Bytes, Halt, Ruling, Refuses, Asks, Ends, ◌>>=◌}
+use Rattle.wasi_calls_rules.specs.Checks.{Bytes, Halt, Ruling, Asks, ◌>>=◌}
 use Rattle.wasi_calls_rules.specs.CallRules.{call_rule}
 use Rattle.wasi_calls_rules.specs.laws.Laws.{MayAsk}
 use Rattle.wasi_calls_rules.proofs.Halting.{few_call_rules_ask}
@@ -16,10 +16,8 @@ use Rattle.wasi_calls.proofs.CallRulesInFront.{call_rule_behind}
 
 no_question_in : (r : Ruling) → ((question : Question) → r ≢ Err (Asks question)) → None
     ≡ question_of r
-no_question_in (Ok done) asks_not = refl
-no_question_in (Err (Refuses e)) asks_not = refl
-no_question_in (Err (Ends code)) asks_not = refl
 no_question_in (Err (Asks question)) asks_not = absurd (asks_not question refl)
+no_question_in _ asks_not = refl
 
 -- a call that may ask for none
 pub wants_none : (c : Call) → (MayAsk c → ⊥) → (arguments : List ℕ) (m : Bytes) (h : WasiState)
@@ -40,17 +38,13 @@ few_may_ask _ no_clock no_read no_random may = may
 pub question_after : {A B : Type 0} (r : Result A Halt) (go : A → B)
     → question_of (r >>= λ x. Ok (go x)) ≡ question_of r
 question_after (Ok x) go = refl
-question_after (Err (Refuses e)) go = refl
-question_after (Err (Asks question)) go = refl
-question_after (Err (Ends code)) go = refl
+question_after _ go = refl
 
 -- with lines in front a call asks for the same
 question_behind : (before : List Line) (r : Ruling) → question_of
     (behind_lines_of_call_rule before r) ≡ question_of r
 question_behind before (Ok done) = refl
-question_behind before (Err (Refuses e)) = refl
-question_behind before (Err (Asks question)) = refl
-question_behind before (Err (Ends code)) = refl
+question_behind before _ = refl
 
 pub question_shown : (c : Call) (arguments : List ℕ) (m : Bytes) (held : HeldWasiState)
     (h : WasiState) → ShowsWasiState held h

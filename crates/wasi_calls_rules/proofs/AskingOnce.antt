@@ -150,15 +150,11 @@ call_rules_ask_once call.ClockTimeGet (x ∷ y ∷ []) m h k other a e fits = ab
 call_rules_ask_once call.ClockTimeGet (x ∷ y ∷ z ∷ w ∷ more) m h k other a e fits = absurd (cc)
 call_rules_ask_once call.FdRead (fd ∷ iovs ∷ count ∷ ret ∷ []) m h k other a e fits =
     (read_once h a m fd iovs count ret).once k other e fits
-call_rules_ask_once call.FdRead [] m h k other a e fits = absurd (cc)
-call_rules_ask_once call.FdRead (x ∷ []) m h k other a e fits = absurd (cc)
-call_rules_ask_once call.FdRead (x ∷ y ∷ []) m h k other a e fits = absurd (cc)
-call_rules_ask_once call.FdRead (x ∷ y ∷ z ∷ []) m h k other a e fits = absurd (cc)
-call_rules_ask_once call.FdRead (x ∷ y ∷ z ∷ w ∷ v ∷ more) m h k other a e fits = absurd (cc)
 call_rules_ask_once call.RandomGet (buf ∷ len ∷ []) m h k other a e fits =
     (random_once h a m buf len).once k other e fits
 call_rules_ask_once call.RandomGet [] m h k other a e fits = absurd (cc)
 call_rules_ask_once call.RandomGet (x ∷ []) m h k other a e fits = absurd (cc)
 call_rules_ask_once call.RandomGet (x ∷ y ∷ z ∷ more) m h k other a e fits = absurd (cc)
+call_rules_ask_once call.FdRead _ m h k other a e fits = absurd (cc)
 call_rules_ask_once c arguments m h k other a e fits = absurd
     (few_call_rules_ask c arguments None m h k e)

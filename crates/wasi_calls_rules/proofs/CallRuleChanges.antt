@@ -1,13 +1,13 @@
 -- Each call that is done changes the host in one of the ways of `Becomes`.
-use Rattle.std.proofs.Common.{◌≡◌, ℕ, ◌+◌, ◌*◌, ◌≤◌, ◌<◌, ◌^◌, List, [], ◌∷◌, ◌++◌, length}
-use Rattle.std.proofs.Common.{take, drop, refl, sym, ◌∙◌, ap, subst, arith}
+use Rattle.std.proofs.Common.{◌≡◌, ℕ, ◌+◌, ◌≤◌, ◌<◌, ◌^◌, List, [], ◌∷◌, ◌++◌, length}
+use Rattle.std.proofs.Common.{take, drop, refl, sym, ◌∙◌, ap, subst, arith, length-take}
 use Rattle.std.specs.Prelude.{Bool, true, false, if◌then◌else◌, ◌==◌, not, ◌&&◌, ◌||◌, nat_lt}
 use Rattle.std.specs.Prelude.{nat_le, Option, Some, None, is_some, Result, Ok, Err, ℤ, pos, negsuc}
 use Rattle.std.specs.Prelude.{◌+ℤ◌, slice_get, replicate}
 use Rattle.std.specs.Int.{w64, cast_signed}
 use Rattle.std.proofs.lemmas.Bool.{leb-true, ltb-true, and_parts, not-true}
 use Rattle.wasi_abi.specs.declared.errno.Errno.TheVariants.{Badf, Exist, Fbig, Inval, Isdir}
-use Rattle.wasi_abi.specs.declared.errno.Errno.TheVariants.{Nametoolong, Noent, Nospc}
+use Rattle.wasi_abi.specs.declared.errno.Errno.TheVariants.{Noent, Nospc}
 use Rattle.wasi_abi.specs.declared.errno.Errno.TheVariants.{Notcapable, Notdir, Notempty, Spipe}
 use Rattle.wasi_abi.specs.declared.answer.Question.TheVariants as question
 use Rattle.wasi_abi.specs.declared.answer.Answer.{Answer}
@@ -15,16 +15,14 @@ use Rattle.wasi_abi.specs.declared.answer.Answer.TheVariants as answer
 use Rattle.wasi_abi.specs.declared.call.Call.{Call}
 use Rattle.wasi_abi.specs.declared.call.Call.TheVariants as call
 use Rattle.wasi_abi.specs.rules.Answers.{newline, AreBytes}
-use Rattle.wasi_abi.specs.rules.Numbers.{fd_datasync_right, fd_sync_right}
-use Rattle.wasi_abi.specs.rules.Numbers.{fd_fdstat_set_flags_right, fd_filestat_get_right}
-use Rattle.wasi_abi.specs.rules.Numbers.{fd_filestat_set_size_right, fd_seek_right, fd_tell_right}
-use Rattle.wasi_abi.specs.rules.Numbers.{fd_read_right, fd_write_right, fd_readdir_right}
+use Rattle.wasi_abi.specs.rules.Numbers.{fd_fdstat_set_flags_right, fd_filestat_set_size_right}
+use Rattle.wasi_abi.specs.rules.Numbers.{fd_seek_right, fd_read_right, fd_write_right}
 use Rattle.wasi_abi.specs.rules.Numbers.{path_create_directory_right, path_create_file_right}
 use Rattle.wasi_abi.specs.rules.Numbers.{path_open_right, path_rename_source_right}
-use Rattle.wasi_abi.specs.rules.Numbers.{path_rename_target_right, path_filestat_get_right}
-use Rattle.wasi_abi.specs.rules.Numbers.{path_filestat_set_size_right, path_unlink_file_right}
-use Rattle.wasi_abi.specs.rules.Numbers.{path_remove_directory_right, create_flag, directory_flag}
-use Rattle.wasi_abi.specs.rules.Numbers.{exclusive_flag, truncate_flag, has_flag}
+use Rattle.wasi_abi.specs.rules.Numbers.{path_rename_target_right, path_filestat_set_size_right}
+use Rattle.wasi_abi.specs.rules.Numbers.{path_unlink_file_right, path_remove_directory_right}
+use Rattle.wasi_abi.specs.rules.Numbers.{create_flag, directory_flag, exclusive_flag, truncate_flag}
+use Rattle.wasi_abi.specs.rules.Numbers.{has_flag}
 use Rattle.wasi_abi.specs.rules.Versions.{text_limit}
 use Rattle.guest_memory.specs.rules.Bytes.{IsByte, part}
 use Rattle.guest_memory.proofs.Lists.{all_both, all_take, all_drop, all_replicate}
@@ -41,24 +39,21 @@ use Rattle.wasi_calls_rules.specs.Checks.{with_right, needs, within_rights, in_m
 use Rattle.wasi_calls_rules.specs.Checks.{buffers, few_buffers, movable, gathered, answered_by}
 use Rattle.wasi_calls_rules.specs.Checks.{does_fit, has_64_bits, has_bytes_alone, has_no_newline}
 use Rattle.wasi_calls_rules.specs.Paths.{WalkEnd, Self, Leaf, formed, node_at}
-use Rattle.wasi_calls_rules.specs.Small.{call_done, with_zeros, texts_get, texts_sizes_get}
-use Rattle.wasi_calls_rules.specs.Small.{clock_res_get, time_put, clock_question, clock_time_get}
-use Rattle.wasi_calls_rules.specs.Small.{fd_close, fd_syncs, fd_fdstat_get, fd_fdstat_set_flags}
-use Rattle.wasi_calls_rules.specs.Small.{fd_filestat_get, roomy, fd_filestat_set_size}
-use Rattle.wasi_calls_rules.specs.Small.{fd_prestat_get, fd_prestat_dir_name, seek_base}
-use Rattle.wasi_calls_rules.specs.Small.{file_offset, fd_seek, fd_tell, random_put, random_get}
+use Rattle.wasi_calls_rules.specs.Small.{call_done, time_put, clock_question, clock_time_get}
+use Rattle.wasi_calls_rules.specs.Small.{fd_close, fd_fdstat_set_flags, roomy, fd_filestat_set_size}
+use Rattle.wasi_calls_rules.specs.Small.{seek_base, file_offset, fd_seek, random_put}
 use Rattle.wasi_calls_rules.specs.Moving.{Got, bytes_taken, input_taken, has_bytes, input_read}
-use Rattle.wasi_calls_rules.specs.Moving.{target_read, fd_read, fd_pread, size_after, file_written}
+use Rattle.wasi_calls_rules.specs.Moving.{target_read, fd_read, size_after, file_written}
 use Rattle.wasi_calls_rules.specs.Moving.{write_offset, offset_after, target_written, fd_write}
 use Rattle.wasi_calls_rules.specs.Moving.{fd_pwrite, moved_to}
 use Rattle.wasi_calls_rules.specs.Lines.{output_stream, stream_written}
-use Rattle.wasi_calls_rules.specs.Entries.{a_leaf, fd_readdir, placed, whole_path, a_free_node}
-use Rattle.wasi_calls_rules.specs.Entries.{path_create_directory, path_filestat_get, gives_way}
-use Rattle.wasi_calls_rules.specs.Entries.{is_directory_empty, path_remove_directory}
-use Rattle.wasi_calls_rules.specs.Entries.{path_unlink_file, is_within_node, is_same_node}
-use Rattle.wasi_calls_rules.specs.Entries.{renamed_to, path_rename, free_number, OpenMode}
-use Rattle.wasi_calls_rules.specs.Entries.{opened_there, opened_new, opened_at, path_open}
+use Rattle.wasi_calls_rules.specs.Entries.{a_leaf, placed, whole_path, a_free_node}
+use Rattle.wasi_calls_rules.specs.Entries.{path_create_directory, gives_way, is_directory_empty}
+use Rattle.wasi_calls_rules.specs.Entries.{path_remove_directory, path_unlink_file, is_within_node}
+use Rattle.wasi_calls_rules.specs.Entries.{is_same_node, renamed_to, path_rename, free_number}
+use Rattle.wasi_calls_rules.specs.Entries.{OpenMode, opened_there, opened_new, opened_at, path_open}
 use Rattle.wasi_calls_rules.specs.CallRules.{call_rule}
+use Rattle.wasi_calls_rules.specs.declared.limits.TheConstants.{MOVED_BYTES}
 use Rattle.wasi_calls_rules.proofs.Steps.{HoldsAfter, refused, done_with, step, next, next_is}
 use Rattle.wasi_calls_rules.proofs.Steps.{passed, some_there, by_test, either_way, answered}
 use Rattle.wasi_calls_rules.proofs.WasiStateChanges.{IsOpen, Reached, Rewriting}
@@ -180,34 +175,19 @@ sent_bytes m n bs k = all_take IsByte n (gathered m bs) (gathered_bytes m bs k)
 
 -- ---- the rules
 
-module _ (m : Bytes) (h : WasiState) where
+module _ (which : Call) (m : Bytes) (h : WasiState) where
   abbrev BecomesBy : Done → Type 0
-  BecomesBy d = Becomes m h d.host
+  BecomesBy d = Becomes which m h d.host
 
   abbrev BecomesByRead : Got → Type 0
-  BecomesByRead got = Becomes m h got.host
+  BecomesByRead got = Becomes which m h got.host
 
-  changed : (now : Bytes) (after : WasiState) → Becomes m h after
+  changed : (now : Bytes) (after : WasiState) → Becomes which m h after
       → HoldsAfter BecomesBy (call_done now after)
   changed now after b = done_with BecomesBy (record { memory = now; host = after }) b
 
   same : (now : Bytes) → HoldsAfter BecomesBy (call_done now h)
   same now = changed now h stays
-
-  texts_get_changes : (texts : List Bytes) (array buf : ℕ)
-      → HoldsAfter BecomesBy (texts_get texts array buf m h)
-  texts_get_changes texts array buf =
-      next (in_memory m array (4 * length texts)) _ (λ _.
-      next (in_memory m buf (length (with_zeros texts))) _ (λ _. same _))
-
-  texts_sizes_get_changes : (texts : List Bytes) (count size : ℕ)
-      → HoldsAfter BecomesBy (texts_sizes_get texts count size m h)
-  texts_sizes_get_changes texts count size =
-      next (in_memory m count 4) _ (λ _. next (in_memory m size 4) _ (λ _. same _))
-
-  clock_res_get_changes : (id ret : ℕ) → HoldsAfter BecomesBy (clock_res_get id ret m h)
-  clock_res_get_changes id ret =
-      next (check_or (nat_le id 1) Inval) _ (λ _. next (in_memory m ret 8) _ (λ _. same _))
 
   abbrev IsSmallTime : Answer → Type 0
   IsSmallTime (answer.Monotonic n) = has_64_bits n ≡ true
@@ -249,14 +229,6 @@ module _ (m : Bytes) (h : WasiState) where
       changed m _ (closes fd d (is_opened h fd d o)
       (not-true (fd == 3) (passed (not (fd == 3)) Notcapable u c)))))
 
-  fd_syncs_changes : (right fd : ℕ) → HoldsAfter BecomesBy (fd_syncs right fd m h)
-  fd_syncs_changes right fd =
-      next (open_descriptor h fd) _ (λ d. next (with_right right d) _ (λ _. same m))
-
-  fd_fdstat_get_changes : (fd ret : ℕ) → HoldsAfter BecomesBy (fd_fdstat_get fd ret m h)
-  fd_fdstat_get_changes fd ret =
-      next (open_descriptor h fd) _ (λ d. next (in_memory m ret 24) _ (λ _. same _))
-
   fd_fdstat_set_flags_changes : (fd flags : ℕ)
       → HoldsAfter BecomesBy (fd_fdstat_set_flags fd flags m h)
   fd_fdstat_set_flags_changes fd flags =
@@ -264,11 +236,6 @@ module _ (m : Bytes) (h : WasiState) where
       next_is (check_or (nat_le flags 31) Inval) _ (λ u c.
       changed m _ (sets_flags fd flags d (is_opened h fd d o)
       (leb-true flags 31 (passed (nat_le flags 31) Inval u c))))))
-
-  fd_filestat_get_changes : (fd ret : ℕ) → HoldsAfter BecomesBy (fd_filestat_get fd ret m h)
-  fd_filestat_get_changes fd ret =
-      next (open_descriptor h fd) _ (λ d. next (with_right fd_filestat_get_right d) _ (λ _.
-      next (in_memory m ret 64) _ (λ _. same _)))
 
   fd_filestat_set_size_changes : (fd size : ℕ)
       → HoldsAfter BecomesBy (fd_filestat_set_size fd size m h)
@@ -291,18 +258,6 @@ module _ (m : Bytes) (h : WasiState) where
         are_bytes = λ _ k. resized_bytes old size k;
       }))))))
 
-  fd_prestat_get_changes : (fd ret : ℕ) → HoldsAfter BecomesBy (fd_prestat_get fd ret m h)
-  fd_prestat_get_changes fd ret =
-      next (open_descriptor h fd) _ (λ d. next (in_memory m ret 8) _ (λ _.
-      next (check_or (fd == 3) Badf) _ (λ _. same _)))
-
-  fd_prestat_dir_name_changes : (fd path len : ℕ)
-      → HoldsAfter BecomesBy (fd_prestat_dir_name fd path len m h)
-  fd_prestat_dir_name_changes fd path len =
-      next (open_descriptor h fd) _ (λ d. next (in_memory m path 1) _ (λ _.
-      next (check_or (fd == 3) Badf) _ (λ _.
-      next (check_or (not (len == 0)) Nametoolong) _ (λ _. same _))))
-
   fd_seek_changes : (fd delta whence ret : ℕ)
       → HoldsAfter BecomesBy (fd_seek fd delta whence ret m h)
   fd_seek_changes fd delta whence ret =
@@ -313,21 +268,9 @@ module _ (m : Bytes) (h : WasiState) where
       step (λ (offset : ℕ). offset < 2 ^ 63) (file_offset to) _ (offset_is to) (λ offset small.
       changed _ _ (seeks fd offset d (is_opened h fd d o) small)))))))
 
-  fd_tell_changes : (fd ret : ℕ) → HoldsAfter BecomesBy (fd_tell fd ret m h)
-  fd_tell_changes fd ret =
-      next (open_descriptor h fd) _ (λ d. next (a_file h d) _ (λ _.
-      next (with_right fd_tell_right d) _ (λ _. next (in_memory m ret 8) _ (λ _. same _))))
-
   random_put_changes : (a : Answer) (buf : ℕ) → HoldsAfter BecomesBy (random_put a buf m h)
   random_put_changes (answer.Random bytes) buf = same _
   random_put_changes _ buf = refused _ (Refuses Inval)
-
-  random_get_changes : (buf len : ℕ) (given : Option Answer)
-      → HoldsAfter BecomesBy (random_get buf len given m h)
-  random_get_changes buf len given =
-      next (check_or (nat_le len (text_limit h.version)) Inval) _
-      (λ _. next (in_memory m buf len) _ (λ _. either_way (len == 0) _ _ (same m)
-      (next (answered_by h (question.Random len) given) _ (λ a. random_put_changes a buf))))
 
   -- ---- reads
 
@@ -344,10 +287,7 @@ module _ (m : Bytes) (h : WasiState) where
         (and_parts (has_bytes_alone text) (has_no_newline text) all.1).0,
         leb-true (length text) (text_limit h.version) all.0,
       )
-  text_fits answer.End e = tt
-  text_fits (answer.Realtime n) e = tt
-  text_fits (answer.Monotonic n) e = tt
-  text_fits (answer.Random bytes) e = tt
+  text_fits _ e = tt
 
   input_taken_changes : (n : ℕ) (a : Answer) → IsShortText a
       → HoldsAfter BecomesByRead (input_taken n a h)
@@ -385,14 +325,6 @@ module _ (m : Bytes) (h : WasiState) where
       step BecomesByRead (target_read d.target fd d (movable bs) given h) _
       (target_read_changes d.target fd d (movable bs) given (is_opened h fd d o) refl)
       (λ got b. done_with BecomesBy _ b)))))))
-
-  fd_pread_changes : (fd iovs count offset ret : ℕ)
-      → HoldsAfter BecomesBy (fd_pread fd iovs count offset ret m h)
-  fd_pread_changes fd iovs count offset ret =
-      next (open_descriptor h fd) _ (λ d. next (a_file h d) _ (λ _.
-      next (with_right fd_read_right d) _ (λ _. next (with_right fd_seek_right d) _ (λ _.
-      next (few_buffers count) _ (λ _. next (buffers m iovs count) _ (λ bs.
-      next (in_memory m ret 4) _ (λ _. same _)))))))
 
   -- ---- writes
 
@@ -435,42 +367,45 @@ module _ (m : Bytes) (h : WasiState) where
       }))
 
   wrote : (k offset : ℕ) (bytes : Bytes) (after : WasiState) → WrittenOrNone k offset bytes after
-      → Becomes m h after
-  wrote k offset [] after w = subst (λ x. Becomes m h x) (sym w) stays
+      → Becomes which m h after
+  wrote k offset [] after w = subst (λ x. Becomes which m h x) (sym w) stays
   wrote k offset (b ∷ bytes) after w =
-      subst (λ x. Becomes m h x) (sym w.is) (rewrites k _ w.rewriting)
+      subst (λ x. Becomes which m h x) (sym w.is) (rewrites k _ w.rewriting)
 
   wrote_and_moved : (fd k offset : ℕ) (d : Descriptor) (bytes : Bytes) (after : WasiState)
       → IsOpen h fd d → WrittenOrNone k offset bytes after
-      → Becomes m h (offset_after fd offset d bytes after)
-  wrote_and_moved fd k offset d [] after o w = subst (λ x. Becomes m h x) (sym w) stays
+      → Becomes which m h (offset_after fd offset d bytes after)
+  wrote_and_moved fd k offset d [] after o w = subst (λ x. Becomes which m h x) (sym w) stays
   wrote_and_moved fd k offset d (b ∷ bytes) after o w =
-      subst (λ x. Becomes m h (moved_to fd d (offset + length (b ∷ bytes)) x)) (sym w.is)
+      subst (λ x. Becomes which m h (moved_to fd d (offset + length (b ∷ bytes)) x)) (sym w.is)
       (writes_file fd k (offset + length (b ∷ bytes)) d _ o w.fits w.rewriting)
 
   target_written_changes : (t : Target) (fd : ℕ) (d : Descriptor) (bytes : Bytes)
       → IsOpen h fd d → d.target ≡ t → not (names_directory h t) ≡ true
-      → (AreBytes m → AreBytes bytes)
-      → HoldsAfter (Becomes m h) (target_written t fd d bytes h)
-  target_written_changes (Stream s) fd d bytes o e file sent =
-      done_with (Becomes m h) (stream_written (output_stream s) bytes h)
-      (writes_stream (output_stream s) bytes sent)
-  target_written_changes (Node k) fd d bytes o e file sent =
+      → which ≡ call.FdWrite → length bytes ≤ MOVED_BYTES → (AreBytes m → AreBytes bytes)
+      → HoldsAfter (Becomes which m h) (target_written t fd d bytes h)
+  target_written_changes (Stream s) fd d bytes o e file is few sent =
+      done_with (Becomes which m h) (stream_written (output_stream s) bytes h)
+      (writes_stream (output_stream s) bytes is few sent)
+  target_written_changes (Node k) fd d bytes o e file is few sent =
       let offset = write_offset h k d in
       step (WrittenOrNone k offset bytes) (file_written k offset bytes h) _
       (file_written_changes fd k offset d bytes o e (not-true (is_directory h.files k) file) sent)
-      (λ after w. done_with (Becomes m h) _ (wrote_and_moved fd k offset d bytes after o w))
+      (λ after w. done_with (Becomes which m h) _ (wrote_and_moved fd k offset d bytes after o w))
 
-  fd_write_changes : (fd iovs count ret : ℕ)
+  fd_write_changes : which ≡ call.FdWrite → (fd iovs count ret : ℕ)
       → HoldsAfter BecomesBy (fd_write fd iovs count ret m h)
-  fd_write_changes fd iovs count ret =
+  fd_write_changes is fd iovs count ret =
       next_is (open_descriptor h fd) _ (λ d o. next_is (no_directory h d) _ (λ u file.
       next (with_right fd_write_right d) _ (λ _. next (few_buffers count) _ (λ _.
       next (buffers m iovs count) _ (λ bs. next (in_memory m ret 4) _ (λ _.
       let bytes : Bytes = take (movable bs) (gathered m bs) in
-      step (Becomes m h) (target_written d.target fd d bytes h) _
+      let few : length bytes ≤ MOVED_BYTES = omega (arith, length-take (movable bs) (gathered m bs))
+      in
+      step (Becomes which m h) (target_written d.target fd d bytes h) _
       (target_written_changes d.target fd d bytes (is_opened h fd d o) refl
-      (passed (not (names_directory h d.target)) Isdir u file) (sent_bytes m (movable bs) bs))
+      (passed (not (names_directory h d.target)) Isdir u file) is few
+      (sent_bytes m (movable bs) bs))
       (λ after b. changed _ after b)))))))
 
   fd_pwrite_changes : (fd iovs count offset ret : ℕ)
@@ -489,13 +424,6 @@ module _ (m : Bytes) (h : WasiState) where
       (λ after w. changed _ after (wrote k offset bytes after w)))))))))
 
   -- ---- directories and paths
-
-  fd_readdir_changes : (fd buf len cookie ret : ℕ)
-      → HoldsAfter BecomesBy (fd_readdir fd buf len cookie ret m h)
-  fd_readdir_changes fd buf len cookie ret =
-      next (open_descriptor h fd) _ (λ d. next (a_directory h d) _ (λ _.
-      next (with_right fd_readdir_right d) _ (λ _. next (in_memory m buf len) _ (λ _.
-      next (in_memory m ret 4) _ (λ _. same _)))))
 
   -- the rest of a rule that begins with a path
   reached : (fd from len : ℕ) (d : Descriptor) (bytes : Bytes) (names : List Name)
@@ -551,16 +479,6 @@ module _ (m : Bytes) (h : WasiState) where
         path = whole;
         few = few_nodes w few;
       }))))))))))))
-
-  path_filestat_get_changes : (fd flags path len ret : ℕ)
-      → HoldsAfter BecomesBy (path_filestat_get fd flags path len ret m h)
-  path_filestat_get_changes fd flags path len ret =
-      next (open_descriptor h fd) _ (λ d. next (a_directory h d) _ (λ _.
-      next (with_right path_filestat_get_right d) _ (λ _.
-      next (check_or (nat_le flags 1) Inval) _ (λ _. next (lent m path len) _ (λ bytes.
-      next (in_memory m ret 64) _ (λ _. next (formed bytes) _ (λ names.
-      next (placed h d names) _ (λ place.
-      next (some_or Noent (node_at h.files place)) _ (λ k. same _)))))))))
 
   path_remove_directory_changes : (fd path len : ℕ)
       → HoldsAfter BecomesBy (path_remove_directory fd path len m h)
@@ -724,69 +642,66 @@ module _ (m : Bytes) (h : WasiState) where
       (third few known flags apart
       (passed (few && known && flags && apart) Inval v fine)))))))))))))))
 
--- ---- all calls
+  -- ---- all calls
 
-call_rule_changes : (c : Call) (arguments : List ℕ) (given : Option Answer) (m : Bytes)
-    (h : WasiState) → HoldsAfter (λ (d : Done). Becomes m h d.host)
-    (call_rule c arguments given m h)
-call_rule_changes call.ArgsGet (argv ∷ buf ∷ []) given m h = texts_get_changes m h
-    h.arguments argv buf
-call_rule_changes call.ArgsSizesGet (count ∷ size ∷ []) given m h =
-    texts_sizes_get_changes m h h.arguments count size
-call_rule_changes call.EnvironGet (environ ∷ buf ∷ []) given m h =
-    texts_get_changes m h h.environment environ buf
-call_rule_changes call.EnvironSizesGet (count ∷ size ∷ []) given m h =
-    texts_sizes_get_changes m h h.environment count size
-call_rule_changes call.ClockResGet (id ∷ ret ∷ []) given m h = clock_res_get_changes m h id ret
-call_rule_changes call.ClockTimeGet (id ∷ precision ∷ ret ∷ []) given m h =
-    clock_time_get_changes m h id ret given
-call_rule_changes call.FdClose (fd ∷ []) given m h = fd_close_changes m h fd
-call_rule_changes call.FdDatasync (fd ∷ []) given m h = fd_syncs_changes m h fd_datasync_right fd
-call_rule_changes call.FdFdstatGet (fd ∷ ret ∷ []) given m h = fd_fdstat_get_changes m h fd ret
-call_rule_changes call.FdFdstatSetFlags (fd ∷ flags ∷ []) given m h =
-    fd_fdstat_set_flags_changes m h fd flags
-call_rule_changes call.FdFilestatGet (fd ∷ ret ∷ []) given m h = fd_filestat_get_changes m h fd ret
-call_rule_changes call.FdFilestatSetSize (fd ∷ size ∷ []) given m h =
-    fd_filestat_set_size_changes m h fd size
-call_rule_changes call.FdPread (fd ∷ iovs ∷ count ∷ offset ∷ ret ∷ []) given m h =
-    fd_pread_changes m h fd iovs count offset ret
-call_rule_changes call.FdPrestatGet (fd ∷ ret ∷ []) given m h = fd_prestat_get_changes m h fd ret
-call_rule_changes call.FdPrestatDirName (fd ∷ path ∷ len ∷ []) given m h =
-    fd_prestat_dir_name_changes m h fd path len
-call_rule_changes call.FdPwrite (fd ∷ iovs ∷ count ∷ offset ∷ ret ∷ []) given m h =
-    fd_pwrite_changes m h fd iovs count offset ret
-call_rule_changes call.FdRead (fd ∷ iovs ∷ count ∷ ret ∷ []) given m h =
-    fd_read_changes m h fd iovs count ret given
-call_rule_changes call.FdReaddir (fd ∷ buf ∷ len ∷ cookie ∷ ret ∷ []) given m h =
-    fd_readdir_changes m h fd buf len cookie ret
-call_rule_changes call.FdSeek (fd ∷ delta ∷ whence ∷ ret ∷ []) given m h =
-    fd_seek_changes m h fd delta whence ret
-call_rule_changes call.FdSync (fd ∷ []) given m h = fd_syncs_changes m h fd_sync_right fd
-call_rule_changes call.FdTell (fd ∷ ret ∷ []) given m h = fd_tell_changes m h fd ret
-call_rule_changes call.FdWrite (fd ∷ iovs ∷ count ∷ ret ∷ []) given m h =
-    fd_write_changes m h fd iovs count ret
-call_rule_changes call.PathCreateDirectory (fd ∷ path ∷ len ∷ []) given m h =
-    path_create_directory_changes m h fd path len
-call_rule_changes call.PathFilestatGet (fd ∷ flags ∷ path ∷ len ∷ ret ∷ []) given m h =
-    path_filestat_get_changes m h fd flags path len ret
-call_rule_changes call.PathOpen
-    (fd ∷ dirflags ∷ path ∷ len ∷ oflags ∷ base ∷ inheriting ∷ fdflags ∷ ret ∷ []) given m h =
-    let mode : OpenMode =
-    record { oflags = oflags; base = base; inheriting = inheriting; fdflags = fdflags } in
-    path_open_changes m h fd dirflags path len mode ret
-call_rule_changes call.PathRemoveDirectory (fd ∷ path ∷ len ∷ []) given m h =
-    path_remove_directory_changes m h fd path len
-call_rule_changes call.PathRename
-    (old_fd ∷ old_path ∷ old_len ∷ new_fd ∷ new_path ∷ new_len ∷ []) given m h =
-    path_rename_changes m h old_fd old_path old_len new_fd new_path new_len
-call_rule_changes call.PathUnlinkFile (fd ∷ path ∷ len ∷ []) given m h =
-    path_unlink_file_changes m h fd path len
-call_rule_changes call.ProcExit (code ∷ []) given m h = refused _ (Ends code)
-call_rule_changes call.SchedYield [] given m h = same m h m
-call_rule_changes call.RandomGet (buf ∷ len ∷ []) given m h = random_get_changes m h buf len given
-call_rule_changes _ _ given m h = refused _ (Refuses Inval)
+  call_changes : (c : Call) (arguments : List ℕ) (given : Option Answer)
+      → (c ≡ call.FdWrite → which ≡ call.FdWrite)
+      → HoldsAfter BecomesBy (call_rule c arguments given m h)
+  call_changes call.ArgsGet (argv ∷ buf ∷ []) given by = search (next, same) depth 14
+  call_changes call.ArgsSizesGet (count ∷ size ∷ []) given by = search (next, same) depth 14
+  call_changes call.EnvironGet (environ ∷ buf ∷ []) given by = search (next, same) depth 14
+  call_changes call.EnvironSizesGet (count ∷ size ∷ []) given by = search (next, same) depth 14
+  call_changes call.ClockResGet (id ∷ ret ∷ []) given by = search (next, same) depth 14
+  call_changes call.ClockTimeGet (id ∷ precision ∷ ret ∷ []) given by =
+      clock_time_get_changes id ret given
+  call_changes call.FdClose (fd ∷ []) given by = fd_close_changes fd
+  call_changes call.FdDatasync (fd ∷ []) given by = search (next, same) depth 14
+  call_changes call.FdFdstatGet (fd ∷ ret ∷ []) given by = search (next, same) depth 14
+  call_changes call.FdFdstatSetFlags (fd ∷ flags ∷ []) given by =
+      fd_fdstat_set_flags_changes fd flags
+  call_changes call.FdFilestatGet (fd ∷ ret ∷ []) given by = search (next, same) depth 14
+  call_changes call.FdFilestatSetSize (fd ∷ size ∷ []) given by =
+      fd_filestat_set_size_changes fd size
+  call_changes call.FdPread (fd ∷ iovs ∷ count ∷ offset ∷ ret ∷ []) given by =
+      search (next, same) depth 14
+  call_changes call.FdPrestatGet (fd ∷ ret ∷ []) given by = search (next, same) depth 14
+  call_changes call.FdPrestatDirName (fd ∷ path ∷ len ∷ []) given by = search (next, same) depth 14
+  call_changes call.FdPwrite (fd ∷ iovs ∷ count ∷ offset ∷ ret ∷ []) given by =
+      fd_pwrite_changes fd iovs count offset ret
+  call_changes call.FdRead (fd ∷ iovs ∷ count ∷ ret ∷ []) given by =
+      fd_read_changes fd iovs count ret given
+  call_changes call.FdReaddir (fd ∷ buf ∷ len ∷ cookie ∷ ret ∷ []) given by =
+      search (next, same) depth 14
+  call_changes call.FdSeek (fd ∷ delta ∷ whence ∷ ret ∷ []) given by =
+      fd_seek_changes fd delta whence ret
+  call_changes call.FdSync (fd ∷ []) given by = search (next, same) depth 14
+  call_changes call.FdTell (fd ∷ ret ∷ []) given by = search (next, same) depth 14
+  call_changes call.FdWrite (fd ∷ iovs ∷ count ∷ ret ∷ []) given by =
+      fd_write_changes (by refl) fd iovs count ret
+  call_changes call.PathCreateDirectory (fd ∷ path ∷ len ∷ []) given by =
+      path_create_directory_changes fd path len
+  call_changes call.PathFilestatGet (fd ∷ flags ∷ path ∷ len ∷ ret ∷ []) given by =
+      search (next, same) depth 14
+  call_changes call.PathOpen
+      (fd ∷ dirflags ∷ path ∷ len ∷ oflags ∷ base ∷ inheriting ∷ fdflags ∷ ret ∷ []) given by =
+      let mode : OpenMode =
+      record { oflags = oflags; base = base; inheriting = inheriting; fdflags = fdflags } in
+      path_open_changes fd dirflags path len mode ret
+  call_changes call.PathRemoveDirectory (fd ∷ path ∷ len ∷ []) given by =
+      path_remove_directory_changes fd path len
+  call_changes call.PathRename
+      (old_fd ∷ old_path ∷ old_len ∷ new_fd ∷ new_path ∷ new_len ∷ []) given by =
+      path_rename_changes old_fd old_path old_len new_fd new_path new_len
+  call_changes call.PathUnlinkFile (fd ∷ path ∷ len ∷ []) given by =
+      path_unlink_file_changes fd path len
+  call_changes call.ProcExit (code ∷ []) given by = refused _ (Ends code)
+  call_changes call.SchedYield [] given by = same m
+  call_changes call.RandomGet (buf ∷ len ∷ []) given by =
+      search (next, either_way, same, random_put_changes) depth 14
+  call_changes _ _ given by = refused _ (Refuses Inval)
 
 -- what any call that is done makes of the host
 pub changes : (c : Call) (arguments : List ℕ) (given : Option Answer) (m : Bytes) (h : WasiState)
-    (done : Done) → call_rule c arguments given m h ≡ Ok done → Becomes m h done.host
-changes c arguments given m h done e = (call_rule_changes c arguments given m h).holds done e
+    (done : Done) → call_rule c arguments given m h ≡ Ok done → Becomes c m h done.host
+changes c arguments given m h done e =
+    (call_changes c m h c arguments given (λ is. is)).holds done e

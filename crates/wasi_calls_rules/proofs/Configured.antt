@@ -1,8 +1,10 @@
--- A call that is done keeps what the host was configured with, and makes one node at most.
-use Rattle.std.proofs.Common.{◌≡◌, ℕ, ◌+◌, List, refl, arith}
+-- A call that is done keeps what the host was configured with, never lowers the last time, and
+-- makes one node at most.
+use Rattle.std.proofs.Common.{◌≡◌, ℕ, ◌+◌, ◌≤◌, List, refl, arith}
 use Rattle.std.specs.Prelude.{Bool, true, false, if◌then◌else◌, Option, Some, None}
 use Rattle.std.specs.List.{list_any}
 use Rattle.file_tree.specs.rules.Files.{Files, Path, forgotten}
+use Rattle.wasi_abi.specs.declared.call.Call.{Call}
 use Rattle.wasi_calls_rules.specs.WasiStates.{Target, Stream, Node, Descriptor, WasiState}
 use Rattle.wasi_calls_rules.specs.Checks.{Bytes}
 use Rattle.wasi_calls_rules.specs.Lines.{stream_written}
@@ -10,91 +12,63 @@ use Rattle.wasi_calls_rules.specs.declared.output_stream.OutputStream.{OutputStr
 use Rattle.wasi_calls_rules.specs.Small.{names, has_path, swept}
 use Rattle.wasi_calls_rules.specs.Entries.{cut_if, without, renamed_over}
 use Rattle.wasi_calls_rules.specs.laws.Laws.{IsConfiguredAs, CallRulesKeepConfigurations}
-use Rattle.wasi_calls_rules.specs.laws.Laws.{CallRulesKeepVersions}
+use Rattle.wasi_calls_rules.specs.laws.Laws.{CallRulesKeepVersions, CallRulesKeepTimes}
 use Rattle.wasi_calls_rules.specs.laws.Laws.{MakesOneNodeAtMost, CallRulesMakeOneNodeAtMost}
-use Rattle.wasi_calls_rules.proofs.WasiStateChanges.{Becomes, stays, sees_time, leaves_unread}
-use Rattle.wasi_calls_rules.proofs.WasiStateChanges.{takes_text, ends_input, closes, sets_flags}
-use Rattle.wasi_calls_rules.proofs.WasiStateChanges.{seeks, reads_file, writes_stream, rewrites}
-use Rattle.wasi_calls_rules.proofs.WasiStateChanges.{writes_file, makes, opens_new, opens, loses}
+use Rattle.wasi_calls_rules.proofs.WasiStateChanges.{Becomes, stays, sees_time, closes}
+use Rattle.wasi_calls_rules.proofs.WasiStateChanges.{writes_stream, makes, opens_new, opens, loses}
 use Rattle.wasi_calls_rules.proofs.WasiStateChanges.{renames}
 use Rattle.wasi_calls_rules.proofs.CallRuleChanges.{changes}
 use Rattle.wasi_calls_rules.proofs.KeptLines.{stream_either}
 
--- ---- what was configured
+-- ---- what was configured, the version, and the last time
+
+-- as it was configured, in its version, with no lower time
+pub record Alike (h after : WasiState) : Type 0 where
+  pub configured : IsConfiguredAs h after
+  pub version : after.version ≡ h.version
+  pub time : h.last_monotonic ≤ after.last_monotonic
 
 alike : (h after : WasiState) → after.room ≡ h.room → after.arguments ≡ h.arguments
-    → after.environment ≡ h.environment → IsConfiguredAs h after
-alike h after room arguments environment =
-    record { room = room; arguments = arguments; environment = environment }
+    → after.environment ≡ h.environment → after.version ≡ h.version
+    → h.last_monotonic ≤ after.last_monotonic → Alike h after
+alike h after room arguments environment version time = record {
+  configured = record { room = room; arguments = arguments; environment = environment };
+  version = version;
+  time = time;
+}
 
-stream_alike : (h : WasiState) (s : OutputStream) (bytes : Bytes)
-    → IsConfiguredAs h (stream_written s bytes h)
-stream_alike h s bytes =
-    stream_either (IsConfiguredAs h) h s bytes (alike h _ refl refl refl)
-    (alike h _ refl refl refl)
+-- at the same time
+same_time : (h after : WasiState) → after.room ≡ h.room → after.arguments ≡ h.arguments
+    → after.environment ≡ h.environment → after.version ≡ h.version
+    → after.last_monotonic ≡ h.last_monotonic → Alike h after
+same_time h after room arguments environment version time =
+    alike h after room arguments environment version (omega (arith, time))
 
 renamed_alike : (h : WasiState) (k : ℕ) (j : Option ℕ) (from to : Path)
-    → IsConfiguredAs h (renamed_over k j from to h)
-renamed_alike h k None from to = alike h _ refl refl refl
-renamed_alike h k (Some j) from to = alike h _ refl refl refl
+    → Alike h (renamed_over k j from to h)
+renamed_alike h k None from to = same_time h _ refl refl refl refl refl
+renamed_alike h k (Some j) from to = same_time h _ refl refl refl refl refl
 
-configured : (m : Bytes) (h after : WasiState) → Becomes m h after → IsConfiguredAs h after
-configured m h _ stays = alike h h refl refl refl
-configured m h _ (sees_time n small) = alike h _ refl refl refl
-configured m h _ (leaves_unread n) = alike h _ refl refl refl
-configured m h _ (takes_text n text k short) = alike h _ refl refl refl
-configured m h _ ends_input = alike h _ refl refl refl
-configured m h _ (closes fd d o other) = alike h _ refl refl refl
-configured m h _ (sets_flags fd flags d o few) = alike h _ refl refl refl
-configured m h _ (seeks fd offset d o small) = alike h _ refl refl refl
-configured m h _ (reads_file fd n k d o e) = alike h _ refl refl refl
-configured m h _ (writes_stream s bytes k) = stream_alike h s bytes
-configured m h _ (rewrites k bytes r) = alike h _ refl refl refl
-configured m h _ (writes_file fd k offset d bytes o fits r) = alike h _ refl refl refl
-configured m h _ (makes p x) = alike h _ refl refl refl
-configured m h _ (opens_new p n flags base inheriting x free few) = alike h _ refl refl refl
-configured m h _ (opens k n flags base inheriting cut x few) = alike h _ refl refl refl
-configured m h _ (loses k x) = alike h _ refl refl refl
-configured m h _ (renames k j from to x) = renamed_alike h k j from to
+kept_alike : {c : Call} (m : Bytes) (h after : WasiState) → Becomes c m h after → Alike h after
+kept_alike m h _ stays = same_time h h refl refl refl refl refl
+kept_alike m h _ (sees_time n small) = alike h _ refl refl refl refl (omega arith)
+kept_alike m h _ (writes_stream s bytes by few k) =
+    stream_either (Alike h) h s bytes (same_time h _ refl refl refl refl refl)
+    (same_time h _ refl refl refl refl refl)
+kept_alike m h _ (renames k j from to x) = renamed_alike h k j from to
+kept_alike m h _ _ = same_time h _ refl refl refl refl refl
 
 pub call_rules_keep_configurations : CallRulesKeepConfigurations
 call_rules_keep_configurations c arguments given m h done e =
-    configured m h done.host (changes c arguments given m h done e)
-
--- ---- the version
-
-stream_version : (h : WasiState) (s : OutputStream) (bytes : Bytes)
-    → (stream_written s bytes h).version ≡ h.version
-stream_version h s bytes =
-    stream_either (λ (after : WasiState). after.version ≡ h.version) h s bytes refl refl
-
-renamed_version : (h : WasiState) (k : ℕ) (j : Option ℕ) (from to : Path)
-    → (renamed_over k j from to h).version ≡ h.version
-renamed_version h k None from to = refl
-renamed_version h k (Some j) from to = refl
-
-same_version : (m : Bytes) (h after : WasiState) → Becomes m h after → after.version ≡ h.version
-same_version m h _ stays = refl
-same_version m h _ (sees_time n small) = refl
-same_version m h _ (leaves_unread n) = refl
-same_version m h _ (takes_text n text k short) = refl
-same_version m h _ ends_input = refl
-same_version m h _ (closes fd d o other) = refl
-same_version m h _ (sets_flags fd flags d o few) = refl
-same_version m h _ (seeks fd offset d o small) = refl
-same_version m h _ (reads_file fd n k d o e) = refl
-same_version m h _ (writes_stream s bytes k) = stream_version h s bytes
-same_version m h _ (rewrites k bytes r) = refl
-same_version m h _ (writes_file fd k offset d bytes o fits r) = refl
-same_version m h _ (makes p x) = refl
-same_version m h _ (opens_new p n flags base inheriting x free few) = refl
-same_version m h _ (opens k n flags base inheriting cut x few) = refl
-same_version m h _ (loses k x) = refl
-same_version m h _ (renames k j from to x) = renamed_version h k j from to
+    (kept_alike m h done.host (changes c arguments given m h done e)).configured
 
 pub call_rules_keep_versions : CallRulesKeepVersions
 call_rules_keep_versions c arguments given m h done e =
-    same_version m h done.host (changes c arguments given m h done e)
+    (kept_alike m h done.host (changes c arguments given m h done e)).version
+
+pub call_rules_keep_times : CallRulesKeepTimes
+call_rules_keep_times c arguments given m h done e =
+    (kept_alike m h done.host (changes c arguments given m h done e)).time
 
 -- ---- numbers of nodes
 
@@ -130,25 +104,18 @@ renamed_next : (h : WasiState) (k : ℕ) (j : Option ℕ) (from to : Path)
 renamed_next h k None from to = refl
 renamed_next h k (Some j) from to = without_next j h
 
-nodes_made : (m : Bytes) (h after : WasiState) → Becomes m h after → MakesOneNodeAtMost h after
+nodes_made : {c : Call} (m : Bytes) (h after : WasiState) → Becomes c m h after
+    → MakesOneNodeAtMost h after
 nodes_made m h _ stays = no_node h h refl
-nodes_made m h _ (sees_time n small) = no_node h _ refl
-nodes_made m h _ (leaves_unread n) = no_node h _ refl
-nodes_made m h _ (takes_text n text k short) = no_node h _ refl
-nodes_made m h _ ends_input = no_node h _ refl
 nodes_made m h _ (closes fd d o other) = no_node h _ (swept_next d.target _ h.files)
-nodes_made m h _ (sets_flags fd flags d o few) = no_node h _ refl
-nodes_made m h _ (seeks fd offset d o small) = no_node h _ refl
-nodes_made m h _ (reads_file fd n k d o e) = no_node h _ refl
-nodes_made m h _ (writes_stream s bytes k) = no_node h _ (stream_next h s bytes)
-nodes_made m h _ (rewrites k bytes r) = no_node h _ refl
-nodes_made m h _ (writes_file fd k offset d bytes o fits r) = no_node h _ refl
+nodes_made m h _ (writes_stream s bytes by few k) = no_node h _ (stream_next h s bytes)
 nodes_made m h _ (makes p x) = one_node h _ refl
 nodes_made m h _ (opens_new p n flags base inheriting x free few) = one_node h _ refl
 nodes_made m h _ (opens k n flags base inheriting cut x few) =
     no_node h _ (cut_next cut k h.files)
 nodes_made m h _ (loses k x) = no_node h _ (without_next k h)
 nodes_made m h _ (renames k j from to x) = no_node h _ (renamed_next h k j from to)
+nodes_made m h _ _ = no_node h _ refl
 
 pub call_rules_make_one_node_at_most : CallRulesMakeOneNodeAtMost
 call_rules_make_one_node_at_most c arguments given m h done e =

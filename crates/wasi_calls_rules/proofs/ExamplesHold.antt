@@ -4,8 +4,7 @@ use Rattle.std.specs.Str.{is_utf8, chars}
 use lib.Utf8.{encode}
 use Rattle.wasi_calls_rules.specs.Checks.{Bytes}
 use Rattle.wasi_calls_rules.specs.WasiStates.{WasiState}
-use Rattle.wasi_calls_rules.specs.CallRules.{CallEnding, IsDone, IsRefused, IsAsk, IsExit, NoMemory}
-use Rattle.wasi_calls_rules.specs.CallRules.{TellsCallRule}
+use Rattle.wasi_calls_rules.specs.CallRules.{CallEnding, IsDone, TellsCallRule}
 use Rattle.wasi_calls_rules.specs.laws.Examples.{OpeningExamples, WritingExamples}
 use Rattle.wasi_calls_rules.specs.laws.Examples.{DirectoryExamples, bare_host, write_call_rule}
 use Rattle.wasi_calls_rules.specs.laws.Examples.{one_beyond}
@@ -37,10 +36,7 @@ writing_unchanged : (told : CallEnding) (m : Bytes) (h : WasiState)
     → TellsCallRule told m h one_beyond bare_host (write_call_rule 16 one_beyond) → (m ≡ one_beyond)
     × (h ≡ bare_host)
 writing_unchanged IsDone m h shown = absurd (cc)
-writing_unchanged (IsRefused e) m h shown = (shown.1, shown.2)
-writing_unchanged (IsAsk k) m h shown = (shown.1, shown.2)
-writing_unchanged (IsExit code) m h shown = (shown.1, shown.2)
-writing_unchanged NoMemory m h shown = (shown.1, shown.2)
+writing_unchanged _ m h shown = (shown.1, shown.2)
 
 pub writing_examples : WritingExamples
 writing_examples = record {

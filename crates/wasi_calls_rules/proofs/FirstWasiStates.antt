@@ -185,16 +185,4 @@ of_files_left h fs lines time is opened files named within small = record {
 
 pub of_any_version : (h : WasiState) (version : Version) → IsWasiState h
     → IsWasiState (record h { version = version })
-of_any_version h version is = record {
-  files = is.files;
-  within = is.within;
-  places = is.places;
-  descriptors = is.descriptors;
-  streams = is.streams;
-  root = is.root;
-  unread = is.unread;
-  last_monotonic = is.last_monotonic;
-  first = is.first;
-  second = is.second;
-  open_nodes = is.open_nodes;
-}
+of_any_version h version is = search

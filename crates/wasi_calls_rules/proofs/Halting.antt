@@ -11,7 +11,6 @@ use Rattle.wasi_abi.specs.declared.answer.Answer.TheVariants as answer
 use Rattle.wasi_abi.specs.declared.call.Call.{Call}
 use Rattle.wasi_abi.specs.declared.call.Call.TheVariants as call
 use Rattle.file_tree.specs.rules.Files.{Name, Files, is_directory, child}
-use Rattle.wasi_abi.specs.rules.Numbers.{fd_datasync_right, fd_sync_right}
 use Rattle.wasi_abi.specs.rules.Versions.{text_limit}
 use Rattle.wasi_calls_rules.specs.WasiStates.{Target, Stream, Node, Descriptor, WasiState}
 use Rattle.wasi_calls_rules.specs.Checks.{Bytes, Buffer, Halt, Refuses, Asks, Ends, ◌>>=◌, check_or}
@@ -19,18 +18,11 @@ use Rattle.wasi_calls_rules.specs.Checks.{some_or, a_file, lent, buffers, asked,
 use Rattle.wasi_calls_rules.specs.Checks.{answered_by}
 use Rattle.wasi_calls_rules.specs.Paths.{WalkEnd, Self, Leaf, formed, directory_entered, backed}
 use Rattle.wasi_calls_rules.specs.Paths.{onward, is_back, walk}
-use Rattle.wasi_calls_rules.specs.Small.{texts_get, texts_sizes_get, clock_res_get, time_put}
-use Rattle.wasi_calls_rules.specs.Small.{clock_time_get, fd_close, fd_syncs, fd_fdstat_get}
-use Rattle.wasi_calls_rules.specs.Small.{fd_fdstat_set_flags, fd_filestat_get, roomy}
-use Rattle.wasi_calls_rules.specs.Small.{fd_filestat_set_size, fd_prestat_get, fd_prestat_dir_name}
-use Rattle.wasi_calls_rules.specs.Small.{file_offset, fd_seek, fd_tell, random_put, random_get}
-use Rattle.wasi_calls_rules.specs.Moving.{Got, input_taken, input_read, target_read, fd_read}
-use Rattle.wasi_calls_rules.specs.Moving.{fd_pread, file_written, write_offset, target_written}
-use Rattle.wasi_calls_rules.specs.Moving.{fd_write, fd_pwrite}
-use Rattle.wasi_calls_rules.specs.Entries.{fd_readdir, a_leaf, placed, path_create_directory}
-use Rattle.wasi_calls_rules.specs.Entries.{path_filestat_get, path_remove_directory}
-use Rattle.wasi_calls_rules.specs.Entries.{path_unlink_file, gives_way, renamed_to, path_rename}
-use Rattle.wasi_calls_rules.specs.Entries.{OpenMode, opened_there, opened_new, opened_at, path_open}
+use Rattle.wasi_calls_rules.specs.Small.{time_put, roomy, file_offset, random_put}
+use Rattle.wasi_calls_rules.specs.Moving.{Got, input_taken, input_read, target_read}
+use Rattle.wasi_calls_rules.specs.Moving.{file_written, write_offset, target_written}
+use Rattle.wasi_calls_rules.specs.Entries.{a_leaf, placed, gives_way, renamed_to, OpenMode}
+use Rattle.wasi_calls_rules.specs.Entries.{opened_there, opened_new, opened_at}
 use Rattle.wasi_calls_rules.specs.CallRules.{call_rule}
 use Rattle.wasi_calls_rules.specs.laws.Laws.{MayAsk, FewCallRulesAsk, ExitAloneEnds}
 
@@ -145,52 +137,6 @@ module _ (Q : Halt → Type 0) (refusals : (e : Errno) → Q (Refuses e)) where
   -- ---- the rules that want no answer
 
   module _ (m : Bytes) (h : WasiState) where
-    texts_get_halts : (texts : List Bytes) (array buf : ℕ)
-        → HaltsBy Q (texts_get texts array buf m h)
-    texts_get_halts texts array buf = search (check, done) depth 14
-
-    texts_sizes_get_halts : (texts : List Bytes) (count size : ℕ)
-        → HaltsBy Q (texts_sizes_get texts count size m h)
-    texts_sizes_get_halts texts count size = search (check, done) depth 14
-
-    clock_res_get_halts : (id ret : ℕ) → HaltsBy Q (clock_res_get id ret m h)
-    clock_res_get_halts id ret = search (check, done) depth 14
-
-    fd_close_halts : (fd : ℕ) → HaltsBy Q (fd_close fd m h)
-    fd_close_halts fd = search (found, check, done) depth 14
-
-    fd_syncs_halts : (right fd : ℕ) → HaltsBy Q (fd_syncs right fd m h)
-    fd_syncs_halts right fd = search (found, check, done) depth 14
-
-    fd_fdstat_get_halts : (fd ret : ℕ) → HaltsBy Q (fd_fdstat_get fd ret m h)
-    fd_fdstat_get_halts fd ret = search (found, check, done) depth 14
-
-    fd_fdstat_set_flags_halts : (fd flags : ℕ) → HaltsBy Q (fd_fdstat_set_flags fd flags m h)
-    fd_fdstat_set_flags_halts fd flags = search (found, check, done) depth 14
-
-    fd_filestat_get_halts : (fd ret : ℕ) → HaltsBy Q (fd_filestat_get fd ret m h)
-    fd_filestat_get_halts fd ret = search (found, check, done) depth 14
-
-    fd_filestat_set_size_halts : (fd size : ℕ) → HaltsBy Q (fd_filestat_set_size fd size m h)
-    fd_filestat_set_size_halts fd size = search (found, file_then, roomy_then, check, done) depth 14
-
-    fd_prestat_get_halts : (fd ret : ℕ) → HaltsBy Q (fd_prestat_get fd ret m h)
-    fd_prestat_get_halts fd ret = search (found, check, done) depth 14
-
-    fd_prestat_dir_name_halts : (fd path len : ℕ) → HaltsBy Q (fd_prestat_dir_name fd path len m h)
-    fd_prestat_dir_name_halts fd path len = search (found, check, done) depth 14
-
-    fd_seek_halts : (fd delta whence ret : ℕ) → HaltsBy Q (fd_seek fd delta whence ret m h)
-    fd_seek_halts fd delta whence ret = search (found, file_then, offset_then, check, done) depth 14
-
-    fd_tell_halts : (fd ret : ℕ) → HaltsBy Q (fd_tell fd ret m h)
-    fd_tell_halts fd ret = search (found, file_then, check, done) depth 14
-
-    fd_pread_halts : (fd iovs count offset ret : ℕ)
-        → HaltsBy Q (fd_pread fd iovs count offset ret m h)
-    fd_pread_halts fd iovs count offset ret =
-        search (found, file_then, buffers_then, check, done) depth 14
-
     file_written_halts : (k offset : ℕ) (bytes : Bytes) → HaltsBy Q (file_written k offset bytes h)
     file_written_halts k offset [] = done h
     file_written_halts k offset (b ∷ bytes) = search (roomy_then, done) depth 8
@@ -213,38 +159,6 @@ module _ (Q : Halt → Type 0) (refusals : (e : Errno) → Q (Refuses e)) where
     file_written_then k offset bytes go f =
         next (file_written k offset bytes h) go (file_written_halts k offset bytes) f
 
-    fd_write_halts : (fd iovs count ret : ℕ) → HaltsBy Q (fd_write fd iovs count ret m h)
-    fd_write_halts fd iovs count ret =
-        search (found, buffers_then, target_written_then, check, done) depth 14
-
-    fd_pwrite_halts : (fd iovs count offset ret : ℕ)
-        → HaltsBy Q (fd_pwrite fd iovs count offset ret m h)
-    fd_pwrite_halts fd iovs count offset ret =
-        search (found, file_then, buffers_then, file_written_then, check, done) depth 14
-
-    fd_readdir_halts : (fd buf len cookie ret : ℕ)
-        → HaltsBy Q (fd_readdir fd buf len cookie ret m h)
-    fd_readdir_halts fd buf len cookie ret = search (found, check, done) depth 14
-
-    path_create_directory_halts : (fd path len : ℕ)
-        → HaltsBy Q (path_create_directory fd path len m h)
-    path_create_directory_halts fd path len =
-        search (found, lent_then, formed_then, placed_then, leaf, check, done) depth 14
-
-    path_filestat_get_halts : (fd flags path len ret : ℕ)
-        → HaltsBy Q (path_filestat_get fd flags path len ret m h)
-    path_filestat_get_halts fd flags path len ret =
-        search (found, lent_then, formed_then, placed_then, check, done) depth 14
-
-    path_remove_directory_halts : (fd path len : ℕ)
-        → HaltsBy Q (path_remove_directory fd path len m h)
-    path_remove_directory_halts fd path len =
-        search (found, lent_then, formed_then, placed_then, leaf, check, done) depth 14
-
-    path_unlink_file_halts : (fd path len : ℕ) → HaltsBy Q (path_unlink_file fd path len m h)
-    path_unlink_file_halts fd path len =
-        search (found, lent_then, formed_then, placed_then, leaf, check, done) depth 14
-
     way_then : {A : Type 0} (k : ℕ) (o : Option ℕ) (go : Unit {0} → Result A Halt)
         → HaltsBy Q (go tt) → HaltsBy Q (gives_way h.files k o >>= go)
     way_then k None go f = f
@@ -255,11 +169,6 @@ module _ (Q : Halt → Type 0) (refusals : (e : Errno) → Q (Refuses e)) where
         (target : WalkEnd) → HaltsBy Q (renamed_to d name source e other target m h)
     renamed_to_halts d name source e other target =
         search (found, either, way_then, check, done) depth 14
-
-    path_rename_halts : (old_fd old_path old_len new_fd new_path new_len : ℕ)
-        → HaltsBy Q (path_rename old_fd old_path old_len new_fd new_path new_len m h)
-    path_rename_halts old_fd old_path old_len new_fd new_path new_len =
-        search (found, lent_then, formed_then, placed_then, leaf, check, renamed_to_halts) depth 18
 
     opened_there_halts : (k : ℕ) (w : OpenMode) (ret : ℕ) → HaltsBy Q (opened_there k w ret m h)
     opened_there_halts k w ret = search (found, check, done) depth 14
@@ -272,11 +181,6 @@ module _ (Q : Halt → Type 0) (refusals : (e : Errno) → Q (Refuses e)) where
         → HaltsBy Q (opened_at o place w ret m h)
     opened_at_halts None place w ret = opened_new_halts place w ret
     opened_at_halts (Some k) place w ret = opened_there_halts k w ret
-
-    path_open_halts : (fd dirflags path len : ℕ) (w : OpenMode) (ret : ℕ)
-        → HaltsBy Q (path_open fd dirflags path len w ret m h)
-    path_open_halts fd dirflags path len w ret =
-        search (found, lent_then, formed_then, placed_then, check, opened_at_halts) depth 18
 
     -- ---- what becomes of an answer
 
@@ -307,15 +211,6 @@ module _ (Q : Halt → Type 0) (refusals : (e : Errno) → Q (Refuses e)) where
       answered_then k given go f =
           next (answered_by h k given) go (asked_halts k (fitting (text_limit h.version) k given)) f
 
-      clock_time_get_halts : (id ret : ℕ) (given : Option Answer)
-          → HaltsBy Q (clock_time_get id ret given m h)
-      clock_time_get_halts id ret given = search (check, answered_then, time_put_halts) depth 12
-
-      random_get_halts : (buf len : ℕ) (given : Option Answer)
-          → HaltsBy Q (random_get buf len given m h)
-      random_get_halts buf len given =
-          search (check, either, answered_then, random_put_halts, done) depth 12
-
       input_read_halts : (n : ℕ) (given : Option Answer) → HaltsBy Q (input_read n given h)
       input_read_halts n given = search (either, answered_then, input_taken_halts, done) depth 12
 
@@ -330,10 +225,67 @@ module _ (Q : Halt → Type 0) (refusals : (e : Errno) → Q (Refuses e)) where
       target_read_then t fd d n given go f =
           next (target_read t fd d n given h) go (target_read_halts t fd d n given) f
 
-      fd_read_halts : (fd iovs count ret : ℕ) (given : Option Answer)
-          → HaltsBy Q (fd_read fd iovs count ret given m h)
-      fd_read_halts fd iovs count ret given =
-          search (found, buffers_then, target_read_then, check, done) depth 12
+    -- ---- all rules
+
+    call_halts : (c : Call) (arguments : List ℕ) (given : Option Answer)
+        → (MayAsk c → (k : Question) → Q (Asks k))
+        → (c ≡ call.ProcExit → (code : ℕ) → Q (Ends code))
+        → HaltsBy Q (call_rule c arguments given m h)
+    call_halts call.ArgsGet (argv ∷ buf ∷ []) given asks ends = search (check, done) depth 14
+    call_halts call.ArgsSizesGet (count ∷ size ∷ []) given asks ends = search (check, done) depth 14
+    call_halts call.EnvironGet (environ ∷ buf ∷ []) given asks ends = search (check, done) depth 14
+    call_halts call.EnvironSizesGet (count ∷ size ∷ []) given asks ends =
+        search (check, done) depth 14
+    call_halts call.ClockResGet (id ∷ ret ∷ []) given asks ends = search (check, done) depth 14
+    call_halts call.ClockTimeGet (id ∷ precision ∷ ret ∷ []) given asks ends =
+        search (check, answered_then (asks tt), time_put_halts) depth 12
+    call_halts call.FdClose (fd ∷ []) given asks ends = search (found, check, done) depth 14
+    call_halts call.FdDatasync (fd ∷ []) given asks ends = search (found, check, done) depth 14
+    call_halts call.FdFdstatGet (fd ∷ ret ∷ []) given asks ends =
+        search (found, check, done) depth 14
+    call_halts call.FdFdstatSetFlags (fd ∷ flags ∷ []) given asks ends =
+        search (found, check, done) depth 14
+    call_halts call.FdFilestatGet (fd ∷ ret ∷ []) given asks ends =
+        search (found, check, done) depth 14
+    call_halts call.FdFilestatSetSize (fd ∷ size ∷ []) given asks ends =
+        search (found, file_then, roomy_then, check, done) depth 14
+    call_halts call.FdPread (fd ∷ iovs ∷ count ∷ offset ∷ ret ∷ []) given asks ends =
+        search (found, file_then, buffers_then, check, done) depth 14
+    call_halts call.FdPrestatGet (fd ∷ ret ∷ []) given asks ends =
+        search (found, check, done) depth 14
+    call_halts call.FdPrestatDirName (fd ∷ path ∷ len ∷ []) given asks ends =
+        search (found, check, done) depth 14
+    call_halts call.FdPwrite (fd ∷ iovs ∷ count ∷ offset ∷ ret ∷ []) given asks ends =
+        search (found, file_then, buffers_then, file_written_then, check, done) depth 14
+    call_halts call.FdRead (fd ∷ iovs ∷ count ∷ ret ∷ []) given asks ends =
+        search (found, buffers_then, target_read_then (asks tt), check, done) depth 12
+    call_halts call.FdReaddir (fd ∷ buf ∷ len ∷ cookie ∷ ret ∷ []) given asks ends =
+        search (found, check, done) depth 14
+    call_halts call.FdSeek (fd ∷ delta ∷ whence ∷ ret ∷ []) given asks ends =
+        search (found, file_then, offset_then, check, done) depth 14
+    call_halts call.FdSync (fd ∷ []) given asks ends = search (found, check, done) depth 14
+    call_halts call.FdTell (fd ∷ ret ∷ []) given asks ends =
+        search (found, file_then, check, done) depth 14
+    call_halts call.FdWrite (fd ∷ iovs ∷ count ∷ ret ∷ []) given asks ends =
+        search (found, buffers_then, target_written_then, check, done) depth 14
+    call_halts call.PathCreateDirectory (fd ∷ path ∷ len ∷ []) given asks ends =
+        search (found, lent_then, formed_then, placed_then, leaf, check, done) depth 14
+    call_halts call.PathFilestatGet (fd ∷ flags ∷ path ∷ len ∷ ret ∷ []) given asks ends =
+        search (found, lent_then, formed_then, placed_then, check, done) depth 14
+    call_halts call.PathOpen (fd ∷ dirflags ∷ path ∷ len ∷ oflags ∷ base ∷ inheriting
+        ∷ fdflags ∷ ret ∷ []) given asks ends =
+        search (found, lent_then, formed_then, placed_then, check, opened_at_halts) depth 18
+    call_halts call.PathRemoveDirectory (fd ∷ path ∷ len ∷ []) given asks ends =
+        search (found, lent_then, formed_then, placed_then, leaf, check, done) depth 14
+    call_halts call.PathRename (fd ∷ path ∷ len ∷ to_fd ∷ to_path ∷ to_len ∷ []) given asks ends =
+        search (found, lent_then, formed_then, placed_then, leaf, check, renamed_to_halts) depth 18
+    call_halts call.PathUnlinkFile (fd ∷ path ∷ len ∷ []) given asks ends =
+        search (found, lent_then, formed_then, placed_then, leaf, check, done) depth 14
+    call_halts call.ProcExit (code ∷ []) given asks ends = halted (Ends code) (ends refl code)
+    call_halts call.SchedYield [] given asks ends = done _
+    call_halts call.RandomGet (buf ∷ len ∷ []) given asks ends =
+        search (check, either, answered_then (asks tt), random_put_halts, done) depth 12
+    call_halts _ _ given asks ends = refused Inval
 
 -- ---- all calls
 
@@ -348,83 +300,8 @@ refuses c e = tt
 
 call_rule_halts : (c : Call) (arguments : List ℕ) (given : Option Answer) (m : Bytes)
     (h : WasiState) → HaltsBy (MayHalt c) (call_rule c arguments given m h)
-call_rule_halts call.ArgsGet (argv ∷ buf ∷ []) given m h =
-    texts_get_halts (MayHalt call.ArgsGet) (refuses call.ArgsGet) m h h.arguments argv buf
-call_rule_halts call.ArgsSizesGet (count ∷ size ∷ []) given m h =
-    texts_sizes_get_halts (MayHalt call.ArgsSizesGet) (refuses call.ArgsSizesGet) m h h.arguments
-    count size
-call_rule_halts call.EnvironGet (environ ∷ buf ∷ []) given m h =
-    texts_get_halts (MayHalt call.EnvironGet) (refuses call.EnvironGet) m h h.environment environ
-    buf
-call_rule_halts call.EnvironSizesGet (count ∷ size ∷ []) given m h =
-    texts_sizes_get_halts (MayHalt call.EnvironSizesGet) (refuses call.EnvironSizesGet) m h
-    h.environment count size
-call_rule_halts call.ClockResGet (id ∷ ret ∷ []) given m h =
-    clock_res_get_halts (MayHalt call.ClockResGet) (refuses call.ClockResGet) m h id ret
-call_rule_halts call.ClockTimeGet (id ∷ precision ∷ ret ∷ []) given m h =
-    clock_time_get_halts (MayHalt call.ClockTimeGet) (refuses call.ClockTimeGet) m h (λ k. tt) id
-    ret given
-call_rule_halts call.FdClose (fd ∷ []) given m h =
-    fd_close_halts (MayHalt call.FdClose) (refuses call.FdClose) m h fd
-call_rule_halts call.FdDatasync (fd ∷ []) given m h =
-    fd_syncs_halts (MayHalt call.FdDatasync) (refuses call.FdDatasync) m h fd_datasync_right fd
-call_rule_halts call.FdFdstatGet (fd ∷ ret ∷ []) given m h =
-    fd_fdstat_get_halts (MayHalt call.FdFdstatGet) (refuses call.FdFdstatGet) m h fd ret
-call_rule_halts call.FdFdstatSetFlags (fd ∷ flags ∷ []) given m h =
-    fd_fdstat_set_flags_halts (MayHalt call.FdFdstatSetFlags) (refuses call.FdFdstatSetFlags) m h fd
-    flags
-call_rule_halts call.FdFilestatGet (fd ∷ ret ∷ []) given m h =
-    fd_filestat_get_halts (MayHalt call.FdFilestatGet) (refuses call.FdFilestatGet) m h fd ret
-call_rule_halts call.FdFilestatSetSize (fd ∷ size ∷ []) given m h =
-    fd_filestat_set_size_halts (MayHalt call.FdFilestatSetSize) (refuses call.FdFilestatSetSize) m h
-    fd size
-call_rule_halts call.FdPread (fd ∷ iovs ∷ count ∷ offset ∷ ret ∷ []) given m h =
-    fd_pread_halts (MayHalt call.FdPread) (refuses call.FdPread) m h fd iovs count offset ret
-call_rule_halts call.FdPrestatGet (fd ∷ ret ∷ []) given m h =
-    fd_prestat_get_halts (MayHalt call.FdPrestatGet) (refuses call.FdPrestatGet) m h fd ret
-call_rule_halts call.FdPrestatDirName (fd ∷ path ∷ len ∷ []) given m h =
-    fd_prestat_dir_name_halts (MayHalt call.FdPrestatDirName) (refuses call.FdPrestatDirName) m h fd
-    path len
-call_rule_halts call.FdPwrite (fd ∷ iovs ∷ count ∷ offset ∷ ret ∷ []) given m h =
-    fd_pwrite_halts (MayHalt call.FdPwrite) (refuses call.FdPwrite) m h fd iovs count offset ret
-call_rule_halts call.FdRead (fd ∷ iovs ∷ count ∷ ret ∷ []) given m h =
-    fd_read_halts (MayHalt call.FdRead) (refuses call.FdRead) m h (λ k. tt) fd iovs count ret given
-call_rule_halts call.FdReaddir (fd ∷ buf ∷ len ∷ cookie ∷ ret ∷ []) given m h =
-    fd_readdir_halts (MayHalt call.FdReaddir) (refuses call.FdReaddir) m h fd buf len cookie ret
-call_rule_halts call.FdSeek (fd ∷ delta ∷ whence ∷ ret ∷ []) given m h =
-    fd_seek_halts (MayHalt call.FdSeek) (refuses call.FdSeek) m h fd delta whence ret
-call_rule_halts call.FdSync (fd ∷ []) given m h =
-    fd_syncs_halts (MayHalt call.FdSync) (refuses call.FdSync) m h fd_sync_right fd
-call_rule_halts call.FdTell (fd ∷ ret ∷ []) given m h =
-    fd_tell_halts (MayHalt call.FdTell) (refuses call.FdTell) m h fd ret
-call_rule_halts call.FdWrite (fd ∷ iovs ∷ count ∷ ret ∷ []) given m h =
-    fd_write_halts (MayHalt call.FdWrite) (refuses call.FdWrite) m h fd iovs count ret
-call_rule_halts call.PathCreateDirectory (fd ∷ path ∷ len ∷ []) given m h =
-    path_create_directory_halts (MayHalt call.PathCreateDirectory)
-    (refuses call.PathCreateDirectory) m h fd path len
-call_rule_halts call.PathFilestatGet (fd ∷ flags ∷ path ∷ len ∷ ret ∷ []) given m h =
-    path_filestat_get_halts (MayHalt call.PathFilestatGet) (refuses call.PathFilestatGet) m h fd
-    flags path len ret
-call_rule_halts call.PathOpen (fd ∷ dirflags ∷ path ∷ len ∷ oflags ∷ base ∷ inheriting
-    ∷ fdflags ∷ ret ∷ []) given m h =
-    path_open_halts (MayHalt call.PathOpen) (refuses call.PathOpen) m h fd dirflags path len
-    (record { oflags = oflags; base = base; inheriting = inheriting; fdflags = fdflags }) ret
-call_rule_halts call.PathRemoveDirectory (fd ∷ path ∷ len ∷ []) given m h =
-    path_remove_directory_halts (MayHalt call.PathRemoveDirectory)
-    (refuses call.PathRemoveDirectory) m h fd path len
-call_rule_halts call.PathRename (fd ∷ path ∷ len ∷ to_fd ∷ to_path ∷ to_len ∷ []) given m h =
-    path_rename_halts (MayHalt call.PathRename) (refuses call.PathRename) m h fd path len to_fd
-    to_path to_len
-call_rule_halts call.PathUnlinkFile (fd ∷ path ∷ len ∷ []) given m h =
-    path_unlink_file_halts (MayHalt call.PathUnlinkFile) (refuses call.PathUnlinkFile) m h fd path
-    len
-call_rule_halts call.ProcExit (code ∷ []) given m h =
-    halted (MayHalt call.ProcExit) (refuses call.ProcExit) (Ends code) refl
-call_rule_halts call.SchedYield [] given m h = done (MayHalt call.SchedYield)
-    (refuses call.SchedYield) _
-call_rule_halts call.RandomGet (buf ∷ len ∷ []) given m h =
-    random_get_halts (MayHalt call.RandomGet) (refuses call.RandomGet) m h (λ k. tt) buf len given
-call_rule_halts c _ given m h = refused (MayHalt c) (refuses c) Inval
+call_rule_halts c arguments given m h =
+    call_halts (MayHalt c) (refuses c) m h c arguments given (λ may k. may) (λ is code. is)
 
 pub few_call_rules_ask : FewCallRulesAsk
 few_call_rules_ask c arguments given m h k e = (call_rule_halts c arguments given m

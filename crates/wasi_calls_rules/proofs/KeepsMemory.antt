@@ -10,7 +10,6 @@ use Rattle.wasi_abi.specs.declared.answer.Question.TheVariants as question
 use Rattle.wasi_abi.specs.rules.Answers.{Fits}
 use Rattle.wasi_abi.specs.declared.call.Call.{Call}
 use Rattle.wasi_abi.specs.declared.call.Call.TheVariants as call
-use Rattle.wasi_abi.specs.rules.Numbers.{fd_datasync_right, fd_sync_right}
 use Rattle.guest_memory.specs.rules.Bytes.{IsByte}
 use Rattle.file_tree.specs.rules.Files.{Path, Content, Directory, File, FileNode}
 use Rattle.wasi_calls_rules.specs.WasiStates.{WasiState}
@@ -18,99 +17,79 @@ use Rattle.wasi_calls_rules.specs.Checks.{Bytes, Refuses, Ends}
 use Rattle.wasi_calls_rules.specs.CallRules.{call_rule}
 use Rattle.wasi_calls_rules.specs.laws.Laws.{CallRulesKeepMemory, CallRulesKeepBytes, IsPathOfBytes}
 use Rattle.wasi_calls_rules.specs.laws.Laws.{IsContentOfBytes, IsNodeOfBytes, IsOfBytes}
-use Rattle.wasi_calls_rules.proofs.Steps.{refused}
+use Rattle.wasi_calls_rules.proofs.Steps.{refused, next, within, leaf}
 use Rattle.wasi_calls_rules.proofs.Fitting.{tests_tell}
 use Rattle.wasi_calls_rules.proofs.Supplies.{PathHolds, ContentHolds, NodeHolds, Supplies}
 use Rattle.wasi_calls_rules.proofs.Supplies.{AnswerHolds}
-use Rattle.wasi_calls_rules.proofs.SmallCallRules.{Keeps, GivenHolds, texts_get_keeps}
-use Rattle.wasi_calls_rules.proofs.SmallCallRules.{texts_sizes_get_keeps, clock_res_get_keeps}
-use Rattle.wasi_calls_rules.proofs.SmallCallRules.{clock_time_get_keeps, fd_close_keeps}
-use Rattle.wasi_calls_rules.proofs.SmallCallRules.{fd_syncs_keeps, fd_fdstat_get_keeps}
-use Rattle.wasi_calls_rules.proofs.SmallCallRules.{fd_fdstat_set_flags_keeps, fd_filestat_get_keeps}
-use Rattle.wasi_calls_rules.proofs.SmallCallRules.{fd_filestat_set_size_keeps, fd_prestat_get_keeps}
-use Rattle.wasi_calls_rules.proofs.SmallCallRules.{fd_prestat_dir_name_keeps, fd_seek_keeps}
-use Rattle.wasi_calls_rules.proofs.SmallCallRules.{fd_tell_keeps, sched_yield_keeps}
+use Rattle.wasi_calls_rules.proofs.SmallCallRules.{Keeps, GivenHolds, put_one, unchanged}
+use Rattle.wasi_calls_rules.proofs.SmallCallRules.{filestat_put, texts_get_keeps, time_put_keeps}
+use Rattle.wasi_calls_rules.proofs.SmallCallRules.{texts_sizes_get_keeps, fd_fdstat_get_keeps}
+use Rattle.wasi_calls_rules.proofs.SmallCallRules.{fd_prestat_get_keeps, fd_prestat_dir_name_keeps}
 use Rattle.wasi_calls_rules.proofs.SmallCallRules.{random_get_keeps}
-use Rattle.wasi_calls_rules.proofs.MovingCallRules.{fd_read_keeps, fd_pread_keeps, fd_write_keeps}
-use Rattle.wasi_calls_rules.proofs.MovingCallRules.{fd_pwrite_keeps}
-use Rattle.wasi_calls_rules.proofs.EntryCallRules.{fd_readdir_keeps, path_create_directory_keeps}
-use Rattle.wasi_calls_rules.proofs.EntryCallRules.{path_filestat_get_keeps}
-use Rattle.wasi_calls_rules.proofs.EntryCallRules.{path_remove_directory_keeps}
-use Rattle.wasi_calls_rules.proofs.EntryCallRules.{path_unlink_file_keeps, path_rename_keeps}
-use Rattle.wasi_calls_rules.proofs.EntryCallRules.{path_open_keeps}
+use Rattle.wasi_calls_rules.proofs.MovingCallRules.{fd_read_keeps, fd_pread_keeps}
+use Rattle.wasi_calls_rules.proofs.EntryCallRules.{fd_readdir_keeps}
+use Rattle.wasi_calls_rules.proofs.EntryCallRules.{renamed_to_keeps, opened_at_keeps}
 
 -- what holds of every byte that goes in holds of every byte of memory after it
-call_rule_keeps : (Q : ℕ → Type 0) (low : (x : ℕ)
-    → Q (x % 256)) (m : Bytes) (old : AllByRecursion Q m) (h : WasiState) (s : Supplies Q h)
-    (given : Option Answer) (fine : GivenHolds Q given)
-    (c : Call) (arguments : List ℕ) → Keeps Q m (call_rule c arguments given m h)
-call_rule_keeps Q low m old h s given fine call.ArgsGet (argv ∷ buf ∷ []) =
-    texts_get_keeps Q low m old h h.arguments argv buf s.arguments
-call_rule_keeps Q low m old h s given fine call.ArgsSizesGet (count ∷ size ∷ []) =
-    texts_sizes_get_keeps Q low m old h h.arguments count size
-call_rule_keeps Q low m old h s given fine call.EnvironGet (environ ∷ buf ∷ []) =
-    texts_get_keeps Q low m old h h.environment environ buf s.environment
-call_rule_keeps Q low m old h s given fine call.EnvironSizesGet (count ∷ size ∷ []) =
-    texts_sizes_get_keeps Q low m old h h.environment count size
-call_rule_keeps Q low m old h s given fine call.ClockResGet (id ∷ ret ∷ []) =
-    clock_res_get_keeps Q low m old h id ret
-call_rule_keeps Q low m old h s given fine call.ClockTimeGet (id ∷ precision ∷ ret ∷ []) =
-    clock_time_get_keeps Q low m old h id ret given
-call_rule_keeps Q low m old h s given fine call.FdClose (fd ∷ []) = fd_close_keeps Q low m old h fd
-call_rule_keeps Q low m old h s given fine call.FdDatasync (fd ∷ []) =
-    fd_syncs_keeps Q low m old h fd_datasync_right fd
-call_rule_keeps Q low m old h s given fine call.FdFdstatGet (fd ∷ ret ∷ []) =
-    fd_fdstat_get_keeps Q low m old h fd ret
-call_rule_keeps Q low m old h s given fine call.FdFdstatSetFlags (fd ∷ flags ∷ []) =
-    fd_fdstat_set_flags_keeps Q low m old h fd flags
-call_rule_keeps Q low m old h s given fine call.FdFilestatGet (fd ∷ ret ∷ []) =
-    fd_filestat_get_keeps Q low m old h fd ret
-call_rule_keeps Q low m old h s given fine call.FdFilestatSetSize (fd ∷ size ∷ []) =
-    fd_filestat_set_size_keeps Q low m old h fd size
-call_rule_keeps Q low m old h s given fine call.FdPread (fd ∷ iovs ∷ count ∷ offset ∷ ret ∷ []) =
-    fd_pread_keeps Q low m old h s fd iovs count offset ret
-call_rule_keeps Q low m old h s given fine call.FdPrestatGet (fd ∷ ret ∷ []) =
-    fd_prestat_get_keeps Q low m old h fd ret
-call_rule_keeps Q low m old h s given fine call.FdPrestatDirName (fd ∷ path ∷ len ∷ []) =
-    fd_prestat_dir_name_keeps Q low m old h fd path len
-call_rule_keeps Q low m old h s given fine call.FdPwrite (fd ∷ iovs ∷ count ∷ offset ∷ ret ∷ []) =
-    fd_pwrite_keeps Q low m old h s fd iovs count offset ret
-call_rule_keeps Q low m old h s given fine call.FdRead (fd ∷ iovs ∷ count ∷ ret ∷ []) =
-    fd_read_keeps Q low m old h s fd iovs count ret given fine
-call_rule_keeps Q low m old h s given fine call.FdReaddir (fd ∷ buf ∷ len ∷ cookie ∷ ret ∷ []) =
-    fd_readdir_keeps Q low m old h fd buf len cookie ret s
-call_rule_keeps Q low m old h s given fine call.FdSeek (fd ∷ delta ∷ whence ∷ ret ∷ []) =
-    fd_seek_keeps Q low m old h fd delta whence ret
-call_rule_keeps Q low m old h s given fine call.FdSync (fd ∷ []) =
-    fd_syncs_keeps Q low m old h fd_sync_right fd
-call_rule_keeps Q low m old h s given fine call.FdTell (fd ∷ ret ∷ []) =
-    fd_tell_keeps Q low m old h fd ret
-call_rule_keeps Q low m old h s given fine call.FdWrite (fd ∷ iovs ∷ count ∷ ret ∷ []) =
-    fd_write_keeps Q low m old h s fd iovs count ret
-call_rule_keeps Q low m old h s given fine call.PathCreateDirectory (fd ∷ path ∷ len ∷ []) =
-    path_create_directory_keeps Q low m old h fd path len
-call_rule_keeps Q low m old h s given fine call.PathFilestatGet (fd ∷ flags ∷ path
-    ∷ len ∷ ret ∷ []) = path_filestat_get_keeps Q low m old h fd flags path len ret
-call_rule_keeps Q low m old h s given fine call.PathOpen (fd ∷ dirflags ∷ path ∷ len ∷ oflags ∷ base
-    ∷ inheriting ∷ fdflags ∷ ret ∷ []) =
-    path_open_keeps Q low m old h fd dirflags path len (record {
-      oflags = oflags;
-      base = base;
-      inheriting = inheriting;
-      fdflags = fdflags;
-    }) ret
-call_rule_keeps Q low m old h s given fine call.PathRemoveDirectory (fd ∷ path ∷ len ∷ []) =
-    path_remove_directory_keeps Q low m old h fd path len
-call_rule_keeps Q low m old h s given fine call.PathRename (old_fd ∷ old_path ∷ old_len ∷ new_fd
-    ∷ new_path ∷ new_len ∷ []) = path_rename_keeps Q low m old h old_fd old_path old_len new_fd
-    new_path new_len
-call_rule_keeps Q low m old h s given fine call.PathUnlinkFile (fd ∷ path ∷ len ∷ []) =
-    path_unlink_file_keeps Q low m old h fd path len
-call_rule_keeps Q low m old h s given fine call.ProcExit (code ∷ []) = refused _ (Ends code)
-call_rule_keeps Q low m old h s given fine call.SchedYield [] = sched_yield_keeps Q low m old h
-call_rule_keeps Q low m old h s given fine call.RandomGet (buf ∷ len ∷ []) =
-    random_get_keeps Q low m old h buf len given fine
-call_rule_keeps Q low m old h s given fine _ _ = refused _ (Refuses Inval)
+module _ (Q : ℕ → Type 0) (low : (x : ℕ) → Q (x % 256)) (m : Bytes) (old : AllByRecursion Q m)
+    (h : WasiState) (s : Supplies Q h) (given : Option Answer) (fine : GivenHolds Q given) where
+  call_rule_keeps : (c : Call) (arguments : List ℕ) → Keeps Q m (call_rule c arguments given m h)
+  call_rule_keeps call.ArgsGet (argv ∷ buf ∷ []) =
+      texts_get_keeps Q low m old h h.arguments argv buf s.arguments
+  call_rule_keeps call.ArgsSizesGet (count ∷ size ∷ []) =
+      texts_sizes_get_keeps Q low m old h h.arguments count size
+  call_rule_keeps call.EnvironGet (environ ∷ buf ∷ []) =
+      texts_get_keeps Q low m old h h.environment environ buf s.environment
+  call_rule_keeps call.EnvironSizesGet (count ∷ size ∷ []) =
+      texts_sizes_get_keeps Q low m old h h.environment count size
+  call_rule_keeps call.ClockResGet (id ∷ ret ∷ []) =
+      search (next, within, put_one Q low m old) depth 14
+  call_rule_keeps call.ClockTimeGet (id ∷ precision ∷ ret ∷ []) =
+      search (next, within, time_put_keeps Q low m old h) depth 14
+  call_rule_keeps call.FdClose (fd ∷ []) = search (next, unchanged Q low m old h) depth 14
+  call_rule_keeps call.FdDatasync (fd ∷ []) = search (next, unchanged Q low m old h) depth 14
+  call_rule_keeps call.FdFdstatGet (fd ∷ ret ∷ []) = fd_fdstat_get_keeps Q low m old h fd ret
+  call_rule_keeps call.FdFdstatSetFlags (fd ∷ flags ∷ []) =
+      search (next, unchanged Q low m old h) depth 14
+  call_rule_keeps call.FdFilestatGet (fd ∷ ret ∷ []) =
+      search (next, within, filestat_put Q low m old h) depth 14
+  call_rule_keeps call.FdFilestatSetSize (fd ∷ size ∷ []) =
+      search (next, unchanged Q low m old h) depth 14
+  call_rule_keeps call.FdPread (fd ∷ iovs ∷ count ∷ offset ∷ ret ∷ []) =
+      fd_pread_keeps Q low m old h s fd iovs count offset ret
+  call_rule_keeps call.FdPrestatGet (fd ∷ ret ∷ []) = fd_prestat_get_keeps Q low m old h fd ret
+  call_rule_keeps call.FdPrestatDirName (fd ∷ path ∷ len ∷ []) =
+      fd_prestat_dir_name_keeps Q low m old h fd path len
+  call_rule_keeps call.FdPwrite (fd ∷ iovs ∷ count ∷ offset ∷ ret ∷ []) =
+      search (next, within, put_one Q low m old) depth 14
+  call_rule_keeps call.FdRead (fd ∷ iovs ∷ count ∷ ret ∷ []) =
+      fd_read_keeps Q low m old h s fd iovs count ret given fine
+  call_rule_keeps call.FdReaddir (fd ∷ buf ∷ len ∷ cookie ∷ ret ∷ []) =
+      fd_readdir_keeps Q low m old h fd buf len cookie ret s
+  call_rule_keeps call.FdSeek (fd ∷ delta ∷ whence ∷ ret ∷ []) =
+      search (next, within, put_one Q low m old) depth 14
+  call_rule_keeps call.FdSync (fd ∷ []) = search (next, unchanged Q low m old h) depth 14
+  call_rule_keeps call.FdTell (fd ∷ ret ∷ []) = search (next, within, put_one Q low m old) depth 14
+  call_rule_keeps call.FdWrite (fd ∷ iovs ∷ count ∷ ret ∷ []) =
+      search (next, within, put_one Q low m old) depth 14
+  call_rule_keeps call.PathCreateDirectory (fd ∷ path ∷ len ∷ []) =
+      search (next, leaf, unchanged Q low m old h) depth 14
+  call_rule_keeps call.PathFilestatGet (fd ∷ flags ∷ path ∷ len ∷ ret ∷ []) =
+      search (next, within, filestat_put Q low m old h) depth 14
+  call_rule_keeps call.PathOpen
+      (fd ∷ dirflags ∷ path ∷ len ∷ oflags ∷ base ∷ inheriting ∷ fdflags ∷ ret ∷ []) =
+      search (next, within, opened_at_keeps Q low m old h) depth 20
+  call_rule_keeps call.PathRemoveDirectory (fd ∷ path ∷ len ∷ []) =
+      search (next, leaf, unchanged Q low m old h) depth 14
+  call_rule_keeps call.PathRename (old_fd ∷ old_path ∷ old_len ∷ new_fd ∷ new_path ∷ new_len ∷ []) =
+      search (next, leaf, renamed_to_keeps Q low m old h) depth 20
+  call_rule_keeps call.PathUnlinkFile (fd ∷ path ∷ len ∷ []) =
+      search (next, leaf, unchanged Q low m old h) depth 14
+  call_rule_keeps call.ProcExit (code ∷ []) = refused _ (Ends code)
+  call_rule_keeps call.SchedYield [] = unchanged Q low m old h h
+  call_rule_keeps call.RandomGet (buf ∷ len ∷ []) =
+      random_get_keeps Q low m old h buf len given fine
+  call_rule_keeps _ _ = refused _ (Refuses Inval)
 
 -- ---- the length: nothing is asked of the bytes
 

@@ -5,8 +5,9 @@ use Rattle.std.proofs.Common.{ap, subst, ◌∙◌, arith, length-take, length-d
 use Rattle.std.specs.Prelude.{not, ◌||◌, is_some, bit_and, slice_set, Ok}
 use Rattle.std.proofs.lemmas.Bool.{eq-eqb, ltb-true}
 use Rattle.std.proofs.lemmas.Nat.{and_assoc}
+use Rattle.wasi_abi.specs.declared.call.Call.{Call}
 use Rattle.wasi_abi.specs.declared.errno.Errno.TheVariants.{Isdir, Notdir, Notempty}
-use Rattle.wasi_abi.specs.rules.Answers.{AreBytes}
+use Rattle.wasi_abi.specs.rules.Answers.{AreBytes, IsTime}
 use Rattle.wasi_abi.specs.rules.Numbers.{are_within, all_rights, directory_rights, file_rights}
 use Rattle.guest_memory.specs.rules.Bytes.{IsByte}
 use Rattle.guest_memory.proofs.Lists.{all_drop}
@@ -53,103 +54,34 @@ use Rattle.wasi_calls_rules.proofs.FileState.{path_at_is, moved_kept, moved_over
 -- ---- the parts of a host
 
 pub file_state : (h : WasiState) → IsWasiState h → IsFileState h.files h.descriptors h.room
-file_state h is = record {
-  are = is.files;
-  within = is.within;
-  table = record {
-    places = is.places;
-    descriptors = is.descriptors;
-    streams = is.streams;
-    root = is.root;
-  };
-  open_nodes = is.open_nodes;
-}
+file_state h is = search
 
 -- the same host with other files and descriptors
 pub with_file_state : (h : WasiState) (fs : Files) (ds : Table) → IsWasiState h
     → IsFileState fs ds h.room → IsWasiState (record h { files = fs; descriptors = ds })
-with_file_state h fs ds is s = record {
-  files = s.are;
-  within = s.within;
-  places = s.table.places;
-  descriptors = s.table.descriptors;
-  streams = s.table.streams;
-  root = s.table.root;
-  unread = is.unread;
-  last_monotonic = is.last_monotonic;
-  first = is.first;
-  second = is.second;
-  open_nodes = s.open_nodes;
-}
+with_file_state h fs ds is s = search (s.table)
 
 -- with other bytes that are not read yet
 pub unread_kept : (h : WasiState) (bytes : Bytes) → IsWasiState h → AreBytes bytes
     → IsWasiState (record h { unread = bytes })
-unread_kept h bytes is b = record {
-  files = is.files;
-  within = is.within;
-  places = is.places;
-  descriptors = is.descriptors;
-  streams = is.streams;
-  root = is.root;
-  unread = b;
-  last_monotonic = is.last_monotonic;
-  first = is.first;
-  second = is.second;
-  open_nodes = is.open_nodes;
-}
+unread_kept h bytes is b = search
 
 time_kept : (h : WasiState) (n : ℕ) → IsWasiState h → has_64_bits n ≡ true
     → IsWasiState (record h { last_monotonic = max n h.last_monotonic })
 time_kept h n is small =
     let less = ltb-true n (2 ^ 64) small in
-    let last = is.last_monotonic in
-    record {
-      files = is.files;
-      within = is.within;
-      places = is.places;
-      descriptors = is.descriptors;
-      streams = is.streams;
-      root = is.root;
-      unread = is.unread;
-      last_monotonic = omega (arith, less, last);
-      first = is.first;
-      second = is.second;
-      open_nodes = is.open_nodes;
-    }
+    let last : IsTime h.last_monotonic = is.last_monotonic in
+    let later : IsTime (max n h.last_monotonic) = omega (arith, less, last) in
+    search
 
 pub end_kept : (h : WasiState) → IsWasiState h → IsWasiState (record h { input_ended = true })
-end_kept h is = record {
-  files = is.files;
-  within = is.within;
-  places = is.places;
-  descriptors = is.descriptors;
-  streams = is.streams;
-  root = is.root;
-  unread = is.unread;
-  last_monotonic = is.last_monotonic;
-  first = is.first;
-  second = is.second;
-  open_nodes = is.open_nodes;
-}
+end_kept h is = search
 
 -- with other lines
 lines_kept : (h : WasiState) (lines : List _) (first second : Bytes) → IsWasiState h
     → IsUnfinished first → IsUnfinished second → IsWasiState
     (record h { lines = lines; first = first; second = second })
-lines_kept h lines first second is one two = record {
-  files = is.files;
-  within = is.within;
-  places = is.places;
-  descriptors = is.descriptors;
-  streams = is.streams;
-  root = is.root;
-  unread = is.unread;
-  last_monotonic = is.last_monotonic;
-  first = one;
-  second = two;
-  open_nodes = is.open_nodes;
-}
+lines_kept h lines first second is one two = search
 
 pub stream_kept : (h : WasiState) (s : OutputStream) (bytes : Bytes) → IsWasiState h
     → AreBytes bytes → IsWasiState (stream_written s bytes h)
@@ -382,8 +314,8 @@ renaming_kept m h k o from to is x = by_target o x.over x.differ x.way where
 
 -- ---- the law
 
-host_after : (m : Bytes) (h after : WasiState) → AreBytes m → IsWasiState h → Becomes m h after
-    → IsWasiState after
+host_after : {c : Call} (m : Bytes) (h after : WasiState) → AreBytes m → IsWasiState h
+    → Becomes c m h after → IsWasiState after
 host_after m h _ memory is stays = is
 host_after m h _ memory is (sees_time n small) = time_kept h n is small
 host_after m h _ memory is (leaves_unread n) =
@@ -409,7 +341,7 @@ host_after m h _ memory is (reads_file fd n k d o e) =
     let own = is_descriptor h.files h.descriptors fd d (file_state h is).table o in
     moved_host h fd (d.offset + length (file_read h k d.offset n)) d is o
     (read_offset (bytes_of_node h.files k) d.offset n (small_file h.files k is.files).0 own.offset)
-host_after m h _ memory is (writes_stream s bytes k) = stream_kept h s bytes is (k memory)
+host_after m h _ memory is (writes_stream s bytes by few k) = stream_kept h s bytes is (k memory)
 host_after m h _ memory is (rewrites k bytes r) =
     with_file_state h (with_file_bytes k bytes h.files) h.descriptors is
     (rewriting_kept m h k bytes memory is r)

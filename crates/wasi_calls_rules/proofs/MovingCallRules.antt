@@ -1,5 +1,5 @@
 -- The calls that move bytes keep memory.
-use Rattle.std.proofs.Common.{◌≡◌, ℕ, ◌*◌, ◌%◌, [], ◌∷◌, ◌++◌, length, take, drop}
+use Rattle.std.proofs.Common.{◌≡◌, ℕ, ◌*◌, ◌%◌, [], ◌∷◌, ◌++◌, length, drop}
 use Rattle.std.specs.Prelude.{true, Option, ◌==◌}
 use Rattle.std.specs.List.{AllByRecursion, list_all}
 use Rattle.file_tree.specs.rules.Files.{bytes_of_node}
@@ -8,21 +8,20 @@ use Rattle.wasi_abi.specs.declared.answer.Question.TheVariants as question
 use Rattle.wasi_abi.specs.declared.answer.Answer.{Answer}
 use Rattle.wasi_abi.specs.declared.answer.Answer.TheVariants as answer
 use Rattle.wasi_abi.specs.rules.Answers.{newline}
-use Rattle.wasi_abi.specs.rules.Numbers.{fd_read_right, fd_seek_right, fd_write_right}
+use Rattle.wasi_abi.specs.rules.Numbers.{fd_read_right, fd_seek_right}
 use Rattle.wasi_abi.specs.rules.Versions.{text_limit}
 use Rattle.wasi_calls_rules.specs.WasiStates.{Target, Stream, Node, Descriptor, WasiState}
 use Rattle.wasi_calls_rules.specs.Checks.{Bytes, Refuses, check_or, open_descriptor, a_file}
 use Rattle.wasi_calls_rules.specs.Checks.{no_directory, with_right, node_named, is_inside}
-use Rattle.wasi_calls_rules.specs.Checks.{buffers_at, buffers, few_buffers, movable, gathered}
+use Rattle.wasi_calls_rules.specs.Checks.{buffers_at, buffers, few_buffers, movable}
 use Rattle.wasi_calls_rules.specs.Checks.{scattered, answered_by}
 use Rattle.wasi_calls_rules.specs.Moving.{Got, bytes_taken, input_taken, has_bytes, input_read}
-use Rattle.wasi_calls_rules.specs.Moving.{file_read, target_read, fd_read, fd_pread, file_written}
-use Rattle.wasi_calls_rules.specs.Moving.{target_written, fd_write, fd_pwrite}
+use Rattle.wasi_calls_rules.specs.Moving.{file_read, target_read, fd_read, fd_pread}
 use Rattle.wasi_calls_rules.proofs.Steps.{HoldsAfter, refused, done_with, step, next, within}
 use Rattle.wasi_calls_rules.proofs.Steps.{checked, either_way, answered}
 use Rattle.wasi_calls_rules.proofs.Puts.{Lies, all_lie, put_number, scattered_kept}
 use Rattle.wasi_calls_rules.proofs.Supplies.{Supplies, AnswerHolds, file_holds}
-use Rattle.wasi_calls_rules.proofs.SmallCallRules.{Keeps, GivenHolds, same, kept, put_one}
+use Rattle.wasi_calls_rules.proofs.SmallCallRules.{Keeps, GivenHolds, same, kept}
 use Rattle.guest_memory.proofs.Lists.{all_both, all_take, all_drop}
 
 buffers_lie : (m : Bytes) (iovs count : ℕ)
@@ -100,25 +99,3 @@ module _ (Q : ℕ → Type 0) (low : (x : ℕ)
       kept Q low m old _ h (put_number Q low m (scattered m bs bytes) ret 4 (length bytes) room
       (scattered_kept Q low m m bs bytes inside (file_read_holds (node_named d.target) offset
       (movable bs)) (same Q low m old))))))))))
-
-  -- ---- writes
-
-  pub fd_write_keeps : (fd iovs count ret : ℕ) → Keeps Q m (fd_write fd iovs count ret m h)
-  fd_write_keeps fd iovs count ret =
-      next (open_descriptor h fd) _ (λ d. next (no_directory h d) _ (λ _.
-      next (with_right fd_write_right d) _ (λ _. next (few_buffers count) _ (λ _.
-      next (buffers m iovs count) _ (λ bs. within m ret 4 _ (λ room.
-      let bytes : Bytes = take (movable bs) (gathered m bs) in
-      next (target_written d.target fd d bytes h) _ (λ after.
-      put_one Q low m old ret 4 (length bytes) after room)))))))
-
-  pub fd_pwrite_keeps : (fd iovs count offset ret : ℕ)
-      → Keeps Q m (fd_pwrite fd iovs count offset ret m h)
-  fd_pwrite_keeps fd iovs count offset ret =
-      next (open_descriptor h fd) _ (λ d.
-      next (a_file h d) _ (λ _. next (with_right fd_write_right d) _ (λ _.
-      next (with_right fd_seek_right d) _ (λ _. next (few_buffers count) _ (λ _.
-      next (buffers m iovs count) _ (λ bs. within m ret 4 _ (λ room.
-      let bytes : Bytes = take (movable bs) (gathered m bs) in
-      next (file_written (node_named d.target) offset bytes h) _ (λ after.
-      put_one Q low m old ret 4 (length bytes) after room))))))))

@@ -1,6 +1,7 @@
 -- A call that is done leaves no more unread than one request's text and its newline.
 use Rattle.std.proofs.Common.{◌≡◌, ℕ, ◌+◌, ◌≤◌, [], ◌∷◌, ◌++◌, length, drop, Option, Some, None}
 use Rattle.std.proofs.Common.{arith, length-append, length-drop}
+use Rattle.wasi_abi.specs.declared.call.Call.{Call}
 use Rattle.wasi_abi.specs.rules.Answers.{newline}
 use Rattle.wasi_abi.specs.rules.Versions.{text_limit}
 use Rattle.file_tree.specs.rules.Files.{Path}
@@ -8,11 +9,8 @@ use Rattle.wasi_calls_rules.specs.WasiStates.{WasiState}
 use Rattle.wasi_calls_rules.specs.Checks.{Bytes}
 use Rattle.wasi_calls_rules.specs.Entries.{renamed_over}
 use Rattle.wasi_calls_rules.specs.laws.Laws.{HasShortInput, CallRulesKeepInputShort}
-use Rattle.wasi_calls_rules.proofs.WasiStateChanges.{Becomes, stays, sees_time, leaves_unread}
-use Rattle.wasi_calls_rules.proofs.WasiStateChanges.{takes_text, ends_input, closes, sets_flags}
-use Rattle.wasi_calls_rules.proofs.WasiStateChanges.{seeks, reads_file, writes_stream, rewrites}
-use Rattle.wasi_calls_rules.proofs.WasiStateChanges.{writes_file, makes, opens_new, opens, loses}
-use Rattle.wasi_calls_rules.proofs.WasiStateChanges.{renames}
+use Rattle.wasi_calls_rules.proofs.WasiStateChanges.{Becomes, leaves_unread, takes_text}
+use Rattle.wasi_calls_rules.proofs.WasiStateChanges.{writes_stream, renames}
 use Rattle.wasi_calls_rules.proofs.CallRuleChanges.{changes}
 use Rattle.wasi_calls_rules.proofs.KeptLines.{stream_either}
 
@@ -33,25 +31,13 @@ renamed_short : (h : WasiState) (k : ℕ) (j : Option ℕ) (from to : Path) → 
 renamed_short h k None from to short = short
 renamed_short h k (Some j) from to short = short
 
-input_short : (m : Bytes) (h after : WasiState) → HasShortInput h → Becomes m h after
+input_short : {c : Call} (m : Bytes) (h after : WasiState) → HasShortInput h → Becomes c m h after
     → HasShortInput after
-input_short m h _ is stays = is
-input_short m h _ is (sees_time n small) = is
 input_short m h _ is (leaves_unread n) = rest_short n (text_limit h.version + 1) h.unread is
 input_short m h _ is (takes_text n text k short) = text_short n (text_limit h.version) text short
-input_short m h _ is ends_input = is
-input_short m h _ is (closes fd d o other) = is
-input_short m h _ is (sets_flags fd flags d o few) = is
-input_short m h _ is (seeks fd offset d o small) = is
-input_short m h _ is (reads_file fd n k d o e) = is
-input_short m h _ is (writes_stream s bytes k) = stream_either HasShortInput h s bytes is is
-input_short m h _ is (rewrites k bytes r) = is
-input_short m h _ is (writes_file fd k offset d bytes o fits r) = is
-input_short m h _ is (makes p x) = is
-input_short m h _ is (opens_new p n flags base inheriting x free few) = is
-input_short m h _ is (opens k n flags base inheriting cut x few) = is
-input_short m h _ is (loses k x) = is
+input_short m h _ is (writes_stream s bytes by few k) = stream_either HasShortInput h s bytes is is
 input_short m h _ is (renames k j from to x) = renamed_short h k j from to is
+input_short m h _ is _ = is
 
 pub call_rules_keep_input_short : CallRulesKeepInputShort
 call_rules_keep_input_short c arguments given m h done is e =

@@ -1,32 +1,24 @@
 -- The small calls keep memory.
 use Rattle.std.proofs.Common.{◌≡◌, ℕ, ◌+◌, ◌*◌, ◌%◌, ◌≤◌, List, [], ◌∷◌, length, refl, arith}
-use Rattle.std.specs.Prelude.{Option, Some, true, nat_le, not, ◌==◌, max, pos, ◌+ℤ◌}
-use Rattle.std.specs.Int.{w64, cast_signed}
+use Rattle.std.specs.Prelude.{Option, Some, true, nat_le, not, ◌==◌, max}
 use Rattle.std.specs.List.{AllByRecursion}
 use Rattle.std.proofs.lemmas.Bool.{eqb-true, and_parts}
 use Rattle.guest_memory.specs.rules.Bytes.{bytes_of, with_part}
 use Rattle.file_tree.specs.rules.Files.{slash}
-use Rattle.wasi_abi.specs.declared.errno.Errno.TheVariants.{Badf, Inval, Nametoolong, Notcapable}
+use Rattle.wasi_abi.specs.declared.errno.Errno.TheVariants.{Badf, Inval, Nametoolong}
 use Rattle.wasi_abi.specs.declared.answer.Question.{Question}
 use Rattle.wasi_abi.specs.declared.answer.Question.TheVariants as question
 use Rattle.wasi_abi.specs.declared.answer.Answer.{Answer}
 use Rattle.wasi_abi.specs.declared.answer.Answer.TheVariants as answer
 use Rattle.wasi_abi.specs.rules.Layouts.{fdstat_bytes, prestat_bytes}
-use Rattle.wasi_abi.specs.rules.Numbers.{fd_fdstat_set_flags_right, fd_filestat_get_right}
-use Rattle.wasi_abi.specs.rules.Numbers.{fd_filestat_set_size_right, fd_seek_right, fd_tell_right}
 use Rattle.wasi_abi.specs.rules.Versions.{text_limit}
 use Rattle.wasi_calls_rules.specs.WasiStates.{Target, Stream, Node, WasiState}
 use Rattle.wasi_calls_rules.specs.Checks.{Bytes, Refuses, Done, Ruling, check_or, open_descriptor}
-use Rattle.wasi_calls_rules.specs.Checks.{a_file, with_right, node_named, has_bytes_alone, does_fit}
-use Rattle.wasi_calls_rules.specs.Checks.{answered_by}
+use Rattle.wasi_calls_rules.specs.Checks.{has_bytes_alone, does_fit, answered_by}
 use Rattle.wasi_calls_rules.specs.Small.{call_done, with_zeros, pointers_to, texts_get}
-use Rattle.wasi_calls_rules.specs.Small.{texts_sizes_get, clock_res_get, time_put, clock_question}
-use Rattle.wasi_calls_rules.specs.Small.{clock_time_get, fd_close, fd_syncs, file_type_of}
-use Rattle.wasi_calls_rules.specs.Small.{fd_fdstat_get, fd_fdstat_set_flags, filestat_bytes_of}
-use Rattle.wasi_calls_rules.specs.Small.{fd_filestat_get, roomy, fd_filestat_set_size}
-use Rattle.wasi_calls_rules.specs.Small.{fd_prestat_get, fd_prestat_dir_name, seek_base}
-use Rattle.wasi_calls_rules.specs.Small.{file_offset, fd_seek, fd_tell, sched_yield, random_put}
-use Rattle.wasi_calls_rules.specs.Small.{random_get}
+use Rattle.wasi_calls_rules.specs.Small.{texts_sizes_get, time_put, file_type_of, fd_fdstat_get}
+use Rattle.wasi_calls_rules.specs.Small.{filestat_bytes_of, fd_prestat_get, fd_prestat_dir_name}
+use Rattle.wasi_calls_rules.specs.Small.{random_put, random_get}
 use Rattle.wasi_calls_rules.proofs.Steps.{HoldsAfter, refused, done_with, step, next, within}
 use Rattle.wasi_calls_rules.proofs.Steps.{either_way, answered}
 use Rattle.wasi_calls_rules.proofs.Puts.{IsKept, put, put_number, zeros_hold, pointers_hold}
@@ -91,33 +83,13 @@ module _ (Q : ℕ → Type 0) (low : (x : ℕ)
 
   -- ---- clocks
 
-  pub clock_res_get_keeps : (id ret : ℕ) → Keeps Q m (clock_res_get id ret m h)
-  clock_res_get_keeps id ret =
-      next (check_or (nat_le id 1) Inval) _ (λ _.
-      within m ret 8 _ (λ room. put_one Q low m old ret 8 1 h room))
-
-  time_put_keeps : (a : Answer) (ret : ℕ) → ret + 8 ≤ length m → Keeps Q m (time_put a ret m h)
+  pub time_put_keeps : (a : Answer) (ret : ℕ) → ret + 8 ≤ length m → Keeps Q m (time_put a ret m h)
   time_put_keeps (answer.Monotonic n) ret room =
       put_one Q low m old ret 8 (max n h.last_monotonic) _ room
   time_put_keeps (answer.Realtime n) ret room = put_one Q low m old ret 8 n h room
   time_put_keeps _ ret room = refused _ (Refuses Inval)
 
-  pub clock_time_get_keeps : (id ret : ℕ) (given : Option Answer)
-      → Keeps Q m (clock_time_get id ret given m h)
-  clock_time_get_keeps id ret given =
-      next (check_or (nat_le id 1) Inval) _ (λ _. within m ret 8 _ (λ room.
-      next (answered_by h (clock_question id) given) _ (λ a. time_put_keeps a ret room)))
-
   -- ---- descriptors
-
-  pub fd_close_keeps : (fd : ℕ) → Keeps Q m (fd_close fd m h)
-  fd_close_keeps fd =
-      next (open_descriptor h fd) _ (λ d. next (check_or (not (fd == 3)) Notcapable) _ (λ _.
-      unchanged _))
-
-  pub fd_syncs_keeps : (right fd : ℕ) → Keeps Q m (fd_syncs right fd m h)
-  fd_syncs_keeps right fd =
-      next (open_descriptor h fd) _ (λ d. next (with_right right d) _ (λ _. unchanged h))
 
   pub fd_fdstat_get_keeps : (fd ret : ℕ) → Keeps Q m (fd_fdstat_get fd ret m h)
   fd_fdstat_get_keeps fd ret =
@@ -129,11 +101,6 @@ module _ (Q : ℕ → Type 0) (low : (x : ℕ)
       (fdstat_holds Q low (file_type_of h d.target) d.flags d.base d.inheriting
       (file_type_holds Q low h d.target)) (same Q low m old))))
 
-  pub fd_fdstat_set_flags_keeps : (fd flags : ℕ) → Keeps Q m (fd_fdstat_set_flags fd flags m h)
-  fd_fdstat_set_flags_keeps fd flags =
-      next (open_descriptor h fd) _ (λ d. next (with_right fd_fdstat_set_flags_right d) _ (λ _.
-      next (check_or (nat_le flags 31) Inval) _ (λ _. unchanged _)))
-
   pub filestat_put : (t : Target) (ret : ℕ) → ret + 64 ≤ length m
       → Keeps Q m (call_done (with_part m ret (filestat_bytes_of h t)) h)
   filestat_put t ret room =
@@ -142,17 +109,6 @@ module _ (Q : ℕ → Type 0) (low : (x : ℕ)
         arith,
         size,
       )) (filestat_of_holds Q low h t) (same Q low m old))
-
-  pub fd_filestat_get_keeps : (fd ret : ℕ) → Keeps Q m (fd_filestat_get fd ret m h)
-  fd_filestat_get_keeps fd ret =
-      next (open_descriptor h fd) _ (λ d. next (with_right fd_filestat_get_right d) _ (λ _.
-      within m ret 64 _ (λ room. filestat_put d.target ret room)))
-
-  pub fd_filestat_set_size_keeps : (fd size : ℕ) → Keeps Q m (fd_filestat_set_size fd size m h)
-  fd_filestat_set_size_keeps fd size =
-      next (open_descriptor h fd) _ (λ d.
-      next (a_file h d) _ (λ _. next (with_right fd_filestat_set_size_right d) _ (λ _.
-      next (roomy h (node_named d.target) size) _ (λ _. unchanged _))))
 
   pub fd_prestat_get_keeps : (fd ret : ℕ) → Keeps Q m (fd_prestat_get fd ret m h)
   fd_prestat_get_keeps fd ret =
@@ -171,26 +127,6 @@ module _ (Q : ℕ → Type 0) (low : (x : ℕ)
         low 47,
         tt,
       ) (same Q low m old))))))
-
-  pub fd_seek_keeps : (fd delta whence ret : ℕ) → Keeps Q m (fd_seek fd delta whence ret m h)
-  fd_seek_keeps fd delta whence ret =
-      next (open_descriptor h fd) _ (λ d.
-      next (a_file h d) _ (λ _. next (with_right fd_seek_right d) _ (λ _.
-      next (check_or (nat_le whence 2) Inval) _ (λ _.
-      within m ret 8 _ (λ room.
-      next (file_offset (pos (seek_base h d whence) +ℤ cast_signed w64 delta)) _ (λ offset.
-      put_one Q low m old ret 8 offset _ room))))))
-
-  pub fd_tell_keeps : (fd ret : ℕ) → Keeps Q m (fd_tell fd ret m h)
-  fd_tell_keeps fd ret =
-      next (open_descriptor h fd) _ (λ d.
-      next (a_file h d) _ (λ _. next (with_right fd_tell_right d) _ (λ _.
-      within m ret 8 _ (λ room. put_one Q low m old ret 8 d.offset h room))))
-
-  -- ---- the process
-
-  pub sched_yield_keeps : Keeps Q m (sched_yield m h)
-  sched_yield_keeps = unchanged h
 
   random_put_keeps : (a : Answer) (buf len : ℕ) → buf + len ≤ length m → RandomHolds Q len a
       → Keeps Q m (random_put a buf m h)

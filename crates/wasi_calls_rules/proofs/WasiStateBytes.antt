@@ -4,6 +4,7 @@ use Rattle.std.proofs.Common.{filter, Option, Some, None, refl, sym, subst, arit
 use Rattle.std.specs.Prelude.{◌==◌, ◌&&◌, not, if◌then◌else◌, nat_lt, option_map, IfSome, Ok}
 use Rattle.std.specs.List.{AllByRecursion, list_any}
 use Rattle.std.proofs.lemmas.Bool.{ltb-true}
+use Rattle.wasi_abi.specs.declared.call.Call.{Call}
 use Rattle.wasi_abi.specs.declared.errno.Errno.TheVariants.{Noent}
 use Rattle.wasi_abi.specs.rules.Answers.{newline, AreBytes}
 use Rattle.guest_memory.specs.rules.Bytes.{IsByte}
@@ -24,11 +25,10 @@ use Rattle.wasi_calls_rules.specs.Entries.{whole_path, cut_if, without, renamed_
 use Rattle.wasi_calls_rules.specs.laws.Laws.{IsPathOfBytes, IsContentOfBytes, IsNodeOfBytes}
 use Rattle.wasi_calls_rules.specs.laws.Laws.{IsOfBytes, CallRulesKeepStatesOfBytes}
 use Rattle.wasi_calls_rules.proofs.Steps.{some_there}
-use Rattle.wasi_calls_rules.proofs.WasiStateChanges.{Making, Renaming, Becomes, stays, sees_time}
-use Rattle.wasi_calls_rules.proofs.WasiStateChanges.{leaves_unread, takes_text, ends_input, closes}
-use Rattle.wasi_calls_rules.proofs.WasiStateChanges.{sets_flags, seeks, reads_file, writes_stream}
-use Rattle.wasi_calls_rules.proofs.WasiStateChanges.{rewrites, writes_file, makes, opens_new, opens}
-use Rattle.wasi_calls_rules.proofs.WasiStateChanges.{loses, renames}
+use Rattle.wasi_calls_rules.proofs.WasiStateChanges.{Making, Renaming, Becomes, stays}
+use Rattle.wasi_calls_rules.proofs.WasiStateChanges.{leaves_unread, takes_text, closes}
+use Rattle.wasi_calls_rules.proofs.WasiStateChanges.{writes_stream, rewrites, writes_file, makes}
+use Rattle.wasi_calls_rules.proofs.WasiStateChanges.{opens_new, opens, loses, renames}
 use Rattle.wasi_calls_rules.proofs.CallRuleChanges.{changes}
 use Rattle.wasi_calls_rules.proofs.KeptLines.{stream_either}
 use Rattle.wasi_calls_rules.proofs.GivenNames.{ends_well}
@@ -222,29 +222,15 @@ renamed_bytes m h k j from to memory b x =
     let ends = ends_well m h (Leaf x.new_parent x.new_name) x.target in
     whole_bytes h.files x.new_parent x.new_name to b.files (ends.2 memory) x.new_path
 
-of_bytes : (m : Bytes) (h after : WasiState) → AreBytes m → IsOfBytes h → Becomes m h after
-    → IsOfBytes after
+of_bytes : {c : Call} (m : Bytes) (h after : WasiState) → AreBytes m → IsOfBytes h
+    → Becomes c m h after → IsOfBytes after
 of_bytes m h _ memory b stays = b
-of_bytes m h _ memory b (sees_time n small) = with_files h _ b b.files refl refl refl
-of_bytes m h _ memory b (leaves_unread n) = record {
-  files = b.files;
-  unread = all_drop IsByte n h.unread b.unread;
-  arguments = b.arguments;
-  environment = b.environment;
-}
-of_bytes m h _ memory b (takes_text n text k short) = record {
-  files = b.files;
-  unread = request_bytes n text k;
-  arguments = b.arguments;
-  environment = b.environment;
-}
-of_bytes m h _ memory b ends_input = with_files h _ b b.files refl refl refl
+of_bytes m h _ memory b (leaves_unread n) =
+    search (all_drop IsByte n h.unread b.unread)
+of_bytes m h _ memory b (takes_text n text k short) = search (request_bytes n text k)
 of_bytes m h _ memory b (closes fd d o other) =
     with_files h _ b (swept_of_bytes d.target _ h.files b.files) refl refl refl
-of_bytes m h _ memory b (sets_flags fd flags d o few) = with_files h _ b b.files refl refl refl
-of_bytes m h _ memory b (seeks fd offset d o small) = with_files h _ b b.files refl refl refl
-of_bytes m h _ memory b (reads_file fd n k d o e) = with_files h _ b b.files refl refl refl
-of_bytes m h _ memory b (writes_stream s bytes k) = stream_of_bytes h s bytes b
+of_bytes m h _ memory b (writes_stream s bytes by few k) = stream_of_bytes h s bytes b
 of_bytes m h _ memory b (rewrites k bytes r) =
     with_files h _ b
     (rewritten_of_bytes h.files k bytes (r.are_bytes memory (held_bytes h.files k b.files)) b.files)
@@ -267,6 +253,7 @@ of_bytes m h _ memory b (loses k x) =
     with_files h _ b (without_of_bytes h k b.files) refl refl refl
 of_bytes m h _ memory b (renames k j from to x) =
     moved_over m h k j from to b (renamed_bytes m h k j from to memory b x)
+of_bytes m h _ memory b _ = with_files h _ b b.files refl refl refl
 
 pub call_rules_keep_states_of_bytes : CallRulesKeepStatesOfBytes
 call_rules_keep_states_of_bytes c arguments given m h done memory b e =

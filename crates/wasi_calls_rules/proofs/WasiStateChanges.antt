@@ -1,6 +1,8 @@
 -- What a call that is done makes of the host: one case for each way in which a rule changes it.
 use Rattle.std.specs.Prelude.{◌≡◌, ℕ, ◌+◌, ◌≤◌, ◌<◌, ◌^◌, ◌==◌, max, Bool, true, false, List, []}
 use Rattle.std.specs.Prelude.{◌∷◌, ◌++◌, length, drop, slice_get, slice_set, Option, Some, None, Ok}
+use Rattle.wasi_abi.specs.declared.call.Call.{Call}
+use Rattle.wasi_abi.specs.declared.call.Call.TheVariants as call
 use Rattle.wasi_abi.specs.rules.Answers.{newline, AreBytes}
 use Rattle.wasi_abi.specs.rules.Versions.{text_limit}
 use Rattle.file_tree.specs.rules.Files.{Name, Path, Directory, File, child, is_directory}
@@ -10,6 +12,7 @@ use Rattle.wasi_calls_rules.specs.WasiStates.{Node, Descriptor, WasiState}
 use Rattle.wasi_calls_rules.specs.Checks.{Bytes, names_directory, lent}
 use Rattle.wasi_calls_rules.specs.Checks.{has_64_bits, has_bytes_alone}
 use Rattle.wasi_calls_rules.specs.Lines.{stream_written}
+use Rattle.wasi_calls_rules.specs.declared.limits.TheConstants.{MOVED_BYTES}
 use Rattle.wasi_calls_rules.specs.declared.output_stream.OutputStream.{OutputStream}
 use Rattle.wasi_calls_rules.specs.Paths.{WalkEnd, Leaf, formed, node_at}
 use Rattle.wasi_calls_rules.specs.Small.{swept, with_descriptor}
@@ -89,45 +92,48 @@ pub record Renaming (m : Bytes) (h : WasiState) (k : ℕ) (j : Option ℕ) (from
   pub differ : is_same_node k j ≡ false
   pub way : gives_way h.files k j ≡ Ok tt
 
-pub data Becomes (m : Bytes) (h : WasiState) : WasiState → Type 0 where
-  stays : Becomes m h h
+-- what a host becomes by this call, in this memory
+pub data Becomes (c : Call) (m : Bytes) (h : WasiState) : WasiState → Type 0 where
+  stays : Becomes c m h h
   sees_time : (n : ℕ) → has_64_bits n ≡ true
-      → Becomes m h (record h { last_monotonic = max n h.last_monotonic })
-  leaves_unread : (n : ℕ) → Becomes m h (record h { unread = drop n h.unread })
+      → Becomes c m h (record h { last_monotonic = max n h.last_monotonic })
+  leaves_unread : (n : ℕ) → Becomes c m h (record h { unread = drop n h.unread })
   takes_text : (n : ℕ) (text : Bytes) → has_bytes_alone text ≡ true
-      → length text ≤ text_limit h.version → Becomes m h (record h
+      → length text ≤ text_limit h.version → Becomes c m h (record h
       { unread = drop n (text ++ newline ∷ []) })
-  ends_input : Becomes m h (record h { input_ended = true })
+  ends_input : Becomes c m h (record h { input_ended = true })
   closes : (fd : ℕ) (d : Descriptor) → IsOpen h fd d → (fd == 3) ≡ false
-      → Becomes m h (record h {
+      → Becomes c m h (record h {
         descriptors = slice_set h.descriptors fd None;
         files = swept d.target (slice_set h.descriptors fd None) h.files;
       })
   sets_flags : (fd flags : ℕ) (d : Descriptor) → IsOpen h fd d → flags ≤ 31
-      → Becomes m h (with_descriptor fd (record d { flags = flags }) h)
+      → Becomes c m h (with_descriptor fd (record d { flags = flags }) h)
   seeks : (fd offset : ℕ) (d : Descriptor) → IsOpen h fd d → offset < 2 ^ 63
-      → Becomes m h (moved_to fd d offset h)
+      → Becomes c m h (moved_to fd d offset h)
   reads_file : (fd n k : ℕ) (d : Descriptor) → IsOpen h fd d → d.target ≡ Node k
-      → Becomes m h (moved_to fd d (d.offset + length (file_read h k d.offset n)) h)
-  writes_stream : (s : OutputStream) (bytes : Bytes) → (AreBytes m → AreBytes bytes)
-      → Becomes m h (stream_written s bytes h)
+      → Becomes c m h (moved_to fd d (d.offset + length (file_read h k d.offset n)) h)
+  -- only `fd_write` does, and no more bytes than a call moves
+  writes_stream : (s : OutputStream) (bytes : Bytes) → c ≡ call.FdWrite
+      → length bytes ≤ MOVED_BYTES → (AreBytes m → AreBytes bytes)
+      → Becomes c m h (stream_written s bytes h)
   rewrites : (k : ℕ) (bytes : Bytes) → Rewriting m h k bytes
-      → Becomes m h (record h { files = with_file_bytes k bytes h.files })
+      → Becomes c m h (record h { files = with_file_bytes k bytes h.files })
   writes_file : (fd k offset : ℕ) (d : Descriptor) (bytes : Bytes) → IsOpen h fd d
       → offset ≤ FILE_BYTES → Rewriting m h k bytes
-      → Becomes m h (moved_to fd d offset (record h {
+      → Becomes c m h (moved_to fd d offset (record h {
         files = with_file_bytes k bytes h.files;
       }))
   makes : (p : Path) → Making m h p
-      → Becomes m h (record h { files = created p Directory h.files })
+      → Becomes c m h (record h { files = created p Directory h.files })
   opens_new : (p : Path) (n flags base inheriting : ℕ) → Making m h p → free_number h ≡ Ok n
       → flags ≤ 31
-      → Becomes m h (with_descriptor n (new_descriptor false h.files.next flags base inheriting)
+      → Becomes c m h (with_descriptor n (new_descriptor false h.files.next flags base inheriting)
       (record h { files = created p (File []) h.files }))
   opens : (k n flags base inheriting : ℕ) (is_cut : Bool) → Opening m h k n is_cut → flags ≤ 31
-      → Becomes m h (with_descriptor n
+      → Becomes c m h (with_descriptor n
       (new_descriptor (is_directory h.files k) k flags base inheriting)
       (record h { files = cut_if is_cut k h.files }))
-  loses : (k : ℕ) → Losing m h k → Becomes m h (without k h)
+  loses : (k : ℕ) → Losing m h k → Becomes c m h (without k h)
   renames : (k : ℕ) (j : Option ℕ) (from to : Path) → Renaming m h k j from to
-      → Becomes m h (renamed_over k j from to h)
+      → Becomes c m h (renamed_over k j from to h)

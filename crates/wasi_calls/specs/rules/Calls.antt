@@ -13,7 +13,6 @@ use Rattle.wasi_calls_rules.specs.CallRules.{call_rule, CallEnding, IsDone, IsRe
 use Rattle.wasi_calls_rules.specs.CallRules.{IsExit, NoMemory}
 use Rattle.wasi_calls.specs.declared.outcome.CallOutcome.{CallOutcome}
 use Rattle.wasi_calls.specs.declared.outcome.CallOutcome.TheVariants as outcome
-use Rattle.wasi_calls.specs.declared.stop.CallStop.TheVariants as stop
 use Rattle.wasi_calls.specs.rules.Held.{HeldWasiState, ShowsWasiState}
 
 -- one number a parameter, each of its type

@@ -5,30 +5,15 @@ use Rattle.wasi_calls.proofs.paths.entries.create_directory.Goals as goal
 
 pub returns-in_err-place-clause-stopped : goal.returns-in_err-place-clause-stopped
 returns-in_err-place-clause-stopped c =
-    let m = c.args.memory.now.bytes in
-    let h = c.args.host.now.host in
     let p = err_from_is_err_and c.from_residual.result c.from_residual.ensures.1 in
-    rw (
-      p.1,
-      p.2,
-      create_directory_is c.args.fd c.args.path c.args.len m h,
-      c.in_err-place.ensures.gives,
-    ) refl
+    rw (p.1, p.2, create_directory_is, c.in_err-place.ensures.gives) refl
 
 pub returns-clause-done : goal.returns-clause-done
 returns-clause-done c =
-    let m = c.args.memory.now.bytes in
-    let h = c.args.host.now.host in
-    rw (
-      create_directory_is c.args.fd c.args.path c.args.len m h,
-      c.in_ok-place.ensures.gives,
-    ) (c.make_directory.ensures.done m)
+    rw (create_directory_is, c.in_ok-place.ensures.gives)
+    (c.make_directory.ensures.done c.args.memory.now.bytes)
 
 pub returns-clause-stopped : goal.returns-clause-stopped
 returns-clause-stopped c =
-    let m = c.args.memory.now.bytes in
-    let h = c.args.host.now.host in
-    rw (
-      create_directory_is c.args.fd c.args.path c.args.len m h,
-      c.in_ok-place.ensures.gives,
-    ) (c.make_directory.ensures.stopped m)
+    rw (create_directory_is, c.in_ok-place.ensures.gives)
+    (c.make_directory.ensures.stopped c.args.memory.now.bytes)

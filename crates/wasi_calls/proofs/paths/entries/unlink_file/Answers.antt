@@ -5,30 +5,15 @@ use Rattle.wasi_calls.proofs.paths.entries.unlink_file.Goals as goal
 
 pub returns-in_err-place-clause-refused : goal.returns-in_err-place-clause-refused
 returns-in_err-place-clause-refused c =
-    let m = c.args.memory.now.bytes in
-    let h = c.args.host.now.host in
     let p = err_from_is_err_and c.from_residual.result c.from_residual.ensures.1 in
-    rw (
-      p.1,
-      p.2,
-      unlink_file_is c.args.fd c.args.path c.args.len m h,
-      c.in_err-place.ensures.gives,
-    ) refl
+    rw (p.1, p.2, unlink_file_is, c.in_err-place.ensures.gives) refl
 
 pub returns-clause-done : goal.returns-clause-done
 returns-clause-done c =
-    let m = c.args.memory.now.bytes in
-    let h = c.args.host.now.host in
-    rw (
-      unlink_file_is c.args.fd c.args.path c.args.len m h,
-      c.in_ok-place.ensures.gives,
-    ) (c.unlink_file_at.ensures.done m)
+    rw (unlink_file_is, c.in_ok-place.ensures.gives)
+    (c.unlink_file_at.ensures.done c.args.memory.now.bytes)
 
 pub returns-clause-refused : goal.returns-clause-refused
 returns-clause-refused c =
-    let m = c.args.memory.now.bytes in
-    let h = c.args.host.now.host in
-    rw (
-      unlink_file_is c.args.fd c.args.path c.args.len m h,
-      c.in_ok-place.ensures.gives,
-    ) (c.unlink_file_at.ensures.refused m)
+    rw (unlink_file_is, c.in_ok-place.ensures.gives)
+    (c.unlink_file_at.ensures.refused c.args.memory.now.bytes)
