@@ -1,7 +1,7 @@
 -- What is reached counts its steps and its answers, and has ended where its program has.
 use Rattle.std.proofs.Common.{◌≡◌, ℕ, ◌+◌, ◌≤◌, List, [], ◌∷◌, Option, Some, None}
 use Rattle.std.proofs.Common.{refl, sym, ap, subst, arith}
-use Rattle.std.specs.Prelude.{Ok, Err, reverse, map, slice_get}
+use Rattle.std.specs.Prelude.{Err, reverse, map, slice_get}
 use Rattle.wasm_syntax.specs.declared.value.Value.{Value}
 use Rattle.wasm_syntax.specs.declared.module.Module.{Module}
 use Rattle.wasm_rules.specs.Types.{number_in}
@@ -13,7 +13,7 @@ use Rattle.wasi_abi.specs.declared.call.Call.{Call}
 use Rattle.wasi_abi.specs.rules.Configs.{Settings}
 use Rattle.wasi_abi.specs.rules.Versions.{widenings}
 use Rattle.wasi_calls_rules.specs.WasiStates.{WasiState}
-use Rattle.wasi_calls_rules.specs.Checks.{Refuses, Ends, Asks as Inquires, Ruling}
+use Rattle.wasi_calls_rules.specs.Checks.{Ends, Ruling}
 use Rattle.wasi_calls_rules.specs.CallRules.{call_rule}
 use Rattle.process_rules.specs.Processes.{Ending, ProcessState, Guest, IsStart, closed_at}
 use Rattle.process_rules.specs.Origins.{Origin, IsSucceeding, succeeding}
@@ -39,10 +39,8 @@ stopped_ends c = record { returned = refl; nothing_later = refl }
 
 call_rule_stops : (c : Call) (r : Ruling) (before : Configuration) (h : WasiState) (waits : Thread)
     → StopsIn (after_call_rule c r before h waits)
-call_rule_stops c (Ok done) before h waits = tt
-call_rule_stops c (Err (Refuses e)) before h waits = tt
 call_rule_stops c (Err (Ends code)) before h waits = stopped_ends before
-call_rule_stops c (Err (Inquires question)) before h waits = tt
+call_rule_stops c _ before h waits = tt
 
 call_stops : (o : Option Call) (arguments : List Value) (given : Option Answer)
     (before : Configuration) (h : WasiState) (waits : Thread)
@@ -123,10 +121,7 @@ move_counted guest p q given moves =
 
 pub one_request : (a : Answer) → request_taken (Some a) ≤ 1
 one_request (answer.Request text) = omega arith
-one_request answer.End = omega arith
-one_request (answer.Realtime n) = omega arith
-one_request (answer.Monotonic n) = omega arith
-one_request (answer.Random bytes) = omega arith
+one_request _ = omega arith
 
 -- ---- runs
 

@@ -27,14 +27,15 @@ use Rattle.wasi_abi.specs.declared.version.Version.TheVariants.{One}
 use Rattle.wasi_abi.specs.rules.Versions.{text_limit}
 use Rattle.process_rules.specs.Processes.{ProcessState, Guest, Exited, IsStart, host_of, closed}
 use Rattle.process_rules.specs.Runs.{On, Wants, next_of, after_counted_step, stepped, IsWanted}
-use Rattle.process_rules.specs.Runs.{LeadsTo, Moves, Given, Wider, widened, Runs, Reaches, none}
+use Rattle.process_rules.specs.Runs.{Kept, LeadsTo, Moves, Given, Wider, widened, Runs, Reaches}
+use Rattle.process_rules.specs.Runs.{none}
 use Rattle.process_rules.specs.Runs.{step, take, widen}
 use Rattle.process_rules.specs.laws.Examples.{ComesTo, at_rest, abc_and_end, echo_memory, echo_end}
 use Rattle.process_rules.specs.laws.Examples.{EchoEnds}
 use Rattle.process_rules.specs.laws.WideningExamples.{EchoWantsMore}
 use Rattle.process_rules.proofs.Quiet.{runs_join}
 use Rattle.process_rules.proofs.Ended.{comes}
-use Rattle.process_rules.proofs.EchoValid.{load_there, store_there, again, copying, testing, round}
+use Rattle.process_rules.proofs.EchoValid.{load_there, store_there, again, testing, round}
 use Rattle.process_rules.proofs.EchoValid.{looping, echo_spells, echo_is_valid}
 
 abbrev guest_of : Settings → Guest
@@ -238,56 +239,74 @@ abc_fits = record {
 
 -- ---- the run
 
-last_round : (config : Settings)
-    → Runs (guest_of config) (after 22 1 (wrote config) (blank around memory_written))
-    (Given answer.End ∷ []) 11 (last config last_memory)
-last_round config =
-    step (enters config 22 1 (wrote config) memory_written)
+-- the five steps up to the question of a round
+asks : (config : Settings) (n answers : ℕ) {h : host.WasiState} {m : Bytes} {kept : List Kept}
+    {k : ℕ} {r : ProcessState}
+    → Runs (guest_of config) (at_read (n + 1 + 1 + 1 + 1 + 1) (answers + 0 + 0 + 0 + 0 + 0) h m)
+    kept k r
+    → Runs (guest_of config) (after n answers h (blank around m)) kept
+    (suc (suc (suc (suc (suc k))))) r
+asks config n answers {h = h} {m = m} rest =
+    step (enters config n answers h m)
+    (step (goes config refl)
+    (step (goes config refl) (step (goes config refl) (step (goes config refl) rest))))
+
+abbrev start : Settings → ProcessState
+start config = after 0 0 (host_of config) (blank around first_memory)
+
+-- behind the first answer
+abbrev behind_abc : Settings → ProcessState
+behind_abc config = after 6 1 (host_of config) (blank (inside (v 0 ∷ []) testing) memory_read)
+
+-- from its start on, through the first answer
+takes_abc : (config : Settings) {kept : List Kept} {k : ℕ} {r : ProcessState}
+    → Runs (guest_of config) (behind_abc config) kept k r
+    → Runs (guest_of config) (start config) (Given abc ∷ kept)
+    (suc (suc (suc (suc (suc (suc k)))))) r
+takes_abc config rest =
+    asks config 0 0 (take (leads_on (guest_of config) _ (Some abc) _ _ refl
+    (question.Request, wants_first config, abc_fits) (reads_first config) refl) rest)
+
+-- from the first answer on to the second question
+abbrev so_far : ℕ → ℕ
+so_far k = suc (suc (suc (suc (suc (suc (suc (suc k)))))))
+
+rereads : (config : Settings) {kept : List Kept} {k : ℕ} {r : ProcessState}
+    → Runs (guest_of config) (at_read 27 1 (wrote config) memory_written) kept k r
+    → Runs (guest_of config) (behind_abc config) kept
+    (so_far (so_far (suc (suc (suc (suc (suc k))))))) r
+rereads config rest =
+    step (goes config refl) (step (goes config refl)
+    (step (goes config (loads_four config _ _)) (step (goes config refl)
+    (step (goes config refl)
+    (step (goes config refl) (step (goes config refl)
+    (step (goes config (loads_four config _ _)) (step (goes config (stores_four config _))
     (step (goes config refl)
     (step (goes config refl) (step (goes config refl) (step (goes config refl)
-    (take (leads_on (guest_of config) _ (Some answer.End) _ _ refl (
-      question.Request,
-      wants_last config,
-      tt,
-    ) (reads_last config) refl)
+    (step (leads_on (guest_of config) _ None _ _ refl tt (writes config) refl)
+    (step (goes config refl) (step (turns config 21 1 (wrote config) memory_written)
+    (asks config 22 1 rest))))))))))))))))
+
+ends : (config : Settings)
+    → Runs (guest_of config) (at_read 27 1 (wrote config) memory_written)
+    (Given answer.End ∷ []) 6 (last config last_memory)
+ends config =
+    take (leads_on (guest_of config) _ (Some answer.End) _ _ refl
+    (question.Request, wants_last config, tt) (reads_last config) refl)
     (step (goes config refl) (step (goes config refl) (step (goes config (loads_none config _))
     (step (goes config refl)
     (step (record {
       running = refl;
       wanted = tt;
       leads = (_, on refl (here refl), refl);
-    }) none))))))))))
-
-copies : (config : Settings)
-    → Runs (guest_of config) (after 11 1 (host_of config) (blank (inside [] copying) memory_read))
-    (Given answer.End ∷ []) 22 (last config last_memory)
-copies config =
-    step (goes config refl) (step (goes config refl) (step (goes config (loads_four config _ _))
-    (step (goes config (stores_four config _))
-    (step (goes config refl)
-    (step (goes config refl) (step (goes config refl) (step (goes config refl)
-    (step (leads_on (guest_of config) _ None _ _ refl tt (writes config) refl)
-    (step (goes config refl) (step (turns config 21 1 (wrote config) memory_written)
-    (last_round config)))))))))))
+    }) none)))))
 
 runs : (config : Settings)
-    → Runs (guest_of config) (after 0 0 (host_of config) (blank around first_memory)) abc_and_end 33
-    (last config last_memory)
-runs config =
-    step (enters config 0 0 (host_of config) first_memory)
-    (step (goes config refl)
-    (step (goes config refl) (step (goes config refl) (step (goes config refl)
-    (take (leads_on (guest_of config) _ (Some abc) _ _ refl (
-      question.Request,
-      wants_first config,
-      abc_fits,
-    ) (reads_first config) refl)
-    (step (goes config refl) (step (goes config refl) (step (goes config (loads_four config _ _))
-    (step (goes config refl)
-    (step (goes config refl) (copies config)))))))))))
+    → Runs (guest_of config) (start config) abc_and_end 33 (last config last_memory)
+runs config = takes_abc config (rereads config (ends config))
 
 begins : (config : Settings)
-    → IsStart echo config (guest_of config) (after 0 0 (host_of config) (blank around first_memory))
+    → IsStart echo config (guest_of config) (start config)
 begins config = record {
   entry = 2;
   first = blank around first_memory;
@@ -328,59 +347,21 @@ pub record EchoAsks (config : Settings) : Type 0 where
   pub one_line : asking_again.host.lines ≡ record { stream = Stdout; text = codes "abc" } ∷ []
   pub wants_end : IsWanted guest asking_again (Some answer.End)
 
--- from the first answer on to the second
-rereads : (config : Settings) → Runs (guest_of config)
-    (after 6 1 (host_of config) (blank (inside (v 0 ∷ []) testing) memory_read)) [] 21
-    (at_read 27 1 (wrote config) memory_written)
-rereads config =
-    step (goes config refl) (step (goes config refl)
-    (step (goes config (loads_four config _ _)) (step (goes config refl)
-    (step (goes config refl)
-    (step (goes config refl) (step (goes config refl)
-    (step (goes config (loads_four config _ _)) (step (goes config (stores_four config _))
-    (step (goes config refl)
-    (step (goes config refl) (step (goes config refl) (step (goes config refl)
-    (step (leads_on (guest_of config) _ None _ _ refl tt (writes config) refl)
-    (step (goes config refl) (step (turns config 21 1 (wrote config) memory_written)
-    (step (enters config 22 1 (wrote config) memory_written)
-    (step (goes config refl) (step (goes config refl)
-    (step (goes config refl) (step (goes config refl) none))))))))))))))))))))
-
--- a run up to the first answer, and on
-asked_once : (config : Settings) (n : ℕ) (q : ProcessState)
-    → Runs (guest_of config) (after 6 1 (host_of config)
-    (blank (inside (v 0 ∷ []) testing) memory_read)) [] n q
-    → Runs (guest_of config) (after 0 0 (host_of config) (blank around first_memory))
-    (Given abc ∷ []) (n + 6) q
-asked_once config n q rest = rw (sym (plus_six n))
-    (step (enters config 0 0 (host_of config) first_memory)
-    (step (goes config refl)
-    (step (goes config refl) (step (goes config refl) (step (goes config refl)
-    (take (leads_on (guest_of config) _ (Some abc) _ _ refl
-    (question.Request, wants_first config, abc_fits) (reads_first config) refl)
-    rest))))))
-  where
-    plus_six : (n : ℕ) → suc (suc (suc (suc (suc (suc n))))) ≡ n + 6
-    plus_six n = omega arith
-
 pub echo_asks : (config : Settings) → EchoAsks config
 echo_asks config = record {
   guest = guest_of config;
-  start = after 0 0 (host_of config) (blank around first_memory);
+  start = start config;
   begins = begins config;
   asking = at_read 5 0 (host_of config) first_memory;
-  to_asking =
-      step (enters config 0 0 (host_of config) first_memory)
-      (step (goes config refl) (step (goes config refl)
-      (step (goes config refl) (step (goes config refl) none))));
+  to_asking = asks config 0 0 none;
   no_line = refl;
   asks = wants_first config;
   wants_request = (question.Request, wants_first config, abc_fits);
-  taken = after 6 1 (host_of config) (blank (inside (v 0 ∷ []) testing) memory_read);
-  to_taken = asked_once config 0 _ none;
+  taken = behind_abc config;
+  to_taken = takes_abc config none;
   still_no_line = refl;
   asking_again = at_read 27 1 (wrote config) memory_written;
-  to_asking_again = asked_once config 21 _ (rereads config);
+  to_asking_again = takes_abc config (rereads config none);
   one_line = refl;
   wants_end = (question.Request, wants_last config, tt);
 }
@@ -409,24 +390,23 @@ wants_short config text long wanted =
 pub echo_wants_more : (config : Settings) → EchoWantsMore config
 unfolding echo_asks
 echo_wants_more config =
-    let start : ProcessState = after 0 0 (host_of config) (blank around first_memory) in
     let asking : ProcessState = at_read 5 0 (host_of config) first_memory in
-    let five : Runs (guest_of config) start [] 5 asking = (echo_asks config).to_asking in
+    let five : Runs (guest_of config) (start config) [] 5 asking = (echo_asks config).to_asking in
     record {
       asking = asking;
       reached = record {
         guest = guest_of config;
-        start = start;
+        start = start config;
         begins = begins config;
         runs = five;
       };
       too_long = wants_short config;
       wide = record {
         guest = guest_of config;
-        start = start;
+        start = start config;
         begins = begins config;
-        runs = runs_join (guest_of config) start asking (widened asking) [] (Wider 5 ∷ []) 5 0
-            five (widen (record { narrow = refl; at = refl }) none);
+        runs = runs_join (guest_of config) (start config) asking (widened asking) []
+            (Wider 5 ∷ []) 5 0 five (widen (record { narrow = refl; at = refl }) none);
       };
       wanted = λ text fits. (question.Request, wants_wide config, fits);
     }
@@ -436,7 +416,7 @@ echo_ends config =
     let reaches : Reaches echo config abc_and_end 33 (last config last_memory) =
     record {
       guest = guest_of config;
-      start = after 0 0 (host_of config) (blank around first_memory);
+      start = start config;
       begins = begins config;
       runs = runs config;
     } in

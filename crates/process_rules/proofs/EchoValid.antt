@@ -1,5 +1,5 @@
 -- The body of `echo`, and that `echo` is valid.
-use Rattle.std.proofs.Common.{inl, List, [], ◌∷◌, None, refl, lit<, lit≤}
+use Rattle.std.proofs.Common.{inl, arith, List, [], ◌∷◌, None, refl, lit<, lit≤}
 use Rattle.wasm_syntax.specs.declared.types.ValueType.{ValueType}
 use Rattle.wasm_syntax.specs.declared.types.ValueType.TheVariants.{I32}
 use Rattle.wasm_syntax.specs.declared.types.FunctionType.{FunctionType}
@@ -11,9 +11,10 @@ use Rattle.wasm_syntax.specs.declared.instruction.Instruction.TheVariants as ins
 use Rattle.wasm_syntax.specs.rules.Sequence.{Sequence, Stop, Plain, InLoop, Spells}
 use Rattle.wasm_syntax.specs.laws.Examples.{echo, echo_body, no_type, transfer_type, one_page}
 use Rattle.wasm_rules.specs.laws.Examples.{const_32}
-use Rattle.wasm_rules.specs.Typing.{Context, HasType, HasMemory, body_context}
+use Rattle.wasm_rules.specs.Typing.{Context, HasMemory, body_context}
 use Rattle.wasm_rules.specs.Validity.{IsValid, module_context}
-use Rattle.process_rules.proofs.ExamplesValid.{page_is_valid, names_differ}
+use Rattle.process_rules.proofs.ExamplesValid.{page_is_valid, names_differ, IsTyped, constant}
+use Rattle.process_rules.proofs.ExamplesValid.{drops, calls}
 
 -- ---- the body
 
@@ -47,56 +48,7 @@ abbrev pub looping : Sequence
 looping = InLoop None round Stop
 
 pub echo_spells : Spells echo_body looping
-echo_spells =
-    record {
-      is = refl;
-      nested = (
-        (
-          tt,
-          (
-            tt,
-            (
-              tt,
-              (
-                tt,
-                (
-                  tt,
-                  (
-                    tt,
-                    (
-                      tt,
-                      (
-                        tt,
-                        (
-                          tt,
-                          (
-                            tt,
-                            (
-                              tt,
-                              (
-                                tt,
-                                (
-                                  tt,
-                                  (
-                                    tt,
-                                    (tt, (tt, (tt, (tt, (tt, (tt, (tt, tt))))))),
-                                  ),
-                                ),
-                              ),
-                            ),
-                          ),
-                        ),
-                      ),
-                    ),
-                  ),
-                ),
-              ),
-            ),
-          ),
-        ),
-        tt,
-      );
-    }
+echo_spells = record { is = refl; nested = omega arith }
 
 -- ---- its type
 
@@ -106,138 +58,40 @@ functions = transfer_type ∷ transfer_type ∷ no_type ∷ []
 abbrev in_body : Context
 in_body = body_context (module_context echo functions) no_type []
 
--- inside of the loop, with these operands, to none
-abbrev IsTyped : Sequence → List ValueType → Type 0
-IsTyped rest operands = HasType in_body ([] ∷ [] ∷ []) rest operands []
-
 has_memory : HasMemory in_body
 has_memory = (one_page, refl)
 
-again_typed : IsTyped again (I32 ∷ [])
-again_typed =
-    (I32 ∷ [], [], [], refl, (I32, refl, refl), ([], [], [], refl, ([], [], refl, refl), refl))
+-- inside of the loop, from these operands to none
+abbrev IsLooping : Sequence → List ValueType → Type 0
+IsLooping = IsTyped in_body ([] ∷ [] ∷ [])
 
-write_typed : IsTyped (Plain (instr.Call 1) again) (I32 ∷ I32 ∷ I32 ∷ I32 ∷ [])
-write_typed = (
-  I32 ∷ I32 ∷ I32 ∷ I32 ∷ [],
-  I32 ∷ [],
-  [],
-  refl,
-  (transfer_type, refl, refl, refl),
-  again_typed,
-)
+again_typed : IsLooping again (I32 ∷ [])
+again_typed = drops (record { is = ([], [], [], refl, ([], [], refl, refl), refl) })
 
-writing_typed : IsTyped writing []
-writing_typed = (
-  [],
-  I32 ∷ [],
-  [],
-  refl,
-  (I32, lit< tt, refl, refl),
-  (
-    [],
-    I32 ∷ [],
-    I32 ∷ [],
-    refl,
-    (I32, lit< tt, refl, refl),
-    (
-      [],
-      I32 ∷ [],
-      I32 ∷ I32 ∷ [],
-      refl,
-      (I32, lit< tt, refl, refl),
-      ([], I32 ∷ [], I32 ∷ I32 ∷ I32 ∷ [], refl, (I32, lit< tt, refl, refl), write_typed),
-    ),
-  ),
-)
+loads : {rest : Sequence} {operands : List ValueType} → IsLooping rest (I32 ∷ operands)
+    → IsLooping (Plain load_there rest) (I32 ∷ operands)
+loads {operands = operands} typed = record {
+  is = (I32 ∷ [], I32 ∷ [], operands, refl, (has_memory, lit≤ tt, refl, refl), typed.is);
+}
 
-store_typed : IsTyped (Plain store_there writing) (I32 ∷ I32 ∷ [])
-store_typed = (I32 ∷ I32 ∷ [], [], [], refl, (has_memory, lit≤ tt, refl, refl), writing_typed)
+stores : {rest : Sequence} → IsLooping rest [] → IsLooping (Plain store_there rest) (I32 ∷ I32 ∷ [])
+stores typed =
+    record { is = (I32 ∷ I32 ∷ [], [], [], refl, (has_memory, lit≤ tt, refl, refl), typed.is) }
 
-copying_typed : IsTyped copying []
-copying_typed = (
-  [],
-  I32 ∷ [],
-  [],
-  refl,
-  (I32, lit< tt, refl, refl),
-  (
-    [],
-    I32 ∷ [],
-    I32 ∷ [],
-    refl,
-    (I32, lit< tt, refl, refl),
-    (I32 ∷ [], I32 ∷ [], I32 ∷ [], refl, (has_memory, lit≤ tt, refl, refl), store_typed),
-  ),
-)
+tests : {rest : Sequence} → IsLooping rest (I32 ∷ [])
+    → IsLooping (Plain (instr.Eqz I32) rest) (I32 ∷ [])
+tests typed = record { is = (I32 ∷ [], I32 ∷ [], [], refl, (refl, refl), typed.is) }
 
-test_typed : IsTyped (Plain (instr.Eqz I32) (Plain (instr.BrIf 1) copying)) (I32 ∷ [])
-test_typed = (
-  I32 ∷ [],
-  I32 ∷ [],
-  [],
-  refl,
-  (refl, refl),
-  (
-    I32 ∷ [],
-    [],
-    [],
-    refl,
-    ([], refl, refl, refl),
-    copying_typed,
-  ),
-)
+leaves : {rest : Sequence} → IsLooping rest [] → IsLooping (Plain (instr.BrIf 1) rest) (I32 ∷ [])
+leaves typed = record { is = (I32 ∷ [], [], [], refl, ([], refl, refl, refl), typed.is) }
 
-testing_typed : IsTyped testing (I32 ∷ [])
-testing_typed = (
-  I32 ∷ [],
-  [],
-  [],
-  refl,
-  (I32, refl, refl),
-  (
-    [],
-    I32 ∷ [],
-    [],
-    refl,
-    (I32, lit< tt, refl, refl),
-    (I32 ∷ [], I32 ∷ [], [], refl, (has_memory, lit≤ tt, refl, refl), test_typed),
-  ),
-)
-
-read_typed : IsTyped (Plain (instr.Call 0) testing) (I32 ∷ I32 ∷ I32 ∷ I32 ∷ [])
-read_typed = (
-  I32 ∷ I32 ∷ I32 ∷ I32 ∷ [],
-  I32 ∷ [],
-  [],
-  refl,
-  (transfer_type, refl, refl, refl),
-  testing_typed,
-)
-
-round_typed : IsTyped round []
-round_typed = (
-  [],
-  I32 ∷ [],
-  [],
-  refl,
-  (I32, lit< tt, refl, refl),
-  (
-    [],
-    I32 ∷ [],
-    I32 ∷ [],
-    refl,
-    (I32, lit< tt, refl, refl),
-    (
-      [],
-      I32 ∷ [],
-      I32 ∷ I32 ∷ [],
-      refl,
-      (I32, lit< tt, refl, refl),
-      ([], I32 ∷ [], I32 ∷ I32 ∷ I32 ∷ [], refl, (I32, lit< tt, refl, refl), read_typed),
-    ),
-  ),
-)
+round_typed : IsLooping round []
+round_typed =
+    constant 0 (lit< tt) (constant 0 (lit< tt) (constant 1 (lit< tt) (constant 16 (lit< tt)
+    (calls transfer_type refl (drops (constant 16 (lit< tt) (loads (tests (leaves
+    (constant 12 (lit< tt) (constant 16 (lit< tt) (loads (stores
+    (constant 1 (lit< tt) (constant 8 (lit< tt) (constant 1 (lit< tt) (constant 20 (lit< tt)
+    (calls transfer_type refl again_typed))))))))))))))))))
 
 -- ---- the module
 
@@ -246,7 +100,7 @@ echo_is_valid = record {
   functions = functions;
   types = (lit≤ tt, (lit≤ tt, tt));
   function_types = (refl, (refl, (refl, tt)));
-  bodies = ((no_type, looping, refl, echo_spells, (round_typed, refl)), tt);
+  bodies = ((no_type, looping, refl, echo_spells, (round_typed.is, refl)), tt);
   tables = tt;
   memories = page_is_valid;
   globals = tt;
@@ -254,32 +108,7 @@ echo_is_valid = record {
   names = names_differ 2;
   start = tt;
   elements = tt;
-  data_segments = (
-    (
-      lit< tt,
-      inl (value.I32 0, lit< tt, refl),
-      (
-        lit< tt,
-        (
-          lit< tt,
-          (
-            lit< tt,
-            (
-              lit< tt,
-              (
-                lit< tt,
-                (
-                  lit< tt,
-                  (lit< tt, (lit< tt, (lit< tt, (lit< tt, (lit< tt, (lit< tt, tt)))))),
-                ),
-              ),
-            ),
-          ),
-        ),
-      ),
-    ),
-    tt,
-  );
+  data_segments = ((lit< tt, inl (value.I32 0, lit< tt, refl), omega arith), tt);
   one_table = lit≤ tt;
   one_memory = lit≤ tt;
 }

@@ -1,6 +1,6 @@
 -- The worked examples hold.
 use Rattle.std.proofs.Common.{◌≡◌, inl, subst, codes, ℕ, ◌+◌, List, [], ◌∷◌, replicate, Some, None}
-use Rattle.std.proofs.Common.{Ok, refl}
+use Rattle.std.proofs.Common.{refl, sym, ap, ◌∙◌, arith}
 use Rattle.wasm_syntax.specs.declared.value.Value.{Value}
 use Rattle.wasm_syntax.specs.declared.value.Trap.TheVariants as trap
 use Rattle.wasm_syntax.specs.declared.instruction.Instruction.{Instruction}
@@ -9,19 +9,18 @@ use Rattle.wasm_syntax.specs.rules.Sequence.{Sequence, Stop, Plain, Spells}
 use Rattle.wasm_syntax.specs.laws.Examples.{hello, idle, idle_with_code, no_type}
 use Rattle.wasm_rules.specs.Configuration.{Own, Configuration, Thread, LabelOf, FrameOf, Main}
 use Rattle.wasm_rules.specs.laws.Examples.{program_of_hello as hello_program, hello_sequence}
-use Rattle.wasm_rules.specs.laws.Examples.{in_hello, rest_behind_call, const_32, v}
+use Rattle.wasm_rules.specs.laws.Examples.{in_hello, rest_behind_call, v}
 use Rattle.wasm_rules.specs.Instantiation.{filled_memory, empty_memory}
 use Rattle.wasm_rules.specs.Steps.{ReducesTo, here, on}
 use Rattle.wasm_rules.specs.Validity.{IsValid, memories_of}
 use Rattle.wasi_abi.specs.declared.call.Call.TheVariants as call
 use Rattle.wasi_abi.specs.rules.Configs.{Settings}
-use Rattle.wasi_calls_rules.specs.WasiStates.{Line}
+use Rattle.wasi_calls_rules.specs.WasiStates.{Line, WasiState}
 use Rattle.wasi_calls_rules.specs.declared.output_stream.OutputStream.TheVariants.{Stdout}
 use Rattle.wasi_calls_rules.specs.Checks.{Bytes}
-use Rattle.wasi_calls_rules.specs.CallRules.{call_rule}
 use Rattle.process_rules.specs.Processes.{ProcessState, Guest, Exited, Trapped, IsStart, host_of}
 use Rattle.process_rules.specs.Processes.{closed}
-use Rattle.process_rules.specs.Runs.{Moves, Runs, Reaches, none, step}
+use Rattle.process_rules.specs.Runs.{On, next_of, LeadsTo, Moves, Runs, Reaches, none, step}
 use Rattle.process_rules.specs.laws.Examples.{ComesTo, at_rest, HelloEnds, hello_memory, hello_end}
 use Rattle.process_rules.specs.laws.Examples.{page_of_zeros, idle_end, IdleEnds, trapping}
 use Rattle.process_rules.specs.laws.Examples.{trapping_end, TrappingEnds}
@@ -45,32 +44,25 @@ pub filled : filled_memory [] hello.data_segments (empty_memory (memories_of hel
 unfolding first_memory
 filled = refl
 
--- the call that writes the line
-written : (config : Settings)
-    → call_rule call.FdWrite (1 ∷ 0 ∷ 1 ∷ 16 ∷ []) None first_memory (host_of config)
-    ≡ Ok (record { memory = last_memory; host = record (host_of config) { lines = hi_line ∷ [] } })
-unfolding first_memory last_memory
-written config = refl
-
 abbrev pub guest_of : Settings → Guest
 guest_of config = record {
   program = record hello_program { most_pages = config.pages };
   calls = call.FdWrite ∷ call.ProcExit ∷ [];
 }
 
--- inside of `_start` after n steps
-abbrev pub after : Settings → ℕ → Bytes → List Line → List Value → Sequence → ProcessState
-after config n memory lines values rest = record {
+-- inside of `_start` after n steps, with this host and so many answers and requests
+abbrev pub within : WasiState → ℕ → ℕ → ℕ → Bytes → List Value → Sequence → ProcessState
+within h answers requests n memory values rest = record {
   configuration = in_hello (record { memory = memory; globals = []; table = [] }) values rest;
-  host = record (host_of config) { lines = lines };
+  host = h;
   steps = n;
-  answers = 0;
-  requests = 0;
+  answers = answers;
+  requests = requests;
   ended = None;
 }
 
 abbrev pub first : Settings → ProcessState
-first config = after config 0 first_memory [] [] hello_sequence
+first config = within (host_of config) 0 0 0 first_memory [] hello_sequence
 
 abbrev pub last : Settings → Bytes → ProcessState
 last config memory = record (hello_end config) { configuration = at_rest memory }
@@ -95,49 +87,47 @@ begins config = record {
   is = refl;
 }
 
--- a constant in front of another instruction is a step
-pub constant : (config : Settings) (n : ℕ) (memory : Bytes) (lines : List Line)
-    (values : List Value) (x : ℕ) (i : Instruction) (rest : Sequence)
-    → Moves (guest_of config) (after config n memory lines values
-    (Plain (const_32 x) (Plain i rest))) None (after config (n + 1) memory lines (v x
-    ∷ values) (Plain i rest))
-constant config n memory lines values x i rest = record {
-  running = refl;
-  wanted = tt;
-  leads = (_, here refl, refl);
-}
+-- an instruction after which `_start` goes on, without an answer
+pub goes_on : (config : Settings) {h h' : WasiState} {answers requests n : ℕ} {m m' : Bytes}
+    {values values' : List Value} {i j : Instruction} {rest rest' : Sequence}
+    → next_of (guest_of config) (within h answers requests n m values (Plain i rest)) None
+    ≡ On (in_hello (record { memory = m'; globals = []; table = [] }) values' (Plain j rest')) h'
+    → Moves (guest_of config) (within h answers requests n m values (Plain i rest)) None
+    (within h' answers requests (n + 1) m' values' (Plain j rest'))
+goes_on config {h = h} {h' = h'} {answers = answers} {requests = requests} {n = n} {m = m}
+    {m' = m'} {values = values} {values' = values'} {i = i} {j = j} {rest = rest} {rest' = rest'}
+    e =
+    let before : ProcessState = within h answers requests n m values (Plain i rest) in
+    let behind : ℕ → ℕ → ProcessState =
+    λ a r. within h' a r (n + 1) m' values' (Plain j rest') in
+    let same : behind answers requests ≡ behind (answers + 0) (requests + 0) =
+    ap (λ a. behind a requests) (no_more answers) ∙ ap (behind (answers + 0)) (no_more requests) in
+    record {
+      running = refl;
+      wanted = tt;
+      leads = subst (λ z. LeadsTo (guest_of config) z None before (behind answers requests))
+          (sym e) (_, here refl, same);
+    }
+  where
+    no_more : (a : ℕ) → a ≡ a + 0
+    no_more a = omega arith
 
+-- the call that writes the line
 pub writes : (config : Settings)
-    → Moves (guest_of config) (after config 4 first_memory [] (v 16 ∷ v 1 ∷ v 0 ∷ v 1
-    ∷ []) (Plain (instr.Call 0) rest_behind_call)) None (after config 5 last_memory (hi_line
-    ∷ []) (v 0 ∷ []) rest_behind_call)
-writes config = record {
-  running = refl;
-  wanted = tt;
-  leads = rw (written config) (_, here refl, refl);
-}
-
-pub drops : (config : Settings)
-    → Moves (guest_of config) (after config 5 last_memory (hi_line ∷ []) (v 0
-    ∷ []) rest_behind_call) None (after config 6 last_memory (hi_line
-    ∷ []) [] (Plain (const_32 7) (Plain (instr.Call 1) Stop)))
-drops config = record { running = refl; wanted = tt; leads = (_, here refl, refl) }
-
-pub exits : (config : Settings)
-    → Moves (guest_of config) (after config 7 last_memory (hi_line ∷ []) (v 7
-    ∷ []) (Plain (instr.Call 1) Stop)) None (last config last_memory)
-exits config = record { running = refl; wanted = tt; leads = refl }
+    → next_of (guest_of config) (within (host_of config) 0 0 4 first_memory (v 16 ∷ v 1 ∷ v 0 ∷ v 1
+    ∷ []) (Plain (instr.Call 0) rest_behind_call)) None
+    ≡ On (in_hello (record { memory = last_memory; globals = []; table = [] }) (v 0 ∷ [])
+    rest_behind_call) (record (host_of config) { lines = hi_line ∷ [] })
+unfolding first_memory last_memory
+writes config = refl
 
 pub eight : (config : Settings)
     → Runs (guest_of config) (first config) [] 8 (last config last_memory)
 eight config =
-    step (constant config 0 first_memory [] _ 1 _ _)
-    (step (constant config 1 first_memory [] _ 0 _ _)
-    (step (constant config 2 first_memory [] _ 1 _ _)
-    (step (constant config 3 first_memory [] _ 16 _ _)
-    (step (writes config)
-    (step (drops config) (step (constant config 6 last_memory (hi_line ∷ []) _ 7 _ _)
-    (step (exits config) none)))))))
+    step (goes_on config refl) (step (goes_on config refl)
+    (step (goes_on config refl) (step (goes_on config refl)
+    (step (goes_on config (writes config)) (step (goes_on config refl) (step (goes_on config refl)
+    (step (record { running = refl; wanted = tt; leads = refl }) none)))))))
 
 pub all_memory : last_memory ≡ hello_memory
 unfolding last_memory

@@ -1,7 +1,9 @@
 -- The modules of the worked examples are valid.
 use Rattle.std.proofs.Common.{◌≡◌, inl, ℕ, ◌==◌, true, false, get_or, codes, ap, List, [], ◌∷◌}
-use Rattle.std.proofs.Common.{refl, lit<, lit≤}
+use Rattle.std.proofs.Common.{◌++◌, ◌<◌, ◌^◌, Some, refl, lit<, lit≤, arith}
+use Rattle.std.specs.Prelude.{slice_get}
 use Rattle.std.specs.List.{AllByRecursion}
+use Rattle.wasm_syntax.specs.declared.types.ValueType.{ValueType}
 use Rattle.wasm_syntax.specs.declared.types.ValueType.TheVariants.{I32}
 use Rattle.wasm_syntax.specs.declared.types.FunctionType.{FunctionType}
 use Rattle.wasm_syntax.specs.declared.value.Value.TheVariants as value
@@ -11,7 +13,8 @@ use Rattle.wasm_syntax.specs.rules.Sequence.{Sequence, Stop, Plain, Spells}
 use Rattle.wasm_syntax.specs.laws.Examples.{hello, hello_body as hello_opcodes, idle_with_code}
 use Rattle.wasm_syntax.specs.laws.Examples.{no_type, transfer_type, exit_type, one_page}
 use Rattle.wasm_syntax.specs.laws.Examples.{exports_from}
-use Rattle.wasm_rules.specs.laws.Examples.{hello_sequence, rest_behind_call}
+use Rattle.wasm_rules.specs.laws.Examples.{hello_sequence, const_32}
+use Rattle.wasm_rules.specs.Types.{takes_of, gives_of}
 use Rattle.wasm_rules.specs.Typing.{Context, HasType, body_context}
 use Rattle.wasm_rules.specs.Validity.{IsValid, IsMemoryTypeValid, HaveDistinctNames, module_context}
 
@@ -25,78 +28,58 @@ names_differ function = (((λ e. absurd (begin_alike e)), tt), (tt, tt))
     begin_alike e = let alike : true ≡ false = ap (λ (name : List ℕ). get_or name 0 0 == 95) e in
         absurd (cc)
 
+-- ---- types of sequences, from their ends to their beginnings
+
+-- in this context, inside of these labels, from these operands to none
+pub record IsTyped (c : Context) (labels : List (List ValueType)) (rest : Sequence)
+    (operands : List ValueType) : Type 0 where
+  pub is : HasType c labels rest operands []
+
+pub stops : {c : Context} {labels : List (List ValueType)} → IsTyped c labels Stop []
+stops = record { is = refl }
+
+pub constant : {c : Context} {labels : List (List ValueType)} (x : ℕ) {rest : Sequence}
+    {operands : List ValueType} → x < 2 ^ 32 → IsTyped c labels rest (I32 ∷ operands)
+    → IsTyped c labels (Plain (const_32 x) rest) operands
+constant x {operands = operands} small typed = record {
+  is = ([], I32 ∷ [], operands, refl, (I32, small, refl, refl), typed.is);
+}
+
+pub drops : {c : Context} {labels : List (List ValueType)} {rest : Sequence}
+    {operands : List ValueType} → IsTyped c labels rest operands
+    → IsTyped c labels (Plain instr.Drop rest) (I32 ∷ operands)
+drops {operands = operands} typed = record {
+  is = (I32 ∷ [], [], operands, refl, (I32, refl, refl), typed.is);
+}
+
+-- a call of a function of this type, above no further operands
+pub calls : {c : Context} {labels : List (List ValueType)} {x : ℕ} {rest : Sequence}
+    (f : FunctionType) → slice_get c.functions x ≡ Some f
+    → IsTyped c labels rest (gives_of f ++ [])
+    → IsTyped c labels (Plain (instr.Call x) rest) (takes_of f ++ [])
+calls f found typed =
+    record { is = (takes_of f, gives_of f, [], refl, (f, found, refl, refl), typed.is) }
+
 -- ---- hello
 
 pub hello_spells : Spells hello_opcodes hello_sequence
-hello_spells = record { is = refl; nested = (tt, (tt, (tt, (tt, (tt, (tt, (tt, (tt, tt)))))))) }
+hello_spells = record { is = refl; nested = omega arith }
 
 abbrev pub functions : List FunctionType
 functions = transfer_type ∷ exit_type ∷ no_type ∷ []
 
-abbrev in_body : Context
-in_body = body_context (module_context hello functions) no_type []
-
-exit_has_type : HasType in_body ([] ∷ []) (Plain (instr.Call 1) Stop) (I32 ∷ []) []
-exit_has_type = (I32 ∷ [], [], [], refl, (exit_type, refl, refl, refl), refl)
-
-behind_has_type : HasType in_body ([] ∷ []) rest_behind_call (I32 ∷ []) []
-behind_has_type = (
-  I32 ∷ [],
-  [],
-  [],
-  refl,
-  (I32, refl, refl),
-  (
-    [],
-    I32 ∷ [],
-    [],
-    refl,
-    (I32, lit< tt, refl, refl),
-    exit_has_type,
-  ),
-)
-
-call_has_type : HasType in_body ([] ∷ []) (Plain (instr.Call 0) rest_behind_call) (I32 ∷ I32 ∷ I32
-    ∷ I32 ∷ []) []
-call_has_type = (
-  I32 ∷ I32 ∷ I32 ∷ I32 ∷ [],
-  I32 ∷ [],
-  [],
-  refl,
-  (transfer_type, refl, refl, refl),
-  behind_has_type,
-)
-
-hello_has_type : HasType in_body ([] ∷ []) hello_sequence [] []
-hello_has_type = (
-  [],
-  I32 ∷ [],
-  [],
-  refl,
-  (I32, lit< tt, refl, refl),
-  (
-    [],
-    I32 ∷ [],
-    I32 ∷ [],
-    refl,
-    (I32, lit< tt, refl, refl),
-    (
-      [],
-      I32 ∷ [],
-      I32 ∷ I32 ∷ [],
-      refl,
-      (I32, lit< tt, refl, refl),
-      ([], I32 ∷ [], I32 ∷ I32 ∷ I32 ∷ [], refl, (I32, lit< tt, refl, refl), call_has_type),
-    ),
-  ),
-)
+hello_typed : IsTyped (body_context (module_context hello functions) no_type []) ([] ∷ [])
+    hello_sequence []
+hello_typed =
+    constant 1 (lit< tt) (constant 0 (lit< tt) (constant 1 (lit< tt) (constant 16 (lit< tt)
+    (calls transfer_type refl (drops (constant 7 (lit< tt) (calls exit_type refl stops)))))))
 
 pub hello_is_valid : IsValid hello
 hello_is_valid = record {
   functions = functions;
   types = (lit≤ tt, (lit≤ tt, (lit≤ tt, tt)));
   function_types = (refl, (refl, (refl, tt)));
-  bodies = ((no_type, hello_sequence, refl, hello_spells, hello_has_type), tt);
+  bodies = ((no_type, hello_sequence, refl, hello_spells, hello_typed.is), tt);
   tables = tt;
   memories = page_is_valid;
   globals = tt;
@@ -104,26 +87,7 @@ hello_is_valid = record {
   names = names_differ 2;
   start = tt;
   elements = tt;
-  data_segments = (
-    (
-      lit< tt,
-      inl (value.I32 0, lit< tt, refl),
-      (
-        lit< tt,
-        (
-          lit< tt,
-          (
-            lit< tt,
-            (
-              lit< tt,
-              (lit< tt, (lit< tt, (lit< tt, (lit< tt, (lit< tt, (lit< tt, (lit< tt, tt))))))),
-            ),
-          ),
-        ),
-      ),
-    ),
-    tt,
-  );
+  data_segments = ((lit< tt, inl (value.I32 0, lit< tt, refl), omega arith), tt);
   one_table = lit≤ tt;
   one_memory = lit≤ tt;
 }

@@ -287,34 +287,22 @@ step_bytes program c h = by_thread c.thread where
 
 -- ---- administrative steps
 
+-- what becomes the thread leaves the store
+of_thread : (o : Option Thread) (later : List ℕ) (store : Store) (d : Configuration)
+    → option_map (λ (thread : Thread).
+    record { store = store; thread = thread; later = later }) o ≡ Some d → d.store ≡ store
+of_thread None later store d e = absurd (cc)
+of_thread (Some thread) later store d e =
+    let same : record { store = store; thread = thread; later = later } ≡ d = cc in
+    ap (λ (x : Configuration). x.store) (sym same)
+
 exited_store : (program : Program) (thread : Thread) (later : List ℕ) (store : Store)
     (d : Configuration) → exited_by program thread later store ≡ Some d → d.store ≡ store
 exited_store program [] [] store d e = absurd (cc)
 exited_store program [] (f ∷ later) store d e =
-    by_thread (begun (slice_get program.functions f) f) e where
-      by_thread : (o : Option Thread)
-          → option_map (λ (thread : Thread).
-          record { store = store; thread = thread; later = later }) o ≡ Some d
-          → d.store ≡ store
-      by_thread None e = absurd (cc)
-      by_thread (Some thread) e = kept d thread e where
-        kept : (d : Configuration) (thread : Thread)
-            → Some (record { store = store; thread = thread; later = later }) ≡ Some d
-            → d.store ≡ store
-        kept d thread e =
-            let same : record { store = store; thread = thread; later = later } ≡ d = cc in
-            ap (λ (x : Configuration). x.store) (sym same)
+    of_thread (begun (slice_get program.functions f) f) later store d e
 exited_store program (FrameOf f ls labels vs rest ∷ frames) later store d e =
-    by_thread (exited rest f ls labels vs frames) e
-  where
-    by_thread : (o : Option Thread)
-        → option_map (λ (thread : Thread).
-        record { store = store; thread = thread; later = later }) o ≡ Some d
-        → d.store ≡ store
-    by_thread None e = absurd (cc)
-    by_thread (Some thread) e =
-        let same : record { store = store; thread = thread; later = later } ≡ d = cc in
-        ap (λ (x : Configuration). x.store) (sym same)
+    of_thread (exited rest f ls labels vs frames) later store d e
 
 pub reduced_store : (program : Program) (c d : Configuration) → ReducesTo program c d
     → d.store ≡ c.store

@@ -36,18 +36,16 @@ one_or_other guest p q r a x y =
 -- What widens a process first comes no earlier than where the run begins.
 pub starts_by : (guest : Guest) (p q : ProcessState) (whole kept : List Kept) (n steps : ℕ)
     → Runs guest p whole n q → whole ≡ Wider steps ∷ kept → p.steps ≤ steps
-starts_by guest p q whole kept n steps none e = absurd (cc)
 starts_by guest p q whole kept n steps
     (step {p = p'} {q = next} {kept = whole'} {n = m} moves rest) e =
     let later = starts_by guest next q whole' kept m steps rest e in
     let counted = move_counts guest p' next None moves in
     omega (arith, later, counted)
-starts_by guest p q whole kept n steps (take moves rest) e = absurd (cc)
 starts_by guest p q whole kept n steps (widen {p = p'} {steps = s} at rest) e =
     let same : s ≡ steps = cc in
     let here = at.at in
     omega (arith, same, here)
-starts_by guest p q whole kept n steps (succeed at sum rest) e = absurd (cc)
+starts_by guest p q whole kept n steps _ e = absurd (cc)
 
 -- Where a process is widened, no step comes before that.
 pub never_late : (guest : Guest) (p q r : ProcessState) (whole : List Kept) (n : ℕ)
@@ -71,14 +69,11 @@ pub record GoesOnFrom (guest : Guest) (o : Origin) (p : ProcessState) (kept : Li
 pub succeeds_first : (guest : Guest) (p q : ProcessState) (whole kept : List Kept) (n : ℕ)
     (o : Origin) → Runs guest p whole n q → whole ≡ Succeeds o ∷ kept
     → GoesOnFrom guest o p kept n q
-succeeds_first guest p q whole kept n o none e = absurd (cc)
 succeeds_first guest p q whole kept n o
     (step {p = p'} {q = next} {kept = whole'} {n = m} moves rest) e =
     let later = (succeeds_first guest next q whole' kept m o rest e).succeeds.no_steps in
     let counted = move_counts guest p' next None moves in
     absurd (omega (arith, later, counted))
-succeeds_first guest p q whole kept n o (take moves rest) e = absurd (cc)
-succeeds_first guest p q whole kept n o (widen at rest) e = absurd (cc)
 succeeds_first guest p q whole kept n o
     (succeed {p = p'} {o = from} {kept = kept'} {k = k} at sum rest) e =
     let origins : from ≡ o = cc in
@@ -89,6 +84,7 @@ succeeds_first guest p q whole kept n o
       sum = sum;
       runs = subst (λ z. Runs guest (succeeding from p') z k q) others rest;
     })
+succeeds_first guest p q whole kept n o _ e = absurd (cc)
 
 -- So no step comes before it.
 pub never_then : (guest : Guest) (p q r : ProcessState) (whole : List Kept) (n : ℕ) {o : Origin}
@@ -177,11 +173,9 @@ no_step_first guest p q r other (Wider t ∷ kept) whole m s steps here rest e a
 succeeds_not_late : (guest : Guest) (p q r : ProcessState) (kept : List Kept) (m steps : ℕ)
     {o : Origin} {whole : List Kept} → Moves guest p None q → Runs guest q kept m r
     → Succeeds o ∷ whole ≡ kept ++ Wider steps ∷ [] → ⊥
-succeeds_not_late guest p q r [] m steps moves rest e = cc
-succeeds_not_late guest p q r (Given a ∷ kept) m steps moves rest e = cc
-succeeds_not_late guest p q r (Wider s ∷ kept) m steps moves rest e = cc
 succeeds_not_late guest p q r (Succeeds from ∷ kept) m steps moves rest e =
     never_then guest p q r (Succeeds from ∷ kept) m moves rest refl
+succeeds_not_late guest p q r _ m steps moves rest e = cc
 
 -- as the law, for a whole list of answers
 widening_from : (guest : Guest) (p q r : ProcessState) (whole kept : List Kept) (n steps : ℕ)

@@ -17,7 +17,6 @@ use Rattle.wasm_rules.proofs.OneProgram.{one_program}
 use Rattle.wasm_rules.proofs.OneRun.{reduces_once}
 use Rattle.wasm_rules.proofs.OneStore.{store_once}
 use Rattle.wasi_abi.specs.declared.call.Call.{Call}
-use Rattle.wasi_abi.specs.declared.call.Call.TheVariants as call
 use Rattle.wasi_abi.specs.rules.Configs.{Settings}
 use Rattle.wasi_abi.specs.rules.Calls.{name_of}
 use Rattle.file_tree.specs.rules.Files.{is_same_name}

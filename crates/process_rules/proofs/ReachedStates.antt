@@ -97,16 +97,7 @@ step_follows guest (Asks f arguments waits) given before h =
 step_follows guest Stuck given before h = tt
 
 ended_follows : (g h : WasiState) → Follows g h → Follows g (lines_ended h)
-ended_follows g h f = record {
-  configured = record {
-    room = f.configured.room;
-    arguments = f.configured.arguments;
-    environment = f.configured.environment;
-  };
-  version = f.version;
-  nodes = record { least = f.nodes.least; most = f.nodes.most };
-  input = f.input;
-}
+ended_follows g h f = search
 
 closed_follows : (thread : Thread) (later : List ℕ) (g : WasiState) (p : ProcessState)
     → Follows g p.host → Follows g (closed_at thread later p).host
@@ -392,28 +383,7 @@ step_holds guest (Asks f arguments waits) given before h b k =
 step_holds guest Stuck given before h b k = tt
 
 ended_holds : (memory : List ℕ) (h : WasiState) → Holds memory h → Holds memory (lines_ended h)
-ended_holds memory h k = record {
-  memory_bytes = k.memory_bytes;
-  of_bytes = record {
-    files = k.of_bytes.files;
-    unread = k.of_bytes.unread;
-    arguments = k.of_bytes.arguments;
-    environment = k.of_bytes.environment;
-  };
-  host = record {
-    files = k.host.files;
-    within = k.host.within;
-    places = k.host.places;
-    descriptors = k.host.descriptors;
-    streams = k.host.streams;
-    root = k.host.root;
-    unread = k.host.unread;
-    last_monotonic = k.host.last_monotonic;
-    first = nothing_unfinished;
-    second = nothing_unfinished;
-    open_nodes = k.host.open_nodes;
-  };
-}
+ended_holds memory h k = search nothing_unfinished
 
 abbrev pub ProcessHolds : ProcessState → Type 0
 ProcessHolds p = Holds p.configuration.store.memory p.host
@@ -447,30 +417,13 @@ move_holds guest p q given moves k =
     (step_bytes guest.program p.configuration k.memory_bytes) k) moves.leads
 
 pub widened_holds : (p : ProcessState) → ProcessHolds p → ProcessHolds (widened p)
-widened_holds p k = record {
-  memory_bytes = k.memory_bytes;
-  of_bytes = record {
-    files = k.of_bytes.files;
-    unread = k.of_bytes.unread;
-    arguments = k.of_bytes.arguments;
-    environment = k.of_bytes.environment;
-  };
-  host = of_any_version p.host Two k.host;
-}
+widened_holds p k = search (of_any_version p.host Two k.host)
 
 pub succeeding_holds : (o : Origin) (p : ProcessState) → IsSucceeding o p → ProcessHolds p
     → ProcessHolds (succeeding o p)
-succeeding_holds o p at k = record {
-  memory_bytes = k.memory_bytes;
-  of_bytes = record {
-    files = at.origin.of_bytes;
-    unread = k.of_bytes.unread;
-    arguments = k.of_bytes.arguments;
-    environment = k.of_bytes.environment;
-  };
-  host = of_files_left p.host o.files o.lines o.last_monotonic k.host at.opened at.origin.files
-      at.origin.named at.origin.within at.origin.time;
-}
+succeeding_holds o p at k =
+    search (of_files_left p.host o.files o.lines o.last_monotonic k.host at.opened at.origin.files
+    at.origin.named at.origin.within at.origin.time)
 
 runs_hold : (guest : Guest) (p q : ProcessState) (kept : List Kept) (n : ℕ) → Runs guest p kept n q
     → ProcessHolds p → ProcessHolds q

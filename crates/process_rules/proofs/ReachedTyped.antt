@@ -64,9 +64,6 @@ first_typed : (m : Module) (o : Option FunctionType) (c : Call) (item : ImportIt
     → AreCallees m (with_function_index item (imported_functions imports)) own callees
     → slice_get callees 0 ≡ Some (Imported signature) → signature ≡ call_type_of c
 first_typed m None c item imports own callees signature named h a e = absurd h
-first_typed m (Some k) c (import.Table t) imports own callees signature named h a e = absurd h
-first_typed m (Some k) c (import.Memory t) imports own callees signature named h a e = absurd h
-first_typed m (Some k) c (import.Global t) imports own callees signature named h a e = absurd h
 first_typed m (Some k) c (import.Function x) imports own [] signature named h a e = absurd a
 first_typed m (Some k) c (import.Function x) imports own (Own l declared body
     ∷ callees) signature named
@@ -76,6 +73,7 @@ first_typed m (Some k) c (import.Function x) imports own (Imported l
     let there = a.0 in
     let same : k ≡ signature = cc in
     sym same ∙ named k refl
+first_typed m (Some k) c _ imports own callees signature named h a e = absurd h
 
 -- the callees after one import
 others_there : (m : Module) (o : Option FunctionType) (item : ImportItem) (imports : List Import)
@@ -84,14 +82,12 @@ others_there : (m : Module) (o : Option FunctionType) (item : ImportItem) (impor
     → (others : List Callee) × AreCallees m (imported_functions imports) own others
     × ((f : ℕ) → slice_get callees (suc f) ≡ slice_get others f)
 others_there m None item imports own callees h a = absurd h
-others_there m (Some k) (import.Table t) imports own callees h a = absurd h
-others_there m (Some k) (import.Memory t) imports own callees h a = absurd h
-others_there m (Some k) (import.Global t) imports own callees h a = absurd h
 others_there m (Some k) (import.Function x) imports own [] h a = absurd a
 others_there m (Some k) (import.Function x) imports own (Own l declared body ∷ callees) h a =
     absurd a
 others_there m (Some k) (import.Function x) imports own (Imported l ∷ callees) h a =
     (callees, a.1, λ f. refl)
+others_there m (Some k) _ imports own callees h a = absurd h
 
 calls_typed : (offer : Offer) (m : Module) (imports : List Import) (own : List Function)
     (callees : List Callee) (calls : List Call) → OffersCalls offer

@@ -87,21 +87,18 @@ one_successor guest p q Two o run =
 fresh_before : (guest : Guest) (p q : ProcessState) (whole front rest : List Kept) (n : ℕ)
     (o : Origin) → Runs guest p whole n q → whole ≡ front ++ Succeeds o ∷ rest
     → (p.steps ≡ 0) × (p.host.version ≡ One)
-fresh_before guest p q whole [] rest n o none e = absurd (cc)
 fresh_before guest p q whole (x ∷ front) rest n o none e = absurd (cc)
 fresh_before guest p q whole front rest n o
     (step {p = p'} {q = next} {kept = whole'} {n = m} moves others) e =
     let later = (fresh_before guest next q whole' front rest m o others e).0 in
     let counted = move_counts guest p' next None moves in
     absurd (omega (arith, later, counted))
-fresh_before guest p q whole [] rest n o (take moves others) e = absurd (cc)
 fresh_before guest p q whole (x ∷ front) rest n o
     (take {p = p'} {q = next} {a = a} {kept = whole'} {n = m} moves others) e =
     let behind : whole' ≡ front ++ Succeeds o ∷ rest = cc in
     let later = (fresh_before guest next q whole' front rest m o others behind).0 in
     let counted = move_counts guest p' next (Some a) moves in
     absurd (omega (arith, later, counted))
-fresh_before guest p q whole [] rest n o (widen at others) e = absurd (cc)
 fresh_before guest p q whole (x ∷ front) rest n o
     (widen {p = p'} {kept = whole'} {n = m} at others) e =
     let behind : whole' ≡ front ++ Succeeds o ∷ rest = cc in
@@ -109,6 +106,7 @@ fresh_before guest p q whole (x ∷ front) rest n o
     (fresh_before guest (widened p') q whole' front rest m o others behind).1 in
     absurd (cc)
 fresh_before guest p q whole front rest n o (succeed at sum others) e = (at.no_steps, at.narrow)
+fresh_before guest p q whole [] rest n o _ e = absurd (cc)
 
 runs_succeed_first : (guest : Guest) (p q : ProcessState) (whole front rest : List Kept) (n : ℕ)
     (o : Origin) → Runs guest p whole n q → whole ≡ front ++ Succeeds o ∷ rest → front ≡ []

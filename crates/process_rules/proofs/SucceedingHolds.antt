@@ -1,29 +1,24 @@
 -- The worked example of a process that goes on from another one holds.
-use Rattle.std.proofs.Common.{◌≡◌, inl, inr, ℕ, zero, suc, ◌+◌, ◌<◌, ◌≤◌, List, [], ◌∷◌, ◌++◌}
-use Rattle.std.proofs.Common.{length, take as firsts, drop, Some, None, Ok, refl, sym, ap, ◌∙◌}
+use Rattle.std.proofs.Common.{◌≡◌, inl, inr, ℕ, zero, suc, ◌+◌, ◌≤◌, List, [], ◌∷◌, ◌++◌}
+use Rattle.std.proofs.Common.{length, take as firsts, drop, Some, None, refl, sym, ap, ◌∙◌}
 use Rattle.std.proofs.Common.{subst, arith, lit≤, codes}
 use Rattle.std.specs.Prelude.{slice_get}
 use Rattle.std.proofs.lemmas.Str.{IsUtf8-from_ascii}
 use Rattle.std.proofs.lemmas.Str.Ascii.{IsAscii-nil, IsAscii-cons}
 use Rattle.std.specs.Str.{IsAscii}
-use Rattle.wasm_syntax.specs.declared.instruction.Instruction.{Instruction}
 use Rattle.wasm_syntax.specs.declared.instruction.Instruction.TheVariants as instr
-use Rattle.wasm_syntax.specs.declared.value.Value.{Value}
-use Rattle.wasm_syntax.specs.rules.Sequence.{Sequence, Stop, Plain}
+use Rattle.wasm_syntax.specs.rules.Sequence.{Stop, Plain}
 use Rattle.wasm_syntax.specs.laws.Examples.{hello}
-use Rattle.wasm_rules.specs.Steps.{here}
-use Rattle.wasm_rules.specs.laws.Examples.{rest_behind_call, const_32, hello_sequence, v}
-use Rattle.wasi_abi.specs.declared.call.Call.TheVariants as call
+use Rattle.wasm_rules.specs.laws.Examples.{rest_behind_call, in_hello, hello_sequence, v}
 use Rattle.wasi_abi.specs.declared.version.Version.{Version}
 use Rattle.wasi_abi.specs.declared.version.Version.TheVariants.{One, Two}
 use Rattle.wasi_abi.specs.rules.Configs.{Settings}
-use Rattle.file_tree.specs.rules.Files.{Path, IsFiles, IsNameByte, IsNodeName, used}
+use Rattle.file_tree.specs.rules.Files.{Path, IsFiles, IsNodeName, used}
 use Rattle.wasi_calls_rules.specs.WasiStates.{Line, WasiState}
 use Rattle.wasi_calls_rules.specs.Checks.{Bytes}
-use Rattle.wasi_calls_rules.specs.CallRules.{call_rule}
 use Rattle.process_rules.specs.Processes.{ProcessState, Exited, host_of}
 use Rattle.process_rules.specs.Origins.{IsOrigin, IsSucceeding, succeeding}
-use Rattle.process_rules.specs.Runs.{Moves, Runs, widen, succeed, first_kept, Reaches}
+use Rattle.process_rules.specs.Runs.{On, next_of, Moves, Runs, widen, succeed, first_kept, Reaches}
 use Rattle.process_rules.specs.Behind.{IsNarrowTo, AnswersBehindLine}
 use Rattle.process_rules.specs.laws.Examples.{ComesTo, at_rest}
 use Rattle.process_rules.specs.laws.SucceedingExamples.{milk_line, three_lines, files_left, left}
@@ -32,7 +27,7 @@ use Rattle.process_rules.specs.laws.SucceedingExamples.{HelloSucceeds, HelloHasN
 use Rattle.process_rules.proofs.Along.{Along, last as at_last, goes, is_run, known_from_start}
 use Rattle.process_rules.proofs.Ended.{comes}
 use Rattle.process_rules.proofs.ExamplesHold.{first_memory, last_memory, all_memory, guest_of}
-use Rattle.process_rules.proofs.ExamplesHold.{after, first, begins}
+use Rattle.process_rules.proofs.ExamplesHold.{within, first, begins, goes_on}
 use Rattle.process_rules.proofs.ExamplesValid.{hello_is_valid}
 use Rattle.process_rules.proofs.OneProcess.{GoesOnFrom, succeeds_first}
 use Rattle.process_rules.proofs.OneStart.{start_once}
@@ -40,10 +35,6 @@ use Rattle.process_rules.proofs.Succeeding.{successors_have_come_from}
 use Rattle.process_rules.proofs.WideningHolds.{silent_there}
 
 -- ---- the origin
-
--- a letter of an ASCII text
-letter : (b : ℕ) → 96 < b → IsNameByte b
-letter b is = ((λ e. omega (arith, is, e)), λ e. omega (arith, is, e))
 
 notes_are_ascii : IsAscii (codes "notes")
 notes_are_ascii =
@@ -55,13 +46,7 @@ notes_are_named : IsNodeName (codes "notes")
 notes_are_named = record {
   not_empty = λ e. cc;
   short = lit≤ tt;
-  bytes = (
-    letter 110 (lit≤ tt),
-    (
-      letter 111 (lit≤ tt),
-      (letter 116 (lit≤ tt), (letter 101 (lit≤ tt), (letter 115 (lit≤ tt), tt))),
-    ),
-  );
+  bytes = omega arith;
   utf8 = IsUtf8-from_ascii (codes "notes") notes_are_ascii;
   not_self = λ e. cc;
   not_parent = λ e. cc;
@@ -77,7 +62,7 @@ are_files = record {
   root_is_directory = refl;
   placed = (inl refl, (inr (1, [], codes "notes", refl, notes_are_named, refl, refl), tt));
   distinct = ((other_path, tt), (tt, tt));
-  contents = (tt, ((lit≤ tt, (lit≤ tt, (lit≤ tt, (lit≤ tt, (lit≤ tt, tt))))), tt));
+  contents = omega arith;
   few = lit≤ tt;
 }
 
@@ -89,13 +74,7 @@ is_origin config room = record {
   files = are_files;
   of_bytes = (
     record { path = tt; content = tt },
-    (
-      record {
-        path = ((lit≤ tt, (lit≤ tt, (lit≤ tt, (lit≤ tt, (lit≤ tt, tt))))), tt);
-        content = (lit≤ tt, (lit≤ tt, (lit≤ tt, (lit≤ tt, tt))));
-      },
-      tt,
-    ),
+    (record { path = omega arith; content = omega arith }, tt),
   );
   named = refl;
   within = omega (arith, used_left, room);
@@ -127,15 +106,6 @@ left_host config version lines = record (host_of config) {
   version = version;
 }
 
--- inside of `_start` after n steps in all, with so many answers
-abbrev on : Settings → Version → ℕ → ℕ → Bytes → List Line → List Value → Sequence → ProcessState
-on config version answers n memory lines values rest =
-    record (after config n memory [] values rest) {
-      host = left_host config version lines;
-      answers = answers;
-      requests = 1;
-    }
-
 abbrev end : Settings → Version → ℕ → Bytes → ProcessState
 end config version answers memory = record (succeeded_end config) {
   configuration = at_rest memory;
@@ -144,90 +114,46 @@ end config version answers memory = record (succeeded_end config) {
 }
 
 -- the call that writes the line
-written : (config : Settings) (version : Version)
-    → call_rule call.FdWrite (1 ∷ 0 ∷ 1 ∷ 16 ∷ []) None first_memory (left_host config version [])
-    ≡ Ok (record { memory = last_memory; host = left_host config version (hi_line ∷ []) })
+writes : (config : Settings) (version : Version) (a : ℕ)
+    → next_of (guest_of config) (within (left_host config version []) a 1 11 first_memory (v 16
+    ∷ v 1 ∷ v 0 ∷ v 1 ∷ []) (Plain (instr.Call 0) rest_behind_call)) None
+    ≡ On (in_hello (record { memory = last_memory; globals = []; table = [] }) (v 0 ∷ [])
+    rest_behind_call) (left_host config version (hi_line ∷ []))
 unfolding first_memory last_memory
-written config version = refl
-
--- no answer is taken
-no_answer : (a : ℕ) → a ≡ a + 0
-no_answer a = omega arith
+writes config version a = refl
 
 module _ (config : Settings) (version : Version) (a : ℕ) where
-  constant : (n : ℕ) (memory : Bytes) (lines : List Line) (values : List Value) (x : ℕ)
-      (i : Instruction) (rest : Sequence)
-      → Moves (guest_of config) (on config version a n memory lines values
-      (Plain (const_32 x) (Plain i rest))) None (on config version a (n + 1) memory lines (v x
-      ∷ values) (Plain i rest))
-  constant n memory lines values x i rest = record {
-    running = refl;
-    wanted = tt;
-    leads = (
-      _,
-      here refl,
-      ap (λ z. on config version z (n + 1) memory lines (v x
-          ∷ values) (Plain i rest)) (no_answer a),
-    );
-  }
+  abbrev succeeding_first : ProcessState
+  succeeding_first = within (left_host config version []) a 1 7 first_memory [] hello_sequence
 
-  writes : Moves (guest_of config) (on config version a 11 first_memory [] (v 16 ∷ v 1 ∷ v 0 ∷ v 1
-      ∷ []) (Plain (instr.Call 0) rest_behind_call)) None (on config version a 12 last_memory
-      (hi_line ∷ []) (v 0 ∷ []) rest_behind_call)
-  writes = record {
-    running = refl;
-    wanted = tt;
-    leads = rw (written config version) (
-      _,
-      here refl,
-      ap (λ z. on config version z 12 last_memory
-          (hi_line ∷ []) (v 0 ∷ []) rest_behind_call) (no_answer a),
-    );
-  }
-
-  drops : Moves (guest_of config) (on config version a 12 last_memory (hi_line ∷ []) (v 0
-      ∷ []) rest_behind_call) None (on config version a 13 last_memory (hi_line
-      ∷ []) [] (Plain (const_32 7) (Plain (instr.Call 1) Stop)))
-  drops = record {
-    running = refl;
-    wanted = tt;
-    leads = (
-      _,
-      here refl,
-      ap (λ z. on config version z 13 last_memory (hi_line
-          ∷ []) [] (Plain (const_32 7) (Plain (instr.Call 1) Stop))) (no_answer a),
-    );
-  }
-
-  exits : Moves (guest_of config) (on config version a 14 last_memory (hi_line ∷ []) (v 7
-      ∷ []) (Plain (instr.Call 1) Stop)) None (end config version a last_memory)
+  exits : Moves (guest_of config) (within (left_host config version (hi_line ∷ [])) a 1 14
+      last_memory (v 7 ∷ []) (Plain (instr.Call 1) Stop)) None (end config version a last_memory)
   exits = record {
     running = refl;
     wanted = tt;
     leads = ap (λ z. end config version z last_memory) (no_answer a);
   }
+    where
+      no_answer : (a : ℕ) → a ≡ a + 0
+      no_answer a = omega arith
 
   -- four lines at most
   abbrev HasFour : ℕ → ℕ → ProcessState → Type 0
   HasFour n taken p = length p.host.lines ≤ 4
 
-  eight : Along (guest_of config) HasFour 0 0 (on config version a 7 first_memory [] []
-      hello_sequence) [] 8 (end config version a last_memory)
+  eight : Along (guest_of config) HasFour 0 0 succeeding_first [] 8 (end config version a
+      last_memory)
   eight =
-      goes (lit≤ tt) (constant 7 first_memory [] _ 1 _ _)
-      (goes (lit≤ tt) (constant 8 first_memory [] _ 0 _ _)
-      (goes (lit≤ tt) (constant 9 first_memory [] _ 1 _ _)
-      (goes (lit≤ tt) (constant 10 first_memory [] _ 16 _ _)
-      (goes (lit≤ tt) writes
-      (goes (lit≤ tt) drops
-      (goes (lit≤ tt) (constant 13 last_memory (hi_line ∷ []) _ 7 _ _)
+      goes (lit≤ tt) (goes_on config refl) (goes (lit≤ tt) (goes_on config refl)
+      (goes (lit≤ tt) (goes_on config refl) (goes (lit≤ tt) (goes_on config refl)
+      (goes (lit≤ tt) (goes_on config (writes config version a))
+      (goes (lit≤ tt) (goes_on config refl) (goes (lit≤ tt) (goes_on config refl)
       (goes (lit≤ tt) exits (at_last (lit≤ tt)))))))))
 
-  eight_run : Runs (guest_of config) (on config version a 7 first_memory [] [] hello_sequence) [] 8
-      (end config version a last_memory)
+  eight_run : Runs (guest_of config) succeeding_first [] 8 (end config version a last_memory)
   eight_run =
-      is_run (guest_of config) HasFour 0 0 8 (on config version a 7 first_memory [] []
-      hello_sequence) (end config version a last_memory) [] eight
+      is_run (guest_of config) HasFour 0 0 8 succeeding_first (end config version a last_memory)
+      [] eight
 
 reaches : (config : Settings) → 1 ≤ config.files
     → Reaches hello config succeeds 15 (end config One 2 last_memory)
@@ -251,9 +177,9 @@ wide_reaches config room = record {
 -- ---- the lines
 
 -- whatever is reached has gone on from there
-goes_on : (config : Settings) (n : ℕ) (p : ProcessState) → Reaches hello config succeeds n p
+has_gone_on : (config : Settings) (n : ℕ) (p : ProcessState) → Reaches hello config succeeds n p
     → GoesOnFrom (guest_of config) left (first config) [] n p
-goes_on config n p r =
+has_gone_on config n p r =
     let same = start_once hello config r.guest (guest_of config) r.start (first config)
     hello_is_valid r.begins (begins config) in
     let by_guest : Runs (guest_of config) r.start succeeds n p =
@@ -264,7 +190,7 @@ goes_on config n p r =
 few_lines : (config : Settings) (n : ℕ) (p : ProcessState) → Reaches hello config succeeds n p
     → length p.host.lines ≤ 4
 few_lines config n p r =
-    let from = goes_on config n p r in
+    let from = has_gone_on config n p r in
     known_from_start (guest_of config) (HasFour config One 2) 8 (succeeding left (first config))
     (end config One 2 last_memory) [] [] [] 0 from.steps p (Exited 7) refl tt (eight config One 2)
     from.runs refl
@@ -351,7 +277,7 @@ hello_succeeds config room = record {
 hello_has_no_room : (config : Settings) → HelloHasNoRoom config
 hello_has_no_room config n p full r =
     let within : used files_left ≤ (host_of config).room =
-    (goes_on config n p r).succeeds.origin.within in
+    (has_gone_on config n p r).succeeds.origin.within in
     omega (arith, within, full, used_left)
 
 pub hello_goes_on : (config : Settings) → HelloGoesOn config

@@ -1,25 +1,23 @@
 -- The worked example of a widening holds.
-use Rattle.std.proofs.Common.{◌≡◌, ℕ, zero, suc, ◌≤◌, [], ◌∷◌, length, None, Ok, refl, ap}
+use Rattle.std.proofs.Common.{◌≡◌, ℕ, zero, suc, ◌≤◌, [], ◌∷◌, length, None, refl, ap}
 use Rattle.std.proofs.Common.{subst, arith, lit≤}
 use Rattle.wasm_syntax.specs.declared.instruction.Instruction.TheVariants as instr
-use Rattle.wasm_syntax.specs.rules.Sequence.{Stop, Plain}
+use Rattle.wasm_syntax.specs.rules.Sequence.{Plain}
 use Rattle.wasm_syntax.specs.laws.Examples.{hello}
-use Rattle.wasm_rules.specs.Steps.{here}
-use Rattle.wasm_rules.specs.laws.Examples.{rest_behind_call, const_32, v}
-use Rattle.wasi_abi.specs.declared.call.Call.TheVariants as call
+use Rattle.wasm_rules.specs.laws.Examples.{rest_behind_call, in_hello, v}
 use Rattle.wasi_abi.specs.declared.version.Version.TheVariants.{Two}
 use Rattle.wasi_abi.specs.rules.Configs.{Settings}
-use Rattle.wasi_calls_rules.specs.CallRules.{call_rule}
 use Rattle.process_rules.specs.Processes.{ProcessState, Exited, host_of}
-use Rattle.process_rules.specs.Runs.{Wider, widened, Moves, Runs, Reaches, none, step, widen}
+use Rattle.process_rules.specs.Runs.{Wider, On, next_of, widened, Runs, Reaches, none, step, widen}
 use Rattle.process_rules.specs.Behind.{AnswersBehindLine}
 use Rattle.process_rules.specs.laws.Examples.{ComesTo}
 use Rattle.process_rules.specs.laws.WideningExamples.{HelloIsWidened}
 use Rattle.process_rules.proofs.Along.{Along, last as at_last, goes, known_from_start}
 use Rattle.process_rules.proofs.Ended.{comes}
 use Rattle.process_rules.proofs.ExamplesHold.{first_memory, last_memory, all_memory, hi_line}
-use Rattle.process_rules.proofs.ExamplesHold.{guest_of, after, first, last, begins, constant}
-use Rattle.process_rules.proofs.ExamplesHold.{writes, drops, exits, eight, hello_reaches}
+use Rattle.process_rules.proofs.ExamplesHold.{guest_of, within, first, last, begins}
+use Rattle.process_rules.proofs.ExamplesHold.{goes_on, writes as narrow_writes, eight}
+use Rattle.process_rules.proofs.ExamplesHold.{hello_reaches}
 use Rattle.process_rules.proofs.ExamplesValid.{hello_is_valid}
 use Rattle.process_rules.proofs.OneStart.{start_once}
 use Rattle.process_rules.proofs.Quiet.{runs_join}
@@ -27,55 +25,24 @@ use Rattle.process_rules.proofs.Quiet.{runs_join}
 -- ---- the steps of the widened process
 
 -- the call that writes the line
-written : (config : Settings)
-    → call_rule call.FdWrite (1 ∷ 0 ∷ 1 ∷ 16 ∷ []) None first_memory
-    (record (host_of config) { version = Two })
-    ≡ Ok (record {
-      memory = last_memory;
-      host = record (host_of config) { version = Two; lines = hi_line ∷ [] };
-    })
+writes : (config : Settings)
+    → next_of (guest_of config) (widened (within (host_of config) 0 0 4 first_memory (v 16 ∷ v 1
+    ∷ v 0 ∷ v 1 ∷ []) (Plain (instr.Call 0) rest_behind_call))) None
+    ≡ On (in_hello (record { memory = last_memory; globals = []; table = [] }) (v 0 ∷ [])
+    rest_behind_call) (record (host_of config) { version = Two; lines = hi_line ∷ [] })
 unfolding first_memory last_memory
-written config = refl
-
-wide_writes : (config : Settings)
-    → Moves (guest_of config) (widened (after config 4 first_memory [] (v 16 ∷ v 1 ∷ v 0 ∷ v 1
-    ∷ []) (Plain (instr.Call 0) rest_behind_call))) None (widened (after config 5 last_memory
-    (hi_line ∷ []) (v 0 ∷ []) rest_behind_call))
-wide_writes config = record {
-  running = refl;
-  wanted = tt;
-  leads = rw (written config) (_, here refl, refl);
-}
-
-wide_drops : (config : Settings)
-    → Moves (guest_of config) (widened (after config 5 last_memory (hi_line ∷ []) (v 0
-    ∷ []) rest_behind_call)) None (widened (after config 6 last_memory (hi_line
-    ∷ []) [] (Plain (const_32 7) (Plain (instr.Call 1) Stop))))
-wide_drops config = record { running = refl; wanted = tt; leads = (_, here refl, refl) }
-
-wide_constant : (config : Settings)
-    → Moves (guest_of config) (widened (after config 6 last_memory (hi_line ∷ []) []
-    (Plain (const_32 7) (Plain (instr.Call 1) Stop)))) None (widened (after config 7 last_memory
-    (hi_line ∷ []) (v 7 ∷ []) (Plain (instr.Call 1) Stop)))
-wide_constant config = record { running = refl; wanted = tt; leads = (_, here refl, refl) }
-
-wide_exits : (config : Settings)
-    → Moves (guest_of config) (widened (after config 7 last_memory (hi_line ∷ []) (v 7
-    ∷ []) (Plain (instr.Call 1) Stop))) None (widened (last config last_memory))
-wide_exits config = record { running = refl; wanted = tt; leads = refl }
+writes config = refl
 
 -- ---- widened on the way
 
 wide_eight : (config : Settings) → Runs (guest_of config) (first config) (Wider 4 ∷ []) 8
     (widened (last config last_memory))
 wide_eight config =
-    step (constant config 0 first_memory [] _ 1 _ _)
-    (step (constant config 1 first_memory [] _ 0 _ _)
-    (step (constant config 2 first_memory [] _ 1 _ _)
-    (step (constant config 3 first_memory [] _ 16 _ _)
+    step (goes_on config refl) (step (goes_on config refl)
+    (step (goes_on config refl) (step (goes_on config refl)
     (widen (record { narrow = refl; at = refl })
-    (step (wide_writes config)
-    (step (wide_drops config) (step (wide_constant config) (step (wide_exits config) none))))))))
+    (step (goes_on config (writes config)) (step (goes_on config refl) (step (goes_on config refl)
+    (step (record { running = refl; wanted = tt; leads = refl }) none))))))))
 
 wide_reaches : (config : Settings)
     → Reaches hello config (Wider 4 ∷ []) 8 (widened (last config last_memory))
@@ -106,14 +73,12 @@ IsSilent n a p = n ≤ 4 → p.host.lines ≡ []
 silent : (config : Settings)
     → Along (guest_of config) IsSilent 0 0 (first config) [] 8 (last config last_memory)
 silent config =
-    goes (λ few. refl) (constant config 0 first_memory [] _ 1 _ _)
-    (goes (λ few. refl) (constant config 1 first_memory [] _ 0 _ _)
-    (goes (λ few. refl) (constant config 2 first_memory [] _ 1 _ _)
-    (goes (λ few. refl) (constant config 3 first_memory [] _ 16 _ _)
-    (goes (λ few. refl) (writes config)
-    (goes (λ few. absurd (omega arith)) (drops config)
-    (goes (λ few. absurd (omega arith)) (constant config 6 last_memory (hi_line ∷ []) _ 7 _ _)
-    (goes (λ few. absurd (omega arith)) (exits config)
+    goes (λ few. refl) (goes_on config refl) (goes (λ few. refl) (goes_on config refl)
+    (goes (λ few. refl) (goes_on config refl) (goes (λ few. refl) (goes_on config refl)
+    (goes (λ few. refl) (goes_on config (narrow_writes config))
+    (goes (λ few. absurd (omega arith)) (goes_on config refl)
+    (goes (λ few. absurd (omega arith)) (goes_on config refl)
+    (goes (λ few. absurd (omega arith)) (record { running = refl; wanted = tt; leads = refl })
     (at_last (λ few. absurd (omega arith))))))))))
 
 pub silent_there : (config : Settings) (n : ℕ) (p : ProcessState) → Reaches hello config [] n p
