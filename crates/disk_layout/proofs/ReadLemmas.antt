@@ -10,8 +10,7 @@ use Rattle.sector_disk.proofs.CountLemmas.{counts_same, counts_then}
 use Rattle.sector_disk.proofs.Moments.{started, goes_on, leaves_only, stays_on, stays_crashed}
 use Rattle.sha2.specs.Sha256.{sha256}
 use Rattle.disk_layout.specs.declared.fault.LayoutFault.{LayoutFault}
-use Rattle.disk_layout.specs.declared.fault.LayoutFault.TheVariants.{NotAWorker, Version, TooSmall}
-use Rattle.disk_layout.specs.declared.fault.LayoutFault.TheVariants.{Damaged, Memory, Disk}
+use Rattle.disk_layout.specs.declared.fault.LayoutFault.TheVariants.{Damaged, Memory}
 use Rattle.disk_layout.specs.declared.damage.Damage.TheVariants as damage
 use Rattle.disk_layout.specs.declared.stored.Stored.{Stored}
 use Rattle.disk_layout.specs.rules.Places.{Geometry}
@@ -133,9 +132,5 @@ finds_split sectors image c bytes (Err (Damaged damage.ContentsDigest)) check is
       digest = λ e. splits (e
           ∙ ap (λ (l : List ℕ). sha256 (take (c.geometry.config + c.geometry.wasm) l)) (sym is));
     })
-finds_split sectors image c bytes (Err (Damaged other)) check is splits = absurd splits
 finds_split sectors image c bytes (Err Memory) check is splits = tt
-finds_split sectors image c bytes (Err NotAWorker) check is splits = absurd splits
-finds_split sectors image c bytes (Err Version) check is splits = absurd splits
-finds_split sectors image c bytes (Err TooSmall) check is splits = absurd splits
-finds_split sectors image c bytes (Err (Disk fault)) check is splits = absurd splits
+finds_split sectors image c bytes _ check is splits = absurd splits

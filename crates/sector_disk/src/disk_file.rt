@@ -11,7 +11,8 @@
 //!   those that ask for it, and not an editor. Where a file system has no locks, its files aren't
 //!   opened (`Other`).
 //! - **A disk has the length that its file said.** The end is sought, since the length that the
-//!   system tells of a block device is 0.
+//!   system tells of a block device is 0. Of a character device it can be sought, and is no length
+//!   (`/dev/null`): only a regular file and a block device are measured.
 //! - **A device is taken only where one is asked for**, since what it holds is lost. Only a handle
 //!   that was found to be one, and that has the lock, is filled. A device has a length and a name
 //!   already: it is given neither, and its folder isn't synced. `open` takes both kinds.
@@ -21,9 +22,9 @@
 use crate::SECTOR_SIZE;
 use crate::file_call::NO_BYTES;
 use crate::first_image::FirstImage;
-use std::fs::{File, OpenFile, TryLockError};
+use std::fs::{File, FileType, OpenFile, TryLockError};
 use std::io;
-use std::io::{Seek, SeekFrom};
+use std::io::{Error, ErrorKind, Seek, SeekFrom};
 use std::os::unix::fs::{FileExt, FileTypeExt};
 
 /// A handle of a file with one lock for the whole file, which at most one handle holds.
@@ -75,6 +76,11 @@ pub trait DiskFile: OpenFile + FileExt + Drop {
             IsTrue (known.failed self.now (Io (open_cause (error_kind error))))) };
 }
 
+/// Whether a disk can be in such a file: a regular one, or a block device.
+pub(crate) fn has_sectors(kind: FileType) -> bool {
+    kind.is_file() || kind.is_block_device()
+}
+
 // Of the system's file no more is known than what it answers.
 impl DiskFile for File {
     ghost use Rattle.sector_disk.specs.rules.Known.{all_said_of_handles};
@@ -87,6 +93,9 @@ impl DiskFile for File {
 
     #[tactic(auto, using(crate::proofs::FirstImageLemmas::zeros_are))]
     fn measure(&self) -> io::Result<(u64, FirstImage)> {
+        if !has_sectors(File::metadata(self)?.file_type()) {
+            return Err(Error::from(ErrorKind::NotSeekable));
+        }
         let mut handle = self;
         let bytes = handle.seek(SeekFrom::End(0))?;
         Ok((bytes, FirstImage::of(bytes / SECTOR_SIZE as u64)))

@@ -5,6 +5,9 @@
 //! - **A disk is opened and made by these calls alone.** What a clause says of a path is then what
 //!   the system has answered for it. A body that was given only these calls can't remove a file, or
 //!   get another handle of it, in a way that its contract doesn't see.
+//! - **A path is opened or made only by leave** (`may_write`, `may_read`, `may_make`). The system's
+//!   files give it for every path. A body that has leave for one path, of whatever files, opens and
+//!   makes no other one.
 //! - **A new file is kept or removed, once**: `NewFile` is lent to nobody, and each of the two
 //!   calls takes it.
 //! - **A disk is closed by a call** (`close`), which only clauses read. The call says that the disk
@@ -13,11 +16,11 @@
 ghost use Rattle.std.specs.Prelude.{◌≡◌};
 
 use crate::FileDisk;
+use crate::disk_file::has_sectors;
 use crate::folder::folder_of;
 use std::fs::{File, OpenFile, OpenOptions};
 use std::io;
 use std::io::{Error, ErrorKind, Write};
-use std::os::unix::fs::FileTypeExt;
 use std::rt::Files;
 
 /// Files of which one can be opened.
@@ -34,6 +37,7 @@ pub trait DiskFiles {
 
     /// Opens the file at a path, to read and to write it.
     fn open_there(&self, path: &str) -> io::Result<Self::File>
+        requires { IsTrue ((known self.now).may_write path.now) }
         ensures opened { IfOk result (λ file. IsTrue ((known self.now).opened path.now file)) }
         ensures refused { IfErr result (λ error.
             IsTrue ((known self.now).refused path.now (Io (open_cause (error_kind error))))) };
@@ -42,6 +46,7 @@ pub trait DiskFiles {
     /// block device: no other one is opened, so none lets its reader wait. A FIFO that is put there
     /// between the look and the opening would.
     fn open_to_read(&self, path: &str) -> io::Result<Self::File>
+        requires { IsTrue ((known self.now).may_read path.now) }
         ensures opened { IfOk result (λ file. IsTrue ((known self.now).readable path.now file)) }
         ensures refused { IfErr result (λ error.
             IsTrue ((known self.now).refused path.now (Io (open_cause (error_kind error))))) };
@@ -75,6 +80,7 @@ pub trait NewFiles: DiskFiles {
 
     /// Makes a file where there is no such path.
     fn make_new<'a>(&self, path: &'a str) -> io::Result<(Self::File, NewFile<'a>)>
+        requires { IsTrue ((Self.known self.now).may_make path.now) }
         ensures made { IfOk result (λ new.
             IsTrue ((Self.known self.now).made path.entry.now new.0)
             × (new.1.path.now ≡ path.entry.now)) }
@@ -113,7 +119,7 @@ impl<R: Files> DiskFiles for R {
         if kind.is_dir() {
             return Err(Error::from(ErrorKind::IsADirectory));
         }
-        if !kind.is_file() && !kind.is_block_device() {
+        if !has_sectors(kind) {
             return Err(Error::from(ErrorKind::NotSeekable));
         }
         File::open(self, path)

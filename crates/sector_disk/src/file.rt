@@ -12,7 +12,7 @@
 //!   call. These two, `sync_data` and `try_lock` call again after an interrupt. No clause says so:
 //!   it is read in the kit's code, and seen by `scripts/runs/file-calls`.
 //! - An empty file is a disk of no sectors.
-ghost use Rattle.std.specs.Prelude.{◌≡◌, ◌<◌, ◌≤◌, ◌^◌, ◌↔◌, [], IfErr, IfOk, IsErrOf};
+ghost use Rattle.std.specs.Prelude.{◌≡◌, ◌<◌, ◌≤◌, ◌^◌, ◌↔◌, [], IfErr, IfOk, IsErrOf, IsTrue};
 ghost use Rattle.sector_disk.specs.declared.open_fault.OpenFault.TheVariants.{Io};
 ghost use Rattle.sector_disk.specs.rules.DiskImage.{IsDiskImage};
 ghost use Rattle.sector_disk.specs.declared.open_fault.OpenCause.TheVariants.{TooLarge};
@@ -65,6 +65,7 @@ impl<F: DiskFile> FileDisk<F> {
         path: &'a str,
         sectors: u64,
     ) -> Result<(FileDisk<F>, NewFile<'a>), OpenFault>
+        requires { IsTrue ((R.known files.now).may_make path.now) }
         ensures made { IfOk result (λ new.
             IsMadeAt F.known (R.known files.now) path.entry.now sectors new.0) }
         ensures there { IfOk result (λ new. new.1.path.now ≡ path.entry.now) }
@@ -94,6 +95,7 @@ impl<F: DiskFile> FileDisk<F> {
         path: &str,
         sectors: u64,
     ) -> Result<FileDisk<F>, OpenFault>
+        requires { IsTrue ((R.known files.now).may_write path.now) }
         ensures taken { IfOk result
             (IsTakenAt F.known (R.known files.now) path.now sectors) }
         ensures large { 2 ^ 54 ≤ sectors → IsErrOf result (Io TooLarge) }
@@ -111,6 +113,7 @@ impl<F: DiskFile> FileDisk<F> {
     /// Opens a file and locks it, before anything of it is read. Bytes past its last whole sector
     /// are left alone.
     pub fn open<R: DiskFiles<File = F>>(files: &R, path: &str) -> Result<FileDisk<F>, OpenFault>
+        requires { IsTrue ((R.known files.now).may_write path.now) }
         ensures opened { IfOk result (IsOpenedAt F.known (R.known files.now) path.now) }
         ensures unopened { IfErr result (IsUnopenedAt F.known (R.known files.now) path.now) }
     {
@@ -128,6 +131,7 @@ impl<F: DiskFile> FileDisk<F> {
     /// Opens a file to read it and nothing else, and takes no lock: another host may have it, and
     /// write it at any time. `take_picture` tells what that is worth.
     pub fn look<R: DiskFiles<File = F>>(files: &R, path: &str) -> Result<FileDisk<F>, OpenFault>
+        requires { IsTrue ((R.known files.now).may_read path.now) }
         ensures seen { IfOk result (IsSeenAt F.known (R.known files.now) path.now) }
         ensures unseen { IfErr result (IsUnseenAt F.known (R.known files.now) path.now) }
     {

@@ -190,7 +190,6 @@ gives_stored sectors image stored (Err (Damaged damage.JournalSectors)) is agree
           agrees.2,
       subst Q is.geometry agrees.3,
     )
-gives_stored sectors image stored (Err (Damaged other)) is agrees = absurd agrees
 gives_stored sectors image stored (Err TooSmall) is agrees =
     inr (
       stored_reaches sectors image stored is,
@@ -205,9 +204,7 @@ gives_stored sectors image stored (Err TooSmall) is agrees =
       ),
     )
 gives_stored sectors image stored (Err Memory) is agrees = tt
-gives_stored sectors image stored (Err NotAWorker) is agrees = absurd agrees
-gives_stored sectors image stored (Err Version) is agrees = absurd agrees
-gives_stored sectors image stored (Err (Disk fault)) is agrees = absurd agrees
+gives_stored sectors image stored _ is agrees = absurd agrees
 
 other_digest : (sectors : ℕ) (image : DiskImage)
     → HasOtherDigest sectors image (super_of (sector_at image 0)) → (c : Contents) → IsHeld image c
@@ -460,7 +457,6 @@ one_answer sectors image (Ok a) (Err (Damaged why)) t u one other =
     absurd (not_damaged sectors image a why one.0 other)
 one_answer sectors image (Ok a) (Err TooSmall) t u one other =
     absurd (not_too_small sectors image a one.0 one.1 other)
-one_answer sectors image (Ok a) (Err Memory) t u one other = absurd u
 one_answer sectors image (Ok a) (Err (Disk fault)) t u one other = absurd u
 one_answer sectors image (Err NotAWorker) (Ok b) t u one other = absurd (one other.0.known.marks)
 one_answer sectors image (Err NotAWorker) (Err NotAWorker) t u one other = refl
@@ -469,7 +465,6 @@ one_answer sectors image (Err NotAWorker) (Err (Damaged why)) t u one other =
     let knows = damaged_knows sectors image why other in absurd (one knows.marks)
 one_answer sectors image (Err NotAWorker) (Err TooSmall) t u one other =
     let knows = small_knows sectors image other in absurd (one knows.marks)
-one_answer sectors image (Err NotAWorker) (Err Memory) t u one other = absurd u
 one_answer sectors image (Err NotAWorker) (Err (Disk fault)) t u one other = absurd u
 one_answer sectors image (Err Version) (Ok b) t u one other = absurd (one.1 other.0.known.layout)
 one_answer sectors image (Err Version) (Err NotAWorker) t u one other = absurd (other one.0)
@@ -478,7 +473,6 @@ one_answer sectors image (Err Version) (Err (Damaged why)) t u one other =
     let knows = damaged_knows sectors image why other in absurd (one.1 knows.layout)
 one_answer sectors image (Err Version) (Err TooSmall) t u one other =
     let knows = small_knows sectors image other in absurd (one.1 knows.layout)
-one_answer sectors image (Err Version) (Err Memory) t u one other = absurd u
 one_answer sectors image (Err Version) (Err (Disk fault)) t u one other = absurd u
 one_answer sectors image (Err (Damaged why)) (Ok b) t u one other =
     absurd (not_damaged sectors image b why other.0 one)
@@ -491,7 +485,6 @@ one_answer sectors image (Err (Damaged why)) (Err (Damaged because)) t u one oth
     (one_damage sectors image why because one other)
 one_answer sectors image (Err (Damaged why)) (Err TooSmall) t u one other =
     absurd (not_both sectors image why one other)
-one_answer sectors image (Err (Damaged why)) (Err Memory) t u one other = absurd u
 one_answer sectors image (Err (Damaged why)) (Err (Disk fault)) t u one other = absurd u
 one_answer sectors image (Err TooSmall) (Ok b) t u one other =
     absurd (not_too_small sectors image b other.0 other.1 one)
@@ -502,7 +495,7 @@ one_answer sectors image (Err TooSmall) (Err Version) t u one other =
 one_answer sectors image (Err TooSmall) (Err (Damaged why)) t u one other =
     absurd (not_both sectors image why other one)
 one_answer sectors image (Err TooSmall) (Err TooSmall) t u one other = refl
-one_answer sectors image (Err TooSmall) (Err Memory) t u one other = absurd u
 one_answer sectors image (Err TooSmall) (Err (Disk fault)) t u one other = absurd u
 one_answer sectors image (Err Memory) other t u one gives = absurd t
 one_answer sectors image (Err (Disk fault)) other t u one gives = absurd t
+one_answer sectors image _ (Err Memory) t u one other = absurd u

@@ -1,5 +1,5 @@
 -- What calls have said of files and of their paths. Nobody knows it but by such a call.
-use Rattle.std.specs.Prelude.{ℕ, Bool, true, List}
+use Rattle.std.specs.Prelude.{ℕ, Bool, true, false, List, IsTrue}
 use Rattle.sector_disk.specs.rules.DiskImage.{DiskImage}
 use Rattle.sector_disk.specs.declared.file.FileDisk.{FileDisk}
 use Rattle.sector_disk.specs.declared.open_fault.OpenFault.{OpenFault}
@@ -19,6 +19,12 @@ pub record KnownHandles (F : Type 0) : Type 0 where
 
 -- of paths
 pub record KnownFiles (F : Type 0) : Type 0 where
+  -- whoever has these files may open the one there to write it
+  pub may_write : List ℕ → Bool
+  -- may open it to read it and nothing else
+  pub may_read : List ℕ → Bool
+  -- may make a new one there
+  pub may_make : List ℕ → Bool
   -- this handle was opened there
   pub opened : List ℕ → F → Bool
   -- this one was opened there, to read and nothing else
@@ -35,6 +41,16 @@ pub record KnownFiles (F : Type 0) : Type 0 where
   -- a disk was closed that had come to this
   pub closed : FileDisk F → Bool
 
+-- A disk there may be opened: a live one to read it and nothing else, any other one to write it.
+abbrev pub MayOpen : {F : Type 0} → KnownFiles F → Bool → List ℕ → Type 0
+MayOpen files true path = IsTrue (files.may_read path)
+MayOpen files false path = IsTrue (files.may_write path)
+
+-- A new disk may be placed there: on a device, which is opened, or in a new file.
+abbrev pub MayPlace : {F : Type 0} → KnownFiles F → Bool → List ℕ → Type 0
+MayPlace files true path = IsTrue (files.may_write path)
+MayPlace files false path = IsTrue (files.may_make path)
+
 -- whatever a call says of a handle
 abbrev pub all_said_of_handles : {F : Type 0} → KnownHandles F
 all_said_of_handles = record {
@@ -45,9 +61,12 @@ all_said_of_handles = record {
   failed = λ file why. true;
 }
 
--- whatever a call says of files, by their paths
+-- whatever a call says of files, by their paths, all of which it may open and make
 abbrev pub all_said_of_files : {F : Type 0} → KnownFiles F
 all_said_of_files = record {
+  may_write = λ path. true;
+  may_read = λ path. true;
+  may_make = λ path. true;
   opened = λ path file. true;
   readable = λ path file. true;
   made = λ path file. true;
