@@ -1,7 +1,7 @@
 -- Sectors that are stored, and bytes that are pushed, one call after another.
 use Rattle.std.proofs.Common.{◌≡◌, ◌<◌, ◌≤◌, ℕ, ◌+◌, ◌-◌, min, List, [], ◌++◌, length, refl, sym}
 use Rattle.std.proofs.Common.{inl, inr, ⊎_elim, ◌∙◌, ap, subst, arith, append_assoc, length-append}
-use Rattle.std.specs.Prelude.{Result, Ok, Err, OnOk, OnErr, IfErr, IsErr, IsTrue}
+use Rattle.std.specs.Prelude.{Result, Ok, Err, OnOk, IsErr, IsTrue}
 use Rattle.std.proofs.lemmas.Bool.{false≢true}
 use Rattle.std.proofs.lemmas.Result.{IfOk-from_err, on_ok_weaker}
 use Rattle.std.proofs.lemmas.List.{append-nil}
@@ -18,8 +18,7 @@ use Rattle.snapshot.specs.declared.writing.Writing.{Writing}
 use Rattle.snapshot.specs.rules.Images.{AreaPart, part_behind, StoresSectors, PushesNext}
 use Rattle.snapshot.specs.rules.Images.{FailsInArea, EndsImage}
 use Rattle.snapshot.specs.declared.fault.SnapshotFault.{SnapshotFault}
-use Rattle.snapshot.specs.declared.fault.SnapshotFault.TheVariants.{TooBig, Damaged, Disk, Memory}
-use Rattle.snapshot.specs.declared.fault.SnapshotFault.TheVariants.{Failed}
+use Rattle.snapshot.specs.declared.fault.SnapshotFault.TheVariants.{TooBig, Disk}
 use Rattle.snapshot.specs.declared.snapshots.Snapshots.{Snapshots}
 use Rattle.snapshot.specs.declared.snapshots.SaveState.{SaveState}
 use Rattle.snapshot.specs.declared.snapshots.SaveState.TheVariants as state
@@ -260,28 +259,15 @@ pushes_nothing {E = E} geometry bytes r w m is_err =
 
 -- ---- the image that is begun
 
-abbrev writer_or : AreaWriter → SaveState → AreaWriter
-writer_or w (state.Begun v) = v
-writer_or w state.Idle = w
-writer_or w state.Failed = w
-
 pub one_image : (t : SaveState) (a b : AreaWriter) → t ≡ state.Begun a → t ≡ state.Begun b → a ≡ b
-one_image t a b one other = ap (λ x. writer_or a x) (sym one ∙ other)
+one_image t a b one other = cc
 
 pub ok_no_err : {T E : Type 0} (x : T) (e : E) → Ok x ≡ Err e → ⊥
-ok_no_err {T} {E} x e same = subst (λ (r : Result T E). OnErr r ⊥) same tt
-
-abbrev IsNotBig : SnapshotFault → Type 0
-IsNotBig TooBig = ⊥
-IsNotBig Damaged = Unit {0}
-IsNotBig (Disk fault) = Unit {0}
-IsNotBig Memory = Unit {0}
-IsNotBig Failed = Unit {0}
+ok_no_err x e same = cc
 
 pub disk_no_big : (r : Result (Unit {0}) SnapshotFault) (fault : DiskFault) → r ≡ Err (Disk fault)
     → r ≡ Err TooBig → ⊥
-disk_no_big r fault disk big =
-    subst (λ (q : Result (Unit {0}) SnapshotFault). IfErr q IsNotBig) (sym disk ∙ big) tt
+disk_no_big r fault disk big = cc
 
 pub can_end : (geometry : Geometry) (s : Snapshots) (w : AreaWriter) → IsBegun s w
     → FitsArea geometry w → CanEnd geometry s.state

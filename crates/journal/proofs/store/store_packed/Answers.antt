@@ -1,5 +1,6 @@
-use Rattle.std.proofs.Common.{◌≡◌, ◌<◌, ◌≤◌, ◌+◌, ◌*◌, ◌++◌, ℕ, List, [], ◌∷◌, length, sym, ap, ◌∙◌}
+use Rattle.std.proofs.Common.{◌≡◌, ◌<◌, ◌+◌, ◌*◌, ◌++◌, ℕ, List, [], ◌∷◌, length, sym, ap, ◌∙◌}
 use Rattle.std.proofs.Common.{subst, arith, rules}
+use Rattle.std.proofs.lemmas.Grind.{common_steps}
 use Rattle.std.proofs.lemmas.Result.{on_ok_weaker}
 use Rattle.sector_disk.specs.rules.DiskImage.{sector_at}
 use Rattle.sector_disk.specs.rules.Medium.{Tears, TakesWrite, BothFollow}
@@ -16,8 +17,8 @@ use Rattle.journal.specs.rules.Packed.{packed, sectors_for}
 use Rattle.journal.proofs.PackedLemmas.{packed_at, part_lent}
 use Rattle.journal.proofs.store.store_packed.Goals as goal
 
-pub returns-in_err-write-clause-any_moment : goal.returns-in_err-write-clause-any_moment
-returns-in_err-write-clause-any_moment g c =
+pub returns-in_err-write : goal.returns-in_err-write
+returns-in_err-write g c =
     let i = c.loop-i.invariant in
     let n = c.loop-i.i in
     let old = g.D.Disk.medium c.args.disk.now in
@@ -25,6 +26,8 @@ returns-in_err-write-clause-any_moment g c =
     let new = g.D.Disk.medium c.write.new.self in
     let count = sectors_for (length c.args.bytes.now) in
     let batch = packed c.args.generation c.args.place count c.args.bytes.now in
+    let u = i.unsynced in
+    let p = i.passes in
     let below : n < count = let e = c.sectors_for-count.ensures in let t = c.loop-i-test.true in
     omega arith in
     let sector : c.journal_sector-sector.result ≡ sector_at batch n =
@@ -34,11 +37,27 @@ returns-in_err-write-clause-any_moment g c =
     ∙ sym (packed_at c.args.generation c.args.place count c.args.bytes.now n below) in
     let tears = subst (λ (s : List ℕ). Tears (c.args.at + n) s mid new) sector c.write.ensures.tears
     in
-    let inside : c.args.at + n < mid.sectors = let s = i.passes.sectors in let r = c.requires.room
-    in omega arith in
+    let inside : c.args.at + n < mid.sectors = let s = p.sectors in let r = c.requires.room in
+    omega arith in
     let both = both_tear c.args.at batch n old mid new inside i.tears tears in
-    run_leaves_only c.args.at batch count old new (run_passes c.args.at batch (n
-    + 1) count old mid new (omega arith) i.passes both c.write.ensures.passes)
+    let some = rising_begun c.args.at n old mid new i.calls count below c.write.ensures.calls.begun
+    in
+    record {
+      any_moment = run_leaves_only c.args.at batch count old new (run_passes c.args.at batch (n
+          + 1) count old mid new (omega arith) p both c.write.ensures.passes);
+      stored = first_of (search rules, grind (arith, common_steps));
+      all_synced = first_of (search rules, grind (arith, common_steps));
+      unsynced = first_of (search rules, grind (arith, common_steps));
+      together = first_of (search rules, grind (arith, common_steps));
+      counts = counts_then (old.unsynced + n) (mid.unsynced + 1) (old.unsynced + count) old mid new
+          (omega arith) (omega arith) p.later i.counts c.write.ensures.counts;
+      calls = record {
+        all = search rules;
+        begun = begun_first (rising_writes c.args.at count) (Sync ∷ []) old new some;
+      };
+      cause = first_of (search rules, grind (arith, common_steps));
+      asks = first_of (search rules, grind (arith, common_steps));
+    }
 
 pub loop-i-preserved : goal.loop-i-preserved
 loop-i-preserved g c =
@@ -76,8 +95,8 @@ loop-i-preserved g c =
           (omega arith) i.passes both c.write.ensures.passes;
     }
 
-pub returns-clause-any_moment : goal.returns-clause-any_moment
-returns-clause-any_moment g c =
+pub returns : goal.returns
+returns g c =
     let i = c.loop-i.invariant in
     let n = c.loop-i.i in
     let old = g.D.Disk.medium c.args.disk.now in
@@ -85,105 +104,32 @@ returns-clause-any_moment g c =
     let new = g.D.Disk.medium c.sync.new.self in
     let count = sectors_for (length c.args.bytes.now) in
     let batch = packed c.args.generation c.args.place count c.args.bytes.now in
-    let within : n ≤ count = let e = c.sectors_for-count.ensures in let t = c.loop-i.auto.i-end in
-    omega arith in
-    run_leaves_only c.args.at batch count old new
-    (goes_on old mid new _ _ i.passes c.sync.ensures.passes (λ image crashed.
-    crashed_longer c.args.at batch n count old mid within i.tears image
-    (stays_crashed mid new c.sync.ensures.stays image crashed)))
-
-pub returns-clause-stored : goal.returns-clause-stored
-returns-clause-stored g c =
-    let i = c.loop-i.invariant in
-    let n = c.loop-i.i in
-    let old = g.D.Disk.medium c.args.disk.now in
-    let mid = g.D.Disk.medium c.loop-i.disk in
-    let new = g.D.Disk.medium c.sync.new.self in
-    let count = sectors_for (length c.args.bytes.now) in
-    let batch = packed c.args.generation c.args.place count c.args.bytes.now in
+    let u = i.unsynced in
+    let p = i.passes in
     let all : n ≡ count = let e = c.sectors_for-count.ensures in let t = c.loop-i.auto.i-end in
     let f = c.loop-i-test.false in omega arith in
     let whole = subst (λ (k : ℕ). BothFollow (IsWrittenRun c.args.at batch k)
     (IsTornRun c.args.at batch k) old mid) all i.whole in
-    on_ok_weaker c.sync.result (λ all_synced.
-    synced_follows old mid new _ all_synced c.sync.ensures.stays (shows_follow old mid _ _ whole))
-    c.sync.ensures.all_synced
-
-pub returns-in_err-write-clause-counts : goal.returns-in_err-write-clause-counts
-returns-in_err-write-clause-counts g c =
-    let i = c.loop-i.invariant in
-    let n = c.loop-i.i in
-    let old = g.D.Disk.medium c.args.disk.now in
-    let mid = g.D.Disk.medium c.loop-i.disk in
-    let new = g.D.Disk.medium c.write.new.self in
-    let u = i.unsynced in
-    let p = i.passes in
-    let below : n < sectors_for (length c.args.bytes.now) = let e = c.sectors_for-count.ensures in
-    let t = c.loop-i-test.true in omega arith in
-    counts_then (old.unsynced + n) (mid.unsynced + 1) (old.unsynced
-    + sectors_for (length c.args.bytes.now)) old mid new (omega arith)
-    (omega arith) p.later i.counts c.write.ensures.counts
-
-pub returns-clause-counts : goal.returns-clause-counts
-returns-clause-counts g c =
-    let i = c.loop-i.invariant in
-    let n = c.loop-i.i in
-    let old = g.D.Disk.medium c.args.disk.now in
-    let mid = g.D.Disk.medium c.loop-i.disk in
-    let new = g.D.Disk.medium c.sync.new.self in
-    let u = i.unsynced in
-    let p = i.passes in
-    let within : n ≤ sectors_for (length c.args.bytes.now) = let e = c.sectors_for-count.ensures in
-    let t = c.loop-i.auto.i-end in omega arith in
-    counts_then (old.unsynced + n) mid.unsynced (old.unsynced
-    + sectors_for (length c.args.bytes.now)) old mid new (omega arith)
-    (omega arith) p.later i.counts c.sync.ensures.counts
-
-pub returns-clause-together : goal.returns-clause-together
-returns-clause-together g c =
-    let i = c.loop-i.invariant in
-    let n = c.loop-i.i in
-    let old = g.D.Disk.medium c.args.disk.now in
-    let mid = g.D.Disk.medium c.loop-i.disk in
-    let new = g.D.Disk.medium c.sync.new.self in
-    let u = i.unsynced in
-    let p = i.passes in
-    let all : mid.unsynced ≡ old.unsynced + sectors_for (length c.args.bytes.now) =
-    let e = c.sectors_for-count.ensures in let t = c.loop-i.auto.i-end in
-    let f = c.loop-i-test.false in omega arith in
-    let counts = c.sync.ensures.counts in
-    on_ok_weaker c.sync.result
-    (λ all_synced. subst (λ (k : ℕ). new.unsynced_since old.moment k) all
-    (counts.keeps old.moment mid.unsynced p.later (mid.count_now old.moment p.later)))
-    c.sync.ensures.all_synced
-
-pub returns-in_err-write-clause-calls : goal.returns-in_err-write-clause-calls
-returns-in_err-write-clause-calls g c =
-    let i = c.loop-i.invariant in
-    let n = c.loop-i.i in
-    let old = g.D.Disk.medium c.args.disk.now in
-    let mid = g.D.Disk.medium c.loop-i.disk in
-    let new = g.D.Disk.medium c.write.new.self in
-    let count = sectors_for (length c.args.bytes.now) in
-    let below : n < count = let e = c.sectors_for-count.ensures in let t = c.loop-i-test.true in
-    omega arith in
-    let some = rising_begun c.args.at n old mid new i.calls count below c.write.ensures.calls.begun
-    in
+    let filled : mid.unsynced ≡ old.unsynced + count = omega (arith, all, u) in
+    let sync = c.sync.ensures in
     record {
-      all = search rules;
-      begun = begun_first (rising_writes c.args.at count) (Sync ∷ []) old new some;
+      any_moment = run_leaves_only c.args.at batch count old new
+          (goes_on old mid new _ _ p sync.passes (λ image crashed.
+          crashed_longer c.args.at batch n count old mid (omega (arith, all)) i.tears image
+          (stays_crashed mid new sync.stays image crashed)));
+      stored = on_ok_weaker c.sync.result (λ all_synced.
+          synced_follows old mid new _ all_synced sync.stays (shows_follow old mid _ _ whole))
+          sync.all_synced;
+      all_synced = first_of (search rules, grind (arith, common_steps));
+      unsynced = first_of (search rules, grind (arith, common_steps));
+      together = on_ok_weaker c.sync.result
+          (λ all_synced. subst (λ (k : ℕ). new.unsynced_since old.moment k) filled
+          (sync.counts.keeps old.moment mid.unsynced p.later (mid.count_now old.moment p.later)))
+          sync.all_synced;
+      counts = counts_then (old.unsynced + n) mid.unsynced (old.unsynced + count) old mid new
+          (omega (arith, all)) (omega (arith, filled)) p.later i.counts sync.counts;
+      calls = performed_then (rising_writes c.args.at count) (Sync ∷ []) c.sync.result old mid new
+          (i.calls ∙ ap (λ k. rising_writes c.args.at k ++ old.calls) all) sync.calls;
+      cause = first_of (search rules, grind (arith, common_steps));
+      asks = first_of (search rules, grind (arith, common_steps));
     }
-
-pub returns-clause-calls : goal.returns-clause-calls
-returns-clause-calls g c =
-    let i = c.loop-i.invariant in
-    let n = c.loop-i.i in
-    let old = g.D.Disk.medium c.args.disk.now in
-    let mid = g.D.Disk.medium c.loop-i.disk in
-    let new = g.D.Disk.medium c.sync.new.self in
-    let count = sectors_for (length c.args.bytes.now) in
-    let all : n ≡ count = let e = c.sectors_for-count.ensures in let t = c.loop-i.auto.i-end in
-    let f = c.loop-i-test.false in omega arith in
-    let written = i.calls ∙ ap (λ k. rising_writes c.args.at k ++ old.calls) all in
-    performed_then (rising_writes c.args.at count) (Sync
-    ∷ []) c.sync.result old mid new written c.sync.ensures.calls

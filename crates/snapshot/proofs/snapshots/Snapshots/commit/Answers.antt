@@ -1,5 +1,5 @@
-use Rattle.std.proofs.Common.{◌≡◌, ◌⊎◌, ◌<◌, ◌∙◌, refl, sym, subst, inl, inr, ⊎_elim, arith}
-use Rattle.std.proofs.Common.{rules, false}
+use Rattle.std.proofs.Common.{◌≡◌, ◌⊎◌, ◌<◌, ◌∙◌, ℕ, List, refl, sym, subst, inl, inr, ⊎_elim}
+use Rattle.std.proofs.Common.{arith, rules, false}
 use Rattle.std.specs.Prelude.{Result, Ok, Err, IsErr}
 use Rattle.std.proofs.lemmas.Grind.{common_steps}
 use Rattle.sector_disk.specs.declared.fault.DiskFault.{DiskFault}
@@ -16,14 +16,17 @@ use Rattle.snapshot.proofs.SnapshotLemmas.{writes_none, writes_failed, writes_en
 use Rattle.snapshot.proofs.SnapshotLemmas.{first_fails}
 use Rattle.snapshot.proofs.snapshots.Snapshots.commit.Goals as goal
 
+abbrev changed_image : ℕ → ℕ → List ℕ → NewImage
+changed_image generation version bytes = record {
+  generation = generation;
+  version = version;
+  writing = Changes;
+  bytes = bytes;
+}
+
 pub returns-in_err-begin-clause-commits : goal.returns-in_err-begin-clause-commits
 returns-in_err-begin-clause-commits g c =
-    let image : NewImage = record {
-      generation = c.args.generation;
-      version = c.args.version;
-      writing = Changes;
-      bytes = c.args.process_image.now;
-    } in
+    let image = changed_image c.args.generation c.args.version c.args.process_image.now in
     record {
       writes = writes_none c.args.geometry.now image c.from_residual.result
           (g.D.Disk.medium c.args.disk.now) c.from_residual.ensures.0;
@@ -36,13 +39,7 @@ returns-in_err-begin-clause-commits g c =
 pub returns-in_err-push-clause-commits : goal.returns-in_err-push-clause-commits
 returns-in_err-push-clause-commits g c =
     let geometry = c.args.geometry.now in
-    let bytes = c.args.process_image.now in
-    let image : NewImage = record {
-      generation = c.args.generation;
-      version = c.args.version;
-      writing = Changes;
-      bytes = bytes;
-    } in
+    let image = changed_image c.args.generation c.args.version c.args.process_image.now in
     let old = g.D.Disk.medium c.args.disk.now in
     let new = g.D.Disk.medium c.push.new.disk in
     let s = c.begin.new.self in
@@ -92,13 +89,7 @@ returns-in_err-push-clause-commits g c =
 pub returns-clause-commits : goal.returns-clause-commits
 returns-clause-commits g c =
     let geometry = c.args.geometry.now in
-    let bytes = c.args.process_image.now in
-    let image : NewImage = record {
-      generation = c.args.generation;
-      version = c.args.version;
-      writing = Changes;
-      bytes = bytes;
-    } in
+    let image = changed_image c.args.generation c.args.version c.args.process_image.now in
     let old = g.D.Disk.medium c.args.disk.now in
     let mid = g.D.Disk.medium c.push.new.disk in
     let new = g.D.Disk.medium c.finish.new.disk in
