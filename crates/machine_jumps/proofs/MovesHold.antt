@@ -44,9 +44,8 @@ at_label c body p label labels ts rest typed e =
       labels = [];
       operands = c.returns;
       rest = Stop;
-    } ≡ the_shape)). absurd (let no : [] ≡ label ∷ labels = ap (λ s. s.labels) h.1
-    in not_both no))
-    (where_shape c body p the_shape typed e)
+    } ≡ the_shape)). absurd (let no : [] ≡ label ∷ labels = ap (λ s. s.labels) h.1 in not_both no))
+    (where_shape c body p typed e)
   where
     the_shape : Shape
     the_shape = record { labels = label ∷ labels; operands = ts; rest = rest }
@@ -65,8 +64,7 @@ at_more c body p labels ts rest more typed e =
       labels = [];
       operands = c.returns;
       rest = Stop;
-    } ≡ the_shape)). absurd (more (ap (λ s. s.rest) h.1)))
-    (where_shape c body p the_shape typed e)
+    } ≡ the_shape)). absurd (more (ap (λ s. s.rest) h.1))) (where_shape c body p typed e)
   where
     the_shape : Shape
     the_shape = record { labels = labels; operands = ts; rest = rest }
@@ -153,42 +151,42 @@ no_opcode_behind c body p ts rest typed e =
     } ≡ the_shape)).
     let len : length (spelled body ++ (instr.End ∷ [])) ≡ length (spelled body) + 1 =
     simp length-append in
-    (h.0 ∙ sym len, sym (ap (λ s. s.rest) h.1), sym (ap (λ s. s.operands) h.1)))
-    (where_shape c body p the_shape typed e)
+    (h.0 ∙ sym len, sym (ap (λ s. s.rest) h.1), sym (ap (λ s. s.operands) h.1))) (where_shape c body
+    p typed e)
   where
     the_shape : Shape
     the_shape = record { labels = []; operands = ts; rest = rest }
 
 pub plain_leads_on : PlainLeadsOn
 plain_leads_on c body p labels ts us i rest typed e b =
-    let a = place_plain c body p labels ts i rest us (at_more c body p labels ts (Plain i rest)
+    let a = place_plain c body p labels ts i rest (at_more c body p labels ts (Plain i rest)
     (not_plain i rest) typed e) b in
-    runs_here c body (suc p) labels rest us a.gives a.runs
+    runs_here a.runs
 
 pub block_leads_in : BlockLeadsIn
 block_leads_in c body p labels ts t inner rest typed e =
     let a = place_block_in c body p labels ts t inner rest
     (at_more c body p labels ts (InBlock t inner rest) (not_block t inner rest) typed e) in
-    runs_here c body (suc p) _ inner [] a.gives a.runs
+    runs_here a.runs
 
 pub loop_leads_in : LoopLeadsIn
 loop_leads_in c body p labels ts t inner rest typed e =
     let a = place_loop_in c body p labels ts t inner rest
     (at_more c body p labels ts (InLoop t inner rest) (not_loop t inner rest) typed e) in
-    runs_here c body (suc p) _ inner [] a.gives a.runs
+    runs_here a.runs
 
 pub if_leads_in : IfLeadsIn
 if_leads_in c body p labels ts t first rest typed e =
     let here = at_more c body p labels ts (InIf t first rest) (not_if t first rest) typed e in
     let a = place_if_in c body p labels ts t first rest here in
-    (here.runs.typed.2, runs_here c body (suc p) _ first [] a.gives a.runs)
+    (here.runs.typed.2, runs_here a.runs)
 
 pub choice_leads_in : IfElseLeadsIn
 choice_leads_in c body p labels ts t first second rest typed e =
     let a = place_choice_first c body p labels ts t first second rest
     (at_more c body p labels ts (InIfElse t first second rest)
     (not_choice t first second rest) typed e) in
-    runs_here c body (suc p) _ first [] a.gives a.runs
+    runs_here a.runs
 
 pub end_leads_out : EndLeadsOut
 end_leads_out c body p takes below target after which outer ts typed e o =

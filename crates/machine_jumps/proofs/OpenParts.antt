@@ -111,16 +111,16 @@ none_both true x y e f = sym e
 none_both false x y e f = sym f
 
 module _ (c : Context) (body : Sequence) where
-  dead_first : (q len L R : ℕ) → Agrees c body q len nothing → len ≡ L + suc R
+  dead_first : {q len : ℕ} (L R : ℕ) → Agrees c body q len nothing → len ≡ L + suc R
       → Agrees c body q L nothing
-  dead_first q len L R a e =
-      agrees_first c body q len L R nothing nothing nothing a e (λ n.
+  dead_first L R a e =
+      agrees_first L R nothing nothing a e (λ n.
       none_both (nat_le n L) None None refl refl)
 
-  dead_second : (q len L R : ℕ) → Agrees c body q len nothing → len ≡ L + suc R
+  dead_second : {q len : ℕ} (L R : ℕ) → Agrees c body q len nothing → len ≡ L + suc R
       → Agrees c body (suc (q + L)) R nothing
-  dead_second q len L R a e =
-      agrees_second c body q len L R nothing nothing nothing a e (λ n.
+  dead_second L R a e =
+      agrees_second L R nothing nothing a e (λ n.
       none_both (nat_le n L) None None refl refl)
 
   module _ (p : ℕ) (opens : List Open) (n : ℕ) (t : Option ValueType) (inner rest : Sequence)
@@ -129,20 +129,19 @@ module _ (c : Context) (body : Sequence) where
         → Agrees c body p (suc (length (spelled inner ++ (i ∷ spelled rest)))) nothing
         → Agrees c body (suc p) (length (spelled inner) + suc (length (spelled rest))) nothing
     dead_behind i a =
-        agrees_behind c body p _ (length (spelled inner) + suc (length (spelled rest))) nothing a
+        agrees_behind (length (spelled inner) + suc (length (spelled rest))) a
         (ap suc (closed_length (spelled inner) (spelled rest) i))
 
     dead_in : Agrees c body p (suc (length (spelled inner ++ (instr.End ∷ spelled rest)))) nothing
         → Agrees c body (suc p) (length (spelled inner)) nothing
-    dead_in a = dead_first (suc p) _ (length (spelled inner)) (length (spelled rest))
+    dead_in a = dead_first (length (spelled inner)) (length (spelled rest))
         (dead_behind instr.End a) refl
 
     dead_after : Agrees c body p (suc (length (spelled inner ++ (instr.End ∷ spelled rest))))
         nothing → Agrees c body (suc (suc p + length (spelled inner)))
         (length (spelled rest)) nothing
     dead_after a =
-        dead_second (suc p) _ (length (spelled inner)) (length (spelled rest))
-        (dead_behind instr.End a) refl
+        dead_second (length (spelled inner)) (length (spelled rest)) (dead_behind instr.End a) refl
 
     far_is : suc p + length (spelled inner) + 1 ≡ suc (suc p + length (spelled inner))
     far_is = omega arith
@@ -180,10 +179,8 @@ module _ (c : Context) (body : Sequence) where
               keeps = refl;
               height = let e = l.count in let b = base_is c body l.labels opens l.targets in
                   omega arith;
-              reached = ap (λ z. body_shape c body z) far_is
-                  ∙ runs_here c body _ l.labels rest (results_of t
-                  ++ l.ts) l.gives
-                  (run_block_behind c body p l.labels l.ts l.gives t inner rest l.runs);
+              reached = ap (λ z. body_shape c body z) far_is ∙ runs_here (run_block_behind c body p
+                  l.labels l.ts l.gives t inner rest l.runs);
             },
             l.targets,
           );
@@ -225,7 +222,7 @@ module _ (c : Context) (body : Sequence) where
               keeps = refl;
               height = let e = l.count in let b = base_is c body l.labels opens l.targets in
                   omega arith;
-              reached = runs_here c body p l.labels (InLoop t inner rest) l.ts l.gives l.runs;
+              reached = runs_here l.runs;
             },
             l.targets,
           );
@@ -267,10 +264,8 @@ module _ (c : Context) (body : Sequence) where
               keeps = refl;
               height = let e = l.count in let b = base_is c body l.labels opens l.targets in
                   simp length-drop (omega arith);
-              reached = ap (λ z. body_shape c body z) far_is
-                  ∙ runs_here c body _ l.labels rest (results_of t
-                  ++ drop 1 l.ts) l.gives
-                  (run_if_behind c body p l.labels l.ts l.gives t inner rest l.runs);
+              reached = ap (λ z. body_shape c body z) far_is ∙ runs_here (run_if_behind c body p
+                  l.labels l.ts l.gives t inner rest l.runs);
             },
             l.targets,
           );
@@ -292,9 +287,7 @@ module _ (c : Context) (body : Sequence) where
       height = let e = l.count in let b = base_is c body l.labels opens l.targets in
           simp length-drop (omega arith);
       reached =
-          let here = runs_here c body _ l.labels rest (results_of t
-          ++ drop 1 l.ts) l.gives
-          (run_if_behind c body p l.labels l.ts l.gives t inner rest l.runs) in
+          let here = runs_here (run_if_behind c body p l.labels l.ts l.gives t inner rest l.runs) in
           ap (λ z. body_shape c body z) far_is
           ∙ subst (λ z. HasShape c body (suc (suc p + length (spelled inner))) l.labels
           (results_of z ++ drop 1 l.ts) rest) l.runs.typed.2 here;
@@ -311,17 +304,17 @@ module _ (c : Context) (body : Sequence) where
         + suc (length (spelled second) + suc (length (spelled rest)))) nothing
     dead_if a =
         let len = closed_length (spelled second) (spelled rest) instr.End in
-        agrees_behind c body p _ _ nothing a (ap suc (closed_length (spelled first) (spelled second
-        ++ (instr.End ∷ spelled rest)) instr.Else
-        ∙ ap (λ z. length (spelled first) + suc z) len))
+        agrees_behind _ a (ap suc (closed_length (spelled first)
+        (spelled second ++ (instr.End ∷ spelled rest)) instr.Else ∙ ap
+        (λ z. length (spelled first) + suc z) len))
 
     dead_else : Agrees c body p (suc (length (spelled first
         ++ (instr.Else ∷ (spelled second ++ (instr.End ∷ spelled rest)))))) nothing
         → Agrees c body (suc (suc p + length (spelled first))) (length (spelled second)
         + suc (length (spelled rest))) nothing
     dead_else a =
-        dead_second (suc p) _ (length (spelled first)) (length (spelled second)
-        + suc (length (spelled rest))) (dead_if a) refl
+        dead_second (length (spelled first)) (length (spelled second) + suc (length (spelled rest)))
+        (dead_if a) refl
 
     abbrev label : Part → List ValueType → LabelShape
     label which ts = ShapeOf (results_of t) rest (drop 1 ts) rest which
@@ -344,10 +337,9 @@ module _ (c : Context) (body : Sequence) where
           count = let e = l.count in simp (length-append, length-drop) (omega arith);
           targets = l.targets;
           part = l.part;
-        }))
-        (λ (a : Agrees c body p (suc (length (spelled first
-        ++ (instr.Else ∷ (spelled second ++ (instr.End ∷ spelled rest)))))) nothing). inr
-        (dead_second _ _ (length (spelled second)) (length (spelled rest)) (dead_else a) refl))
+        })) (λ (a : Agrees c body p (suc (length (spelled first ++
+        (instr.Else ∷ (spelled second ++ (instr.End ∷ spelled rest)))))) nothing).
+        inr (dead_second (length (spelled second)) (length (spelled rest)) (dead_else a) refl))
 
     abbrev of_choice : Open
     of_choice = open_sequence (suc (suc p + length (spelled first)) + length (spelled second) + 1)
@@ -361,10 +353,8 @@ module _ (c : Context) (body : Sequence) where
         keeps = refl;
         height = let e = l.count in let b = base_is c body l.labels opens l.targets in
             simp length-drop (omega arith);
-        reached = ap (λ z. body_shape c body z) last_is
-            ∙ runs_here c body _ l.labels rest (results_of t
-            ++ drop 1 l.ts) l.gives
-            (run_choice_behind c body p l.labels l.ts l.gives t first second rest l.runs);
+        reached = ap (λ z. body_shape c body z) last_is ∙ runs_here (run_choice_behind c body p
+            l.labels l.ts l.gives t first second rest l.runs);
       },
       l.targets,
     )
@@ -381,11 +371,10 @@ module _ (c : Context) (body : Sequence) where
           count = refl;
           targets = choice_targets Main l;
           part = (refl, refl);
-        }))
-        (λ (a : Agrees c body p (suc (length (spelled first
-        ++ (instr.Else ∷ (spelled second ++ (instr.End ∷ spelled rest)))))) nothing). inr
-        (dead_first (suc p) _ (length (spelled first)) (length (spelled second)
-        + suc (length (spelled rest))) (dead_if a) refl))
+        })) (λ (a : Agrees c body p (suc (length (spelled first ++
+        (instr.Else ∷ (spelled second ++ (instr.End ∷ spelled rest)))))) nothing).
+        inr (dead_first (length (spelled first))
+        (length (spelled second) + suc (length (spelled rest))) (dead_if a) refl))
 
     pub choice_second : Lives c body p opens n (InIfElse t first second rest) parted
         → Lives c body (suc (suc p + length (spelled first))) (of_choice ∷ opens) 0 second false
@@ -399,10 +388,9 @@ module _ (c : Context) (body : Sequence) where
           count = refl;
           targets = choice_targets Second l;
           part = tt;
-        }))
-        (λ (a : Agrees c body p (suc (length (spelled first
-        ++ (instr.Else ∷ (spelled second ++ (instr.End ∷ spelled rest)))))) nothing). inr
-        (dead_first _ _ (length (spelled second)) (length (spelled rest)) (dead_else a) refl))
+        })) (λ (a : Agrees c body p (suc (length (spelled first ++
+        (instr.Else ∷ (spelled second ++ (instr.End ∷ spelled rest)))))) nothing).
+        inr (dead_first (length (spelled second)) (length (spelled rest)) (dead_else a) refl))
 
     -- where an `if` with a second part goes
     pub choice_jump : (l : Live c body p opens n (InIfElse t first second rest) parted)
@@ -419,7 +407,6 @@ module _ (c : Context) (body : Sequence) where
           keeps = refl;
           height = let e = l.count in let b = base_is c body l.labels opens l.targets in
               simp length-drop (omega arith);
-          reached = ap (λ z. body_shape c body z) same
-              ∙ runs_here c body _ (label Second l.ts ∷ l.labels) second [] (results_of t)
-              (run_choice_second c body p l.labels l.ts l.gives t first second rest l.runs);
+          reached = ap (λ z. body_shape c body z) same ∙ runs_here (run_choice_second c body p
+              l.labels l.ts l.gives t first second rest l.runs);
         }

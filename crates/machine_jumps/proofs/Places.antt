@@ -48,21 +48,22 @@ pub record Place (c : Context) (body : Sequence) (p : ℕ) (labels : List LabelS
 
 -- ---- the opcodes
 
-drop_more : (p n : ℕ) (xs ys : List Instruction) → drop p xs ≡ ys → drop (p + n) xs ≡ drop n ys
-drop_more p n xs ys e = sym (drop-drop n p xs) ∙ ap (drop n) e
+drop_more : (p n : ℕ) (xs : List Instruction) {ys : List Instruction} → drop p xs ≡ ys → drop
+    (p + n) xs ≡ drop n ys
+drop_more p n xs e = sym (drop-drop n p xs) ∙ ap (drop n) e
 
 drop_one : (p : ℕ) (y : Instruction) (xs ys : List Instruction) → drop p xs ≡ y ∷ ys
     → drop (suc p) xs ≡ ys
-drop_one p y xs ys e = let same : suc p ≡ p + 1 = omega arith in ap (λ z. drop z xs) same
-    ∙ drop_more p 1 xs (y ∷ ys) e
+drop_one p y xs ys e = let same : suc p ≡ p + 1 = omega arith in ap (λ z. drop z xs) same ∙
+    drop_more p 1 xs e
 
 -- after what closes a sequence
 drop_closed : (p : ℕ) (y : Instruction) (xs front ys : List Instruction)
     → drop p xs ≡ front ++ (y ∷ ys) → drop (suc (p + length front)) xs ≡ ys
 drop_closed p y xs front ys e =
     let same : suc (p + length front) ≡ p + (length front + 1) = omega arith in
-    ap (λ z. drop z xs) same ∙ drop_more p (length front + 1) xs (front ++ (y ∷ ys)) e
-    ∙ drop-append-add front (y ∷ ys) 1
+    ap (λ z. drop z xs) same ∙ drop_more p (length front + 1) xs e ∙ drop-append-add front (y ∷ ys)
+    1
 
 -- the opcodes of an inner sequence, with what closes it
 code_in : (p : ℕ) (i y : Instruction) (xs inner rest tail : List Instruction)
@@ -79,13 +80,13 @@ module _ (c : Context) (body : Sequence) (p : ℕ) (labels : List LabelShape)
       → Closes c body labels gives e tail → Closes c body labels gives e' tail
   ends_at gives tail e e' same h = subst (λ z. Closes c body labels gives z tail) same h
 
-  pub place_plain : (i : Instruction) (rest : Sequence) (us : List ValueType)
+  pub place_plain : (i : Instruction) (rest : Sequence) {us : List ValueType}
       → Place c body p labels ts (Plain i rest) → types_behind c i ts ≡ Some us
       → Place c body (suc p) labels us rest
-  place_plain i rest us a e = record {
+  place_plain i rest a e = record {
     gives = a.gives;
     tail = a.tail;
-    runs = run_plain c body p labels ts a.gives i rest us a.runs e;
+    runs = run_plain c body p labels ts a.gives i rest a.runs e;
     code = drop_one p i (opcodes_of body) (spelled rest ++ a.tail) a.code;
     closes = ends_at a.gives a.tail _ _ (omega arith) a.closes;
   }
@@ -121,8 +122,7 @@ module _ (c : Context) (body : Sequence) (p : ℕ) (labels : List LabelShape)
           closes = inl (record {
             next = spelled rest ++ a.tail;
             is = refl;
-            reached = runs_here c body _ labels rest (results_of t
-                ++ ts) after.gives after.runs;
+            reached = runs_here after.runs;
           });
         }
 
@@ -151,8 +151,7 @@ module _ (c : Context) (body : Sequence) (p : ℕ) (labels : List LabelShape)
           closes = inl (record {
             next = spelled rest ++ a.tail;
             is = refl;
-            reached = runs_here c body _ labels rest (results_of t
-                ++ ts) after.gives after.runs;
+            reached = runs_here after.runs;
           });
         }
 
@@ -182,8 +181,7 @@ module _ (c : Context) (body : Sequence) (p : ℕ) (labels : List LabelShape)
           closes = inl (record {
             next = spelled rest ++ a.tail;
             is = refl;
-            reached = runs_here c body _ labels rest (results_of t
-                ++ drop 1 ts) after.gives after.runs;
+            reached = runs_here after.runs;
           });
         }
 
@@ -246,8 +244,7 @@ module _ (c : Context) (body : Sequence) (p : ℕ) (labels : List LabelShape)
           closes = inl (record {
             next = spelled rest ++ a.tail;
             is = refl;
-            reached = runs_here c body _ labels rest (results_of t
-                ++ drop 1 ts) after.gives after.runs;
+            reached = runs_here after.runs;
           });
         }
 
@@ -256,15 +253,15 @@ module _ (c : Context) (body : Sequence) (p : ℕ) (labels : List LabelShape)
 abbrev PlaceOf : Context → Sequence → ℕ → Shape → Type 0
 PlaceOf c body p s = Place c body p s.labels s.operands s.rest
 
-bind_some : (f : List ValueType → Option Shape) (o : Option (List ValueType)) (s : Shape)
+bind_some : (f : List ValueType → Option Shape) (o : Option (List ValueType)) {s : Shape}
     → option_and_then f o ≡ Some s → (us : List ValueType) × (o ≡ Some us) × (f us ≡ Some s)
-bind_some f None s e = absurd (cc)
-bind_some f (Some us) s e = (us, refl, e)
+bind_some f None e = absurd (cc)
+bind_some f (Some us) e = (us, refl, e)
 
 -- a choice by a test
-chosen : (n m : ℕ) (x y : Option Shape) (s : Shape) → (if nat_le n m then x else y) ≡ Some s
+chosen : (n m : ℕ) (x y : Option Shape) {s : Shape} → (if nat_le n m then x else y) ≡ Some s
     → ((n ≤ m) × (x ≡ Some s)) ⊎ ((m < n) × (y ≡ Some s))
-chosen n m x y s e = by_test (nat_le n m) refl e
+chosen n m x y {s} e = by_test (nat_le n m) refl e
   where
     by_test : (b : Bool) → nat_le n m ≡ b → (if b then x else y) ≡ Some s → ((n ≤ m) × (x ≡ Some s))
         ⊎ ((m < n) × (y ≡ Some s))
@@ -275,92 +272,81 @@ module _ (c : Context) (body : Sequence) where
   placed_at : (p q : ℕ) (s : Shape) → p ≡ q → PlaceOf c body p s → PlaceOf c body q s
   placed_at p q s e a = subst (λ z. PlaceOf c body z s) e a
 
-  pub reach : (rest : Sequence) (p n : ℕ) (labels : List LabelShape) (ts : List ValueType)
-      (s : Shape) → Place c body p labels ts rest → shape_at c labels rest ts n ≡ Some s
+  pub reach : (rest : Sequence) {p : ℕ} (n : ℕ) {labels : List LabelShape} {ts : List ValueType}
+      {s : Shape} → Place c body p labels ts rest → shape_at c labels rest ts n ≡ Some s
       → PlaceOf c body (p + n) s
-  reach rest p zero labels ts s a e =
+  reach rest {p} zero {labels} {ts} {s} a e =
       let same : record { labels = labels; operands = ts; rest = rest } ≡ s = cc in
       placed_at p (p + 0) s (omega arith) (subst (λ z. PlaceOf c body p z) same a)
-  reach Stop p (suc n) labels ts s a e = absurd (cc)
-  reach (Plain i rest) p (suc n) labels ts s a e =
-      let b = bind_some (λ us. shape_at c labels rest us n) (types_behind c i ts) s e in
-      placed_at (suc p + n) (p + suc n) s (omega arith) (reach rest (suc p) n labels b.0 s
-      (place_plain c body p labels ts i rest b.0 a b.1) b.2)
-  reach (InBlock t inner rest) p (suc n) labels ts s a e =
+  reach Stop (suc n) a e = absurd (cc)
+  reach (Plain i rest) {p} (suc n) {labels} {ts} {s} a e =
+      let b = bind_some (λ us. shape_at c labels rest us n) (types_behind c i ts) e in
+      placed_at (suc p + n) (p + suc n) s (omega arith) (reach rest n
+      (place_plain c body p labels ts i rest a b.1) b.2)
+  reach (InBlock t inner rest) {p} (suc n) {labels} {ts} {s} a e =
       let L = length (spelled inner) in
       ⊎_elim
       (λ (h : (n ≤ L) × (shape_at c (ShapeOf (results_of t) rest ts rest Main ∷ labels) inner [] n
       ≡ Some s)).
-      placed_at (suc p + n) (p + suc n) s (omega arith)
-      (reach inner (suc p) n _ [] s (place_block_in c body p labels ts t inner rest a) h.1))
-      (λ (h : (L < n) × (shape_at c labels rest (results_of t ++ ts) (n - (L + 1)) ≡ Some s)).
+      placed_at (suc p + n) (p + suc n) s (omega arith) (reach inner n
+      (place_block_in c body p labels ts t inner rest a) h.1)) (λ (h : (L < n) × (shape_at c labels
+      rest (results_of t ++ ts) (n - (L + 1)) ≡ Some s)).
       placed_at (suc (suc p + L) + (n - (L + 1))) (p + suc n) s (omega (
         arith,
         h.0,
-      )) (reach rest (suc (suc p + L)) (n - (L + 1)) labels (results_of t
-      ++ ts) s (place_block_behind c body p labels ts t inner rest a) h.1))
-      (chosen n L _ _ s e)
-  reach (InLoop t inner rest) p (suc n) labels ts s a e =
+      )) (reach rest (n - (L + 1)) (place_block_behind c body p labels ts t inner rest
+      a) h.1)) (chosen n L _ _ e)
+  reach (InLoop t inner rest) {p} (suc n) {labels} {ts} {s} a e =
       let L = length (spelled inner) in
       ⊎_elim
       (λ (h : (n ≤ L) × (shape_at c (ShapeOf [] (InLoop t inner rest) ts rest Main
       ∷ labels) inner [] n ≡ Some s)).
-      placed_at (suc p + n) (p + suc n) s (omega arith)
-      (reach inner (suc p) n _ [] s (place_loop_in c body p labels ts t inner rest a) h.1))
-      (λ (h : (L < n) × (shape_at c labels rest (results_of t ++ ts) (n - (L + 1)) ≡ Some s)).
+      placed_at (suc p + n) (p + suc n) s (omega arith) (reach inner n
+      (place_loop_in c body p labels ts t inner rest a) h.1)) (λ (h : (L < n) × (shape_at c labels
+      rest (results_of t ++ ts) (n - (L + 1)) ≡ Some s)).
       placed_at (suc (suc p + L) + (n - (L + 1))) (p + suc n) s (omega (
         arith,
         h.0,
-      )) (reach rest (suc (suc p + L)) (n - (L + 1)) labels (results_of t
-      ++ ts) s (place_loop_behind c body p labels ts t inner rest a) h.1))
-      (chosen n L _ _ s e)
-  reach (InIf t inner rest) p (suc n) labels ts s a e =
+      )) (reach rest (n - (L + 1)) (place_loop_behind c body p labels ts t inner rest
+      a) h.1)) (chosen n L _ _ e)
+  reach (InIf t inner rest) {p} (suc n) {labels} {ts} {s} a e =
       let L = length (spelled inner) in
       ⊎_elim
       (λ (h : (n ≤ L) × (shape_at c (ShapeOf (results_of t) rest (drop 1 ts) rest Main
       ∷ labels) inner [] n ≡ Some s)).
-      placed_at (suc p + n) (p + suc n) s (omega arith)
-      (reach inner (suc p) n _ [] s (place_if_in c body p labels ts t inner rest a) h.1))
-      (λ (h : (L < n) × (shape_at c labels rest (results_of t ++ drop 1 ts) (n - (L + 1))
-      ≡ Some s)).
+      placed_at (suc p + n) (p + suc n) s (omega arith) (reach inner n
+      (place_if_in c body p labels ts t inner rest a) h.1)) (λ (h : (L < n) × (shape_at c labels
+      rest (results_of t ++ drop 1 ts) (n - (L + 1)) ≡ Some s)).
       placed_at (suc (suc p + L) + (n - (L + 1))) (p + suc n) s (omega (
         arith,
         h.0,
-      )) (reach rest (suc (suc p + L)) (n - (L + 1)) labels (results_of t
-      ++ drop 1 ts) s (place_if_behind c body p labels ts t inner rest a) h.1))
-      (chosen n L _ _ s e)
-  reach (InIfElse t first second rest) p (suc n) labels ts s a e =
+      )) (reach rest (n - (L + 1)) (place_if_behind c body p labels ts t inner rest
+      a) h.1)) (chosen n L _ _ e)
+  reach (InIfElse t first second rest) {p} (suc n) {labels} {ts} {s} a e =
       let L = length (spelled first) in let M = length (spelled second) in
       ⊎_elim
       (λ (h : (n ≤ L) × (shape_at c (ShapeOf (results_of t) rest (drop 1 ts) rest Main
       ∷ labels) first [] n ≡ Some s)).
-      placed_at (suc p + n) (p + suc n) s (omega arith)
-      (reach first (suc p) n _ [] s
-      (place_choice_first c body p labels ts t first second rest a) h.1))
-      (λ (h : (L < n) × ((if nat_le (n - (L + 1)) M
-      then shape_at c (ShapeOf (results_of t) rest (drop 1 ts) rest Second
-      ∷ labels) second [] (n - (L + 1))
-      else shape_at c labels rest (results_of t ++ drop 1 ts) (n - (L + 1) - (M + 1)))
-      ≡ Some s)).
+      placed_at (suc p + n) (p + suc n) s (omega arith) (reach first n
+      (place_choice_first c body p labels ts t first second rest a) h.1)) (λ (h : (L < n) × ((if
+      nat_le (n - (L + 1)) M then shape_at c
+      (ShapeOf (results_of t) rest (drop 1 ts) rest Second ∷ labels) second [] (n - (L + 1)) else
+      shape_at c labels rest (results_of t ++ drop 1 ts) (n - (L + 1) - (M + 1))) ≡ Some s)).
       ⊎_elim
       (λ (k : (n - (L + 1) ≤ M) × (shape_at c (ShapeOf (results_of t) rest (drop 1 ts) rest Second
       ∷ labels) second [] (n - (L + 1)) ≡ Some s)).
       placed_at (suc (suc p + L) + (n - (L + 1))) (p + suc n) s (omega (
         arith,
         h.0,
-      )) (reach second (suc (suc p + L)) (n - (L + 1)) _ [] s
-      (place_choice_second c body p labels ts t first second rest a) k.1))
-      (λ (k : (M < n - (L + 1)) × (shape_at c labels rest (results_of t
-      ++ drop 1 ts) (n - (L + 1) - (M + 1)) ≡ Some s)).
+      )) (reach second (n - (L + 1)) (place_choice_second c body p labels ts t first second rest
+      a) k.1)) (λ (k : (M < n - (L + 1)) × (shape_at c labels rest (results_of t ++ drop 1 ts)
+      (n - (L + 1) - (M + 1)) ≡ Some s)).
       placed_at (suc (suc (suc p + L) + M) + (n - (L + 1) - (M + 1))) (p + suc n) s (omega (
         arith,
         h.0,
         k.0,
-      )) (reach rest (suc (suc (suc p + L) + M)) (n - (L + 1) - (M + 1)) labels
-      (results_of t
-      ++ drop 1 ts) s (place_choice_behind c body p labels ts t first second rest a) k.1))
-      (chosen (n - (L + 1)) M _ _ s h.1))
-      (chosen n L _ _ s e)
+      )) (reach rest (n - (L + 1) - (M + 1)) (place_choice_behind c body p labels ts t first second
+      rest a) k.1)) (chosen (n - (L + 1)) M _ _ h.1)) (chosen n L _ _ e)
 
   -- after the last end
   abbrev end_shape : Shape
@@ -421,18 +407,16 @@ module _ (c : Context) (body : Sequence) where
   }
 
   -- a position is inside of the body or after its last end
-  pub where_position : (p : ℕ) (s : Shape) → body_shape c body p ≡ Some s
+  pub where_position : (p : ℕ) {s : Shape} → body_shape c body p ≡ Some s
       → ((p ≤ length (spelled body))
       × (shape_at c (ShapeOf c.returns Stop [] Stop Main ∷ []) body [] p ≡ Some s))
       ⊎ ((p ≡ length (spelled body) + 1) × (end_shape ≡ s))
-  where_position p s e =
-      ⊎_elim
-      (λ (h : (p ≤ length (spelled body))
-      × (shape_at c (ShapeOf c.returns Stop [] Stop Main ∷ []) body [] p ≡ Some s)). inl h)
-      (λ (h : (length (spelled body) < p)
-      × ((if p == length (spelled body) + 1 then Some end_shape else None) ≡ Some s)). inr
-      (at_end (p == length (spelled body) + 1) refl h.1))
-      (chosen p (length (spelled body)) _ _ s e)
+  where_position p {s} e =
+      ⊎_elim (λ (h : (p ≤ length (spelled body)) × (shape_at c
+      (ShapeOf c.returns Stop [] Stop Main ∷ []) body [] p ≡ Some s)). inl h) (λ (h :
+      (length (spelled body) < p) × ((if p == length (spelled body) + 1 then Some end_shape else
+      None) ≡ Some s)). inr (at_end (p == length (spelled body) + 1) refl h.1))
+      (chosen p (length (spelled body)) _ _ e)
     where
       at_end : (b : Bool) → (p == length (spelled body) + 1) ≡ b
           → (if b then Some end_shape else None) ≡ Some s → (p ≡ length (spelled body) + 1)
@@ -440,12 +424,10 @@ module _ (c : Context) (body : Sequence) where
       at_end true t h = (grind (arith, nat_tests), cc)
       at_end false t h = absurd (cc)
 
-  pub where_shape : (p : ℕ) (s : Shape) → IsTypedBody c body → body_shape c body p ≡ Some s
+  pub where_shape : (p : ℕ) {s : Shape} → IsTypedBody c body → body_shape c body p ≡ Some s
       → PlaceOf c body p s ⊎ ((p ≡ length (spelled body) + 1) × (end_shape ≡ s))
-  where_shape p s typed e =
-      ⊎_elim
-      (λ (h : (p ≤ length (spelled body))
-      × (shape_at c (ShapeOf c.returns Stop [] Stop Main ∷ []) body [] p ≡ Some s)). inl
-      (placed_at (0 + p) p s (omega arith) (reach body 0 p _ [] s (root_place typed) h.1)))
-      (λ (h : (p ≡ length (spelled body) + 1) × (end_shape ≡ s)). inr h)
-      (where_position p s e)
+  where_shape p {s} typed e =
+      ⊎_elim (λ (h : (p ≤ length (spelled body)) × (shape_at c
+      (ShapeOf c.returns Stop [] Stop Main ∷ []) body [] p ≡ Some s)). inl (placed_at (0 + p) p s
+      (omega arith) (reach body p (root_place typed) h.1))) (λ
+      (h : (p ≡ length (spelled body) + 1) × (end_shape ≡ s)). inr h) (where_position p e)

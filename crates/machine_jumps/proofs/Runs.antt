@@ -30,26 +30,29 @@ pub record Agrees (c : Context) (body : Sequence) (p len : ℕ) (shapes : ℕ
 passed : (n m : ℕ) (x y : Option Shape) → m < n → (if nat_le n m then x else y) ≡ y
 passed n m x y h = let e = lt-leb n m h in rw e refl
 
-module _ (c : Context) (body : Sequence) where
-  pub agrees_behind : (p len m : ℕ) (f : ℕ → Option Shape) → Agrees c body p len f → len ≡ suc m
+module _ {c : Context} {body : Sequence} where
+  pub agrees_behind : {p len : ℕ} (m : ℕ) {f : ℕ → Option Shape} → Agrees c body p len f → len ≡ suc
+      m
       → Agrees c body (suc p) m (λ n. f (suc n))
-  agrees_behind p len m f a e = record {
+  agrees_behind {p} m a e = record {
     at = λ n h. let same : suc p + n ≡ p + suc n = omega arith in ap (λ z. body_shape c body z) same
         ∙ a.at (suc n) (omega arith);
   }
 
-  pub agrees_first : (q len L R : ℕ) (f x y : ℕ → Option Shape) → Agrees c body q len f
+  pub agrees_first : {q len : ℕ} (L R : ℕ) {f : ℕ → Option Shape} (x y : ℕ → Option Shape) → Agrees
+      c body q len f
       → len ≡ L + suc R → ((n : ℕ) → f n ≡ (if nat_le n L then x n else y (n - (L + 1))))
       → Agrees c body q L x
-  agrees_first q len L R f x y a e parts = record {
+  agrees_first L R x y a e parts = record {
     at = λ n h. a.at n (omega arith) ∙ parts n
         ∙ chosen n L (x n) (y (n - (L + 1))) h;
   }
 
-  pub agrees_second : (q len L R : ℕ) (f x y : ℕ → Option Shape) → Agrees c body q len f
+  pub agrees_second : {q len : ℕ} (L R : ℕ) {f : ℕ → Option Shape} (x y : ℕ → Option Shape) → Agrees
+      c body q len f
       → len ≡ L + suc R → ((n : ℕ) → f n ≡ (if nat_le n L then x n else y (n - (L + 1))))
       → Agrees c body (suc (q + L)) R y
-  agrees_second q len L R f x y a e parts = record {
+  agrees_second {q} L R x y a e parts = record {
     at = λ n h.
         let same : suc (q + L) + n ≡ q + (L + suc n) = omega arith in
         let back : L + suc n - (L + 1) ≡ n = omega arith in
@@ -65,25 +68,24 @@ pub record RunsFrom (c : Context) (body : Sequence) (p : ℕ) (labels : List Lab
   pub covers : Agrees c body p (length (spelled rest)) (λ n. shape_at c labels rest ts n)
 
 -- what is there
-pub runs_here : (c : Context) (body : Sequence) (p : ℕ) (labels : List LabelShape) (rest : Sequence)
-    (ts gives : List ValueType) → RunsFrom c body p labels rest ts gives
+pub runs_here : {c : Context} {body : Sequence} {p : ℕ} {labels : List LabelShape} {rest : Sequence}
+    {ts gives : List ValueType} → RunsFrom c body p labels rest ts gives
     → body_shape c body p ≡ Some (record { labels = labels; operands = ts; rest = rest })
-runs_here c body p labels rest ts gives r = let same : p ≡ p + 0 = omega arith in
+runs_here {c} {body} {p} r = let same : p ≡ p + 0 = omega arith in
     ap (λ z. body_shape c body z) same ∙ r.covers.at 0 (omega arith)
 
 module _ (c : Context) (body : Sequence) (p : ℕ) (labels : List LabelShape)
     (ts gives : List ValueType) where
-  pub run_plain : (i : Instruction) (rest : Sequence) (us : List ValueType)
+  pub run_plain : (i : Instruction) (rest : Sequence) {us : List ValueType}
       → RunsFrom c body p labels (Plain i rest) ts gives → types_behind c i ts ≡ Some us
       → RunsFrom c body (suc p) labels rest us gives
-  run_plain i rest us r e =
+  run_plain i rest {us} r e =
       let h = r.typed in
       let b : IsBehind (types_behind c i ts) (h.1 ++ h.2) =
       subst (λ z. IsBehind (types_behind c i z) (h.1 ++ h.2)) (sym h.3)
       (typed_behind c (branches_of labels) i h.0 h.1 h.2 h.4) in
       let same : us ≡ h.1 ++ h.2 = rw e at b in
-      let a = agrees_behind c body p (suc (length (spelled rest))) (length (spelled rest)) (λ n.
-      shape_at c labels (Plain i rest) ts n) r.covers refl in
+      let a = agrees_behind (length (spelled rest)) r.covers refl in
       record {
         typed = subst (λ z. HasType c (branches_of labels) rest z gives) (sym same) h.5;
         covers = record {
@@ -102,11 +104,10 @@ module _ (c : Context) (body : Sequence) (p : ℕ) (labels : List LabelShape)
         let len = closed_length (spelled inner) (spelled rest) instr.End in
         record {
           typed = r.typed.0;
-          covers = agrees_first c body (suc p) (L + suc R) L R _ (λ n.
+          covers = agrees_first L R (λ n.
               shape_at c (ShapeOf (results_of t) rest ts rest Main ∷ labels) inner [] n) (λ n.
-              shape_at c labels rest (results_of t ++ ts) n)
-              (agrees_behind c body p _ (L + suc R) (λ n.
-              shape_at c labels (InBlock t inner rest) ts n) r.covers (ap suc len)) refl (λ n.
+              shape_at c labels rest (results_of t ++ ts) n) (agrees_behind (L + suc R) r.covers
+              (ap suc len)) refl (λ n.
               refl);
         }
 
@@ -118,11 +119,10 @@ module _ (c : Context) (body : Sequence) (p : ℕ) (labels : List LabelShape)
         let len = closed_length (spelled inner) (spelled rest) instr.End in
         record {
           typed = r.typed.1;
-          covers = agrees_second c body (suc p) (L + suc R) L R _ (λ n.
+          covers = agrees_second L R (λ n.
               shape_at c (ShapeOf (results_of t) rest ts rest Main ∷ labels) inner [] n) (λ n.
-              shape_at c labels rest (results_of t ++ ts) n)
-              (agrees_behind c body p _ (L + suc R) (λ n.
-              shape_at c labels (InBlock t inner rest) ts n) r.covers (ap suc len)) refl (λ n.
+              shape_at c labels rest (results_of t ++ ts) n) (agrees_behind (L + suc R) r.covers
+              (ap suc len)) refl (λ n.
               refl);
         }
 
@@ -134,11 +134,10 @@ module _ (c : Context) (body : Sequence) (p : ℕ) (labels : List LabelShape)
         let len = closed_length (spelled inner) (spelled rest) instr.End in
         record {
           typed = r.typed.0;
-          covers = agrees_first c body (suc p) (L + suc R) L R _ (λ n.
+          covers = agrees_first L R (λ n.
               shape_at c (ShapeOf [] (InLoop t inner rest) ts rest Main ∷ labels) inner [] n) (λ n.
-              shape_at c labels rest (results_of t ++ ts) n)
-              (agrees_behind c body p _ (L + suc R) (λ n.
-              shape_at c labels (InLoop t inner rest) ts n) r.covers (ap suc len)) refl (λ n.
+              shape_at c labels rest (results_of t ++ ts) n) (agrees_behind (L + suc R) r.covers
+              (ap suc len)) refl (λ n.
               refl);
         }
 
@@ -150,11 +149,10 @@ module _ (c : Context) (body : Sequence) (p : ℕ) (labels : List LabelShape)
         let len = closed_length (spelled inner) (spelled rest) instr.End in
         record {
           typed = r.typed.1;
-          covers = agrees_second c body (suc p) (L + suc R) L R _ (λ n.
+          covers = agrees_second L R (λ n.
               shape_at c (ShapeOf [] (InLoop t inner rest) ts rest Main ∷ labels) inner [] n) (λ n.
-              shape_at c labels rest (results_of t ++ ts) n)
-              (agrees_behind c body p _ (L + suc R) (λ n.
-              shape_at c labels (InLoop t inner rest) ts n) r.covers (ap suc len)) refl (λ n.
+              shape_at c labels rest (results_of t ++ ts) n) (agrees_behind (L + suc R) r.covers
+              (ap suc len)) refl (λ n.
               refl);
         }
 
@@ -168,11 +166,10 @@ module _ (c : Context) (body : Sequence) (p : ℕ) (labels : List LabelShape)
         record {
           typed = subst (λ z. HasType c (results_of z ∷ branches_of labels) inner [] (results_of z))
               (sym h.2) h.3;
-          covers = agrees_first c body (suc p) (L + suc R) L R _ (λ n.
-              shape_at c (ShapeOf (results_of t) rest (drop 1 ts) rest Main ∷ labels) inner [] n)
-              (λ n. shape_at c labels rest (results_of t ++ drop 1 ts) n)
-              (agrees_behind c body p _ (L + suc R) (λ n.
-              shape_at c labels (InIf t inner rest) ts n) r.covers (ap suc len)) refl (λ n.
+          covers = agrees_first L R (λ n.
+              shape_at c (ShapeOf (results_of t) rest (drop 1 ts) rest Main ∷ labels) inner [] n) (λ
+              n. shape_at c labels rest (results_of t ++ drop 1 ts) n) (agrees_behind (L + suc R)
+              r.covers (ap suc len)) refl (λ n.
               refl);
         }
 
@@ -189,11 +186,10 @@ module _ (c : Context) (body : Sequence) (p : ℕ) (labels : List LabelShape)
         record {
           typed = subst (λ z. HasType c (branches_of labels) rest (results_of z ++ drop 1 ts) gives)
               (sym h.2) rest_typed;
-          covers = agrees_second c body (suc p) (L + suc R) L R _ (λ n.
-              shape_at c (ShapeOf (results_of t) rest (drop 1 ts) rest Main ∷ labels) inner [] n)
-              (λ n. shape_at c labels rest (results_of t ++ drop 1 ts) n)
-              (agrees_behind c body p _ (L + suc R) (λ n.
-              shape_at c labels (InIf t inner rest) ts n) r.covers (ap suc len)) refl (λ n.
+          covers = agrees_second L R (λ n.
+              shape_at c (ShapeOf (results_of t) rest (drop 1 ts) rest Main ∷ labels) inner [] n) (λ
+              n. shape_at c labels rest (results_of t ++ drop 1 ts) n) (agrees_behind (L + suc R)
+              r.covers (ap suc len)) refl (λ n.
               refl);
         }
 
@@ -217,16 +213,15 @@ module _ (c : Context) (body : Sequence) (p : ℕ) (labels : List LabelShape)
         + suc (length (spelled second) + suc (length (spelled rest)))) (λ n.
         shape_at c labels (InIfElse t first second rest) ts (suc n))
     behind_if r =
-        agrees_behind c body p _ _ (λ n. shape_at c labels (InIfElse t first second rest) ts n)
-        r.covers (ap suc choice_length)
+        agrees_behind _ r.covers (ap suc choice_length)
 
     behind_else : RunsFrom c body p labels (InIfElse t first second rest) ts gives
         → Agrees c body (suc (suc p + length (spelled first))) (length (spelled second)
         + suc (length (spelled rest))) from_second
     unfolding from_second
     behind_else r =
-        agrees_second c body (suc p) _ (length (spelled first)) (length (spelled second)
-        + suc (length (spelled rest))) _ (λ n.
+        agrees_second (length (spelled first))
+        (length (spelled second) + suc (length (spelled rest))) (λ n.
         shape_at c (ShapeOf (results_of t) rest (drop 1 ts) rest Main
         ∷ labels) first [] n) from_second (behind_if r) refl (λ n. refl)
 
@@ -236,8 +231,8 @@ module _ (c : Context) (body : Sequence) (p : ℕ) (labels : List LabelShape)
     unfolding from_second
     run_choice_first r = record {
       typed = r.typed.2;
-      covers = agrees_first c body (suc p) _ (length (spelled first)) (length (spelled second)
-          + suc (length (spelled rest))) _ (λ n.
+      covers = agrees_first (length (spelled first))
+          (length (spelled second) + suc (length (spelled rest))) (λ n.
           shape_at c (ShapeOf (results_of t) rest (drop 1 ts) rest Main
           ∷ labels) first [] n) from_second (behind_if r) refl (λ n. refl);
     }
@@ -248,10 +243,10 @@ module _ (c : Context) (body : Sequence) (p : ℕ) (labels : List LabelShape)
     unfolding from_second
     run_choice_second r = record {
       typed = r.typed.3;
-      covers = agrees_first c body _ _ (length (spelled second)) (length (spelled rest)) from_second
-          (λ n. shape_at c (ShapeOf (results_of t) rest (drop 1 ts) rest Second
-          ∷ labels) second [] n) (λ n. shape_at c labels rest (results_of t ++ drop 1 ts) n)
-          (behind_else r) refl (λ n. refl);
+      covers = agrees_first (length (spelled second)) (length (spelled rest)) (λ n. shape_at c
+          (ShapeOf (results_of t) rest (drop 1 ts) rest Second ∷ labels) second [] n)
+          (λ n. shape_at c labels rest (results_of t ++ drop 1 ts) n) (behind_else r) refl
+          (λ n. refl);
     }
 
     pub run_choice_behind : RunsFrom c body p labels (InIfElse t first second rest) ts gives
@@ -264,8 +259,7 @@ module _ (c : Context) (body : Sequence) (p : ℕ) (labels : List LabelShape)
         record {
           typed = subst (λ z. HasType c (branches_of labels) rest (results_of t
               ++ z) gives) below h.4;
-          covers = agrees_second c body _ _ (length (spelled second))
-              (length (spelled rest)) from_second (λ n.
+          covers = agrees_second (length (spelled second)) (length (spelled rest)) (λ n.
               shape_at c (ShapeOf (results_of t) rest (drop 1 ts) rest Second ∷ labels) second [] n)
               (λ n. shape_at c labels rest (results_of t ++ drop 1 ts) n) (behind_else r) refl (λ n.
               refl);

@@ -24,11 +24,11 @@ held_all (LabelOf keeps target below after which ∷ labels) =
     omega (arith, held_all labels, length-append below (all_below labels))
 
 -- the topmost values are in front of the others
-pub topmost_is : (n : ℕ) (vs kept : List Value) → topmost n vs ≡ Some kept → (length kept ≡ n)
-    × (vs ≡ kept ++ drop n vs)
-topmost_is zero vs kept e = let same : kept ≡ [] = cc in rw same (refl, refl)
-topmost_is (suc n) [] kept e = absurd (cc)
-topmost_is (suc n) (v ∷ vs) kept e = more (λ taken h. topmost_is n vs taken h) (topmost n vs) refl e
+pub topmost_is : (n : ℕ) (vs : List Value) {kept : List Value} → topmost n vs ≡ Some kept →
+    (length kept ≡ n) × (vs ≡ kept ++ drop n vs)
+topmost_is zero vs {kept} e = let same : kept ≡ [] = cc in rw same (refl, refl)
+topmost_is (suc n) [] e = absurd (cc)
+topmost_is (suc n) (v ∷ vs) {kept} e = more (λ taken h. topmost_is n vs h) (topmost n vs) refl e
   where
     more : ((taken : List Value) → topmost n vs ≡ Some taken → (length taken ≡ n)
         × (vs ≡ taken ++ drop n vs)) → (o : Option (List Value)) → topmost n vs ≡ o
@@ -66,7 +66,7 @@ leads zero f g ls ms (LabelOf keeps target' below after which ∷ labels) outer 
         → Leads zero (LabelOf keeps target' below after which ∷ labels) outer vs values
     here None h e = absurd (cc)
     here (Some kept) h e =
-        let t = topmost_is keeps vs kept h in
+        let t = topmost_is keeps vs h in
         let same : labels ≡ outer = cc in
         let parts_are : kept ++ below ≡ values = cc in
         record {
@@ -151,7 +151,7 @@ branch_splits l f g ls ms labels outer vs values target callers e =
 -- so does a return, which keeps the results and none of its frame
 pub return_splits : ReturnsFall
 return_splits n ls vs results below callers e =
-    let t = topmost_is n vs results e in
+    let t = topmost_is n vs e in
     let tail : List ℕ = below ++ (map number_in (reverse ls) ++ callers) in
     let between : List ℕ = map number_in (drop n vs) ++ (below ++ map number_in (reverse ls)) in
     record {

@@ -83,8 +83,9 @@ in_block mark marks n m v h =
 
 -- ---- one outermost mark
 
-no_longer : (inner marks : List Mark) (mark : Mark) → marks ≡ inner ++ (mark ∷ marks) → ⊥
-no_longer inner marks mark e = let lengths = ap length e in
+no_longer : (inner : List Mark) {marks : List Mark} (mark : Mark) → marks ≡ inner ++ (mark ∷ marks)
+    → ⊥
+no_longer inner {marks} mark e = let lengths = ap length e in
     omega (arith, lengths, length-append inner (mark ∷ marks))
 
 one_outermost : (inner others marks : List Mark) (mark other : Mark)
@@ -92,9 +93,9 @@ one_outermost : (inner others marks : List Mark) (mark other : Mark)
 one_outermost [] [] marks mark other e = cc
 one_outermost [] (x ∷ others) marks mark other e =
     let tails : marks ≡ others ++ (other ∷ marks) = cc in
-    absurd (no_longer others marks other tails)
+    absurd (no_longer others other tails)
 one_outermost (x ∷ inner) [] marks mark other e = let tails : marks ≡ inner ++ (mark ∷ marks) = cc
-    in absurd (no_longer inner marks mark tails)
+    in absurd (no_longer inner mark tails)
 one_outermost (x ∷ inner) (y ∷ others) marks mark other e =
     one_outermost inner others marks mark other (cc)
 
@@ -106,17 +107,14 @@ one_under mark other marks v h k = one_outermost h.0 k.0 marks mark other (sym h
 level_tells : (marks : List Mark) (n m k : ℕ) (v : Seen) → IsLevel marks n k v → IsFrom marks m k v
     → n ≡ m
 level_tells marks n m k v h other =
-    ⊎_elim
-    (λ (g : IsLevel marks m k v). omega (arith, h.1, g.1))
-    (λ (g : IsDeeper marks k v). absurd (no_longer g.2.0 marks g.0 (sym h.0 ∙ g.2.1)))
-    other
+    ⊎_elim (λ (g : IsLevel marks m k v). omega (arith, h.1, g.1)) (λ (g : IsDeeper marks k v).
+    absurd (no_longer g.2.0 g.0 (sym h.0 ∙ g.2.1))) other
 
 -- what is in a block doesn't be after it
 apart : (mark : Mark) (marks : List Mark) (n m : ℕ) (v : Seen) → IsUnder mark marks v
     → IsFrom marks n m v → m ≤ after_length mark → ⊥
 apart mark marks n m v h other few =
-    ⊎_elim
-    (λ (g : IsLevel marks n m v). no_longer h.0 marks mark (sym g.0 ∙ h.1))
+    ⊎_elim (λ (g : IsLevel marks n m v). no_longer h.0 mark (sym g.0 ∙ h.1))
     (λ (g : IsDeeper marks m v). let same : after_length mark
     ≡ after_length g.0 = ap after_length (one_under mark g.0 marks v h g.2) in
     omega (arith, g.1, same, few))

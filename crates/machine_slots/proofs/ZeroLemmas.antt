@@ -19,10 +19,10 @@ four_zeros (a ∷ b ∷ c ∷ []) h = absurd (omega (arith, h))
 four_zeros (a ∷ b ∷ c ∷ d ∷ words) h = refl
 
 -- the words above others come back as zeros
-pub zeros_above : (more kept : List ℕ) (zeros : ℕ) → length more ≡ zeros
+pub zeros_above : (more kept : List ℕ) {zeros : ℕ} → length more ≡ zeros
     → reverse (take (length (more ++ kept)) (with_from (length kept) (replicate zeros 0)
     (reverse (more ++ kept)))) ≡ replicate zeros 0 ++ kept
-zeros_above more kept zeros count =
+zeros_above more kept {zeros} count =
     let all : List ℕ = more ++ kept in
     let above : List ℕ = replicate zeros 0 in
     let long = length-replicate {A = ℕ} zeros 0 in

@@ -172,8 +172,8 @@ module _ (c : Context) (body : Sequence) (f : ℕ) (ls vs : List Value) (locals 
 
 -- ---- a branch of a frame
 
-module _ (c : Context) (body : Sequence) (p f : ℕ) (ls vs : List Value) (labels : List Label)
-    (rest : Sequence) (s : IsTypedAt c body p ls labels vs rest) (one : length c.returns ≤ 1) where
+module _ {c : Context} {body : Sequence} {p : ℕ} (f : ℕ) {ls vs : List Value} {labels : List Label}
+    {rest : Sequence} (s : IsTypedAt c body p ls labels vs rest) (one : length c.returns ≤ 1) where
   -- to a label that takes these types, which are on top of the values that are left
   leads_there : (jumps : Option Jump) (l : ℕ) (branches : List (List ValueType))
       (ts others out : List ValueType) (values_left : List Value) → IsLabel branches ts l
@@ -190,25 +190,23 @@ module _ (c : Context) (body : Sequence) (p f : ℕ) (ls vs : List Value) (label
 
 pub branches_lead : BranchesLead
 branches_lead c body opcodes table p f l ls vs labels rest routine s =
-    let shape = typed_there c body p ls vs labels (Plain (instr.Br l) rest) routine.typed s in
+    let shape = typed_there routine.typed s in
     let h = shape.typed_rest in
     let jump : HasJump (entry table p 0) (IsJump c body s.shapes l) =
-    routine.right p (shape_of c body p ls vs labels (Plain (instr.Br l) rest) s) s.reached in
+    routine.right p (shape_of s) s.reached in
     let types : s.types ≡ h.4.0 ++ (h.4.1 ++ h.2) = h.3 ∙ ap (λ z. z ++ h.2) h.4.3
     ∙ append_assoc h.4.0 h.4.1 h.2 in
-    leads_there c body p f ls vs labels (Plain (instr.Br l) rest) s routine.one
-    (entry table p 0) l shape.branches h.4.0 (h.4.1
-    ++ h.2) shape.out vs h.4.2 shape.typed_labels (subst (λ z. AreOf z vs) types s.operands)
-    jump
+    leads_there f s routine.one (entry table p 0) l shape.branches h.4.0 (h.4.1 ++ h.2) shape.out vs
+    h.4.2 shape.typed_labels (subst (λ z. AreOf z vs) types s.operands) jump
 
 pub conditions_lead : ConditionsLead
 conditions_lead c body opcodes table p f l ls vs labels rest routine s =
-    let shape = typed_there c body p ls vs labels (Plain (instr.BrIf l) rest) routine.typed s in
+    let shape = typed_there routine.typed s in
     let h = shape.typed_rest in
     let jump : HasJump (entry table p 0) (IsJump c body s.shapes l) =
-    routine.right p (shape_of c body p ls vs labels (Plain (instr.BrIf l) rest) s) s.reached in
+    routine.right p (shape_of s) s.reached in
     let types : s.types ≡ I32 ∷ (h.4.0 ++ h.2) = h.3 ∙ ap (λ z. z ++ h.2) h.4.2 in
-    let on = condition_on s.types (h.4.0 ++ h.2) vs types s.operands in (
+    let on = condition_on (h.4.0 ++ h.2) vs types s.operands in (
       on.0,
       record {
         shapes = s.shapes;
@@ -219,38 +217,35 @@ conditions_lead c body opcodes table p f l ls vs labels rest routine s =
         operands = on.1;
         locals = s.locals;
       },
-      leads_there c body p f ls vs labels (Plain (instr.BrIf l) rest) s routine.one
-          (entry table p 0) l shape.branches h.4.0 h.2 shape.out on.0.below h.4.1 shape.typed_labels
-          on.2 jump,
+      leads_there f s routine.one (entry table p 0) l shape.branches h.4.0 h.2 shape.out on.0.below
+          h.4.1 shape.typed_labels on.2 jump,
     )
 
 -- each label of a table takes the types that all of them take
 table_label : (branches : List (List ValueType)) (ts : List ValueType) (choices : List ℕ)
-    (last k l : ℕ) → AllByRecursion (IsLabel branches ts) choices → IsLabel branches ts last
+    (last k : ℕ) {l : ℕ} → AllByRecursion (IsLabel branches ts) choices → IsLabel branches ts last
     → slice_get (choices ++ (last ∷ [])) k ≡ Some l → IsLabel branches ts l
-table_label branches ts [] last zero l h is e = let same : last ≡ l = cc in
+table_label branches ts [] last zero {l} h is e = let same : last ≡ l = cc in
     subst (λ z. IsLabel branches ts z) same is
-table_label branches ts [] last (suc k) l h is e = absurd (cc)
-table_label branches ts (x ∷ choices) last zero l h is e = let same : x ≡ l = cc in
+table_label branches ts [] last (suc k) h is e = absurd (cc)
+table_label branches ts (x ∷ choices) last zero {l} h is e = let same : x ≡ l = cc in
     subst (λ z. IsLabel branches ts z) same h.0
-table_label branches ts (x ∷ choices) last (suc k) l h is e =
-    table_label branches ts choices last k l h.1 is e
+table_label branches ts (x ∷ choices) last (suc k) h is e =
+    table_label branches ts choices last k h.1 is e
 
 pub tables_lead : TablesLead
 tables_lead c body opcodes table p f last choices ls vs labels rest routine s =
     let now : Sequence = Plain (instr.BrTable choices last) rest in
-    let shape = typed_there c body p ls vs labels now routine.typed s in
+    let shape = typed_there routine.typed s in
     let h = shape.typed_rest in
     let jumps : ((k l : ℕ) → slice_get (choices ++ (last ∷ [])) k ≡ Some l
-    → HasJump (entry table p k) (IsJump c body s.shapes l)) = routine.right p
-    (shape_of c body p ls vs labels now s) s.reached in
+    → HasJump (entry table p k) (IsJump c body s.shapes l)) = routine.right p (shape_of
+    s) s.reached in
     let types : s.types ≡ I32 ∷ (h.4.0 ++ (h.4.1 ++ h.2)) = h.3 ∙ ap (λ z. z ++ h.2) h.4.4
     ∙ ap (λ z. I32 ∷ z) (append_assoc h.4.0 h.4.1 h.2) in
-    let on = condition_on s.types (h.4.0 ++ (h.4.1 ++ h.2)) vs types s.operands in (
+    let on = condition_on (h.4.0 ++ (h.4.1 ++ h.2)) vs types s.operands in (
       on.0,
-      λ k l e. leads_there c body p f ls vs labels now s routine.one
-          (entry table p k) l shape.branches h.4.0 (h.4.1
-          ++ h.2) shape.out on.0.below
-          (table_label shape.branches h.4.0 choices last k l h.4.2 h.4.3 e) shape.typed_labels on.2
-          (jumps k l e),
+      λ k l e. leads_there f s routine.one (entry table p k) l shape.branches h.4.0 (h.4.1 ++ h.2)
+          shape.out on.0.below (table_label shape.branches h.4.0 choices last k h.4.2 h.4.3 e)
+          shape.typed_labels on.2 (jumps k l e),
     )

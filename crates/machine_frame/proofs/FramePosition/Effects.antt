@@ -32,10 +32,10 @@ abbrev TypesGoOn : Option (List ValueType) → Type 0
 TypesGoOn None = ⊥
 TypesGoOn (Some us) = Unit {0}
 
-mapped_on : {X : Type 0} (o : Option X) (x : X) (go : X → List ValueType) → o ≡ Some x
+mapped_on : {X : Type 0} (o : Option X) {x : X} (go : X → List ValueType) → o ≡ Some x
     → TypesGoOn (option_map go o)
-mapped_on None x go e = absurd (cc)
-mapped_on (Some y) x go e = tt
+mapped_on None go e = absurd (cc)
+mapped_on (Some y) go e = tt
 
 -- after all but `unreachable`, which gives nothing
 effect_goes_on : (c : Context) (program : Program) (store store' : Store)
@@ -48,11 +48,11 @@ effect_goes_on c program store store' ls ls' vs vs' labels instr.Nop p q ts is h
 effect_goes_on c program store store' ls ls' vs vs' labels instr.Drop p q ts is h e = tt
 effect_goes_on c program store store' ls ls' vs vs' labels instr.Select p q ts is h e = tt
 effect_goes_on c program store store' ls ls' vs vs' labels (instr.LocalGet x) p q ts is h e =
-    mapped_on (slice_get c.locals x) h.0 (λ t. t ∷ ts) h.1
+    mapped_on (slice_get c.locals x) (λ t. t ∷ ts) h.1
 effect_goes_on c program store store' ls ls' vs vs' labels (instr.LocalSet x) p q ts is h e = tt
 effect_goes_on c program store store' ls ls' vs vs' labels (instr.LocalTee x) p q ts is h e = tt
 effect_goes_on c program store store' ls ls' vs vs' labels (instr.GlobalGet x) p q ts is h e =
-    mapped_on (slice_get c.globals x) h.0 (λ (g : GlobalType). g.value_type ∷ ts) h.1
+    mapped_on (slice_get c.globals x) (λ (g : GlobalType). g.value_type ∷ ts) h.1
 effect_goes_on c program store store' ls ls' vs vs' labels (instr.GlobalSet x) p q ts is h e = tt
 effect_goes_on c program store store' ls ls' vs vs' labels (instr.Load o m) p q ts is h e = tt
 effect_goes_on c program store store' ls ls' vs vs' labels (instr.Store o m) p q ts is h e = tt

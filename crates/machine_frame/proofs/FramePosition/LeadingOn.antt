@@ -6,7 +6,7 @@ use Rattle.wasm_syntax.specs.declared.types.ValueType.{ValueType}
 use Rattle.wasm_syntax.specs.declared.types.ValueType.TheVariants.{I32}
 use Rattle.wasm_syntax.specs.declared.value.Value.{Value}
 use Rattle.wasm_syntax.specs.declared.value.Value.TheVariants as value
-use Rattle.wasm_syntax.specs.rules.Sequence.{Sequence, InIf, InIfElse, Plain}
+use Rattle.wasm_syntax.specs.rules.Sequence.{Sequence}
 use Rattle.wasm_rules.specs.Types.{AreOf, results_of}
 use Rattle.wasm_rules.specs.Typing.{Context}
 use Rattle.wasm_rules.specs.Configuration.{Part, Main, Second, Label}
@@ -30,24 +30,25 @@ use Rattle.machine_frame.proofs.FramePosition.Effects.{effect_behind, table_stay
 -- ---- what typing knows of a frame
 
 -- what is there, as one shape
-abbrev pub shape_of : (c : Context) (body : Sequence) (p : ℕ) (ls vs : List Value)
-    (labels : List Label) (rest : Sequence) → IsTypedAt c body p ls labels vs rest → Shape
-shape_of c body p ls vs labels rest s = record {
+abbrev pub shape_of : {c : Context} {body : Sequence} {p : ℕ} {ls vs : List Value}
+    {labels : List Label} {rest : Sequence} → IsTypedAt c body p ls labels vs rest → Shape
+shape_of {labels} {rest} s = record {
   labels = s.shapes;
   operands = s.types;
   rest = rest;
 }
 
-pub typed_there : (c : Context) (body : Sequence) (p : ℕ) (ls vs : List Value) (labels : List Label)
-    (rest : Sequence) → IsTypedBody c body → (s : IsTypedAt c body p ls labels vs rest)
-    → IsTypedShape c (shape_of c body p ls vs labels rest s)
-typed_there c body p ls vs labels rest typed s =
-    reached_shapes_typed c body p (shape_of c body p ls vs labels rest s) typed s.reached
+pub typed_there : {c : Context} {body : Sequence} {p : ℕ} {ls vs : List Value} {labels : List Label}
+    {rest : Sequence} → IsTypedBody c body → (s : IsTypedAt c body p ls labels vs rest)
+    → IsTypedShape c (shape_of s)
+typed_there {c} {body} {p} typed s =
+    reached_shapes_typed c body p (shape_of s) typed s.reached
 
 -- a condition on top, with what is below it
-pub condition_on : (ts below : List ValueType) (vs : List Value) → ts ≡ I32 ∷ below → AreOf ts vs
+pub condition_on : {ts : List ValueType} (below : List ValueType) (vs : List Value) → ts ≡ I32 ∷
+    below → AreOf ts vs
     → (on : Condition vs) × AreOf (drop 1 ts) on.below × AreOf below on.below
-condition_on ts below vs e o = by_values vs (subst (λ z. AreOf z vs) e o)
+condition_on {ts} below vs e o = by_values vs (subst (λ z. AreOf z vs) e o)
   where
     by_values : (vs : List Value) → AreOf (I32 ∷ below) vs → (on : Condition vs)
         × AreOf (drop 1 ts) on.below × AreOf below on.below
@@ -63,7 +64,7 @@ condition_on ts below vs e o = by_values vs (subst (λ z. AreOf z vs) e o)
 
 pub effects_lead_on : EffectsLeadOn
 effects_lead_on c program body p i store store' ls ls' vs vs' labels rest typed few is sound s e =
-    let t = typed_there c body p ls vs labels (Plain i rest) typed s in
+    let t = typed_there typed s in
     let h = t.typed_rest in
     let operands : AreOf (h.0 ++ h.2) vs = subst (λ z. AreOf z vs) h.3 s.operands in
     let has : EffectHas c program few (h.1 ++ h.2) (Gives store' ls' vs') =
@@ -124,10 +125,10 @@ part_typed c body q which t ls below labels part rest shapes ts l o h e = record
 
 pub ifs_lead_in : IfsLeadIn
 ifs_lead_in c body table p t ls vs labels first rest typed right s =
-    let shape = typed_there c body p ls vs labels (InIf t first rest) typed s in
-    let on = condition_on s.types shape.typed_rest.0 vs shape.typed_rest.1 s.operands in
+    let shape = typed_there typed s in
+    let on = condition_on shape.typed_rest.0 vs shape.typed_rest.1 s.operands in
     let jump : HasJump (entry table p 0) (JumpsTo c body [] (drop 1 s.types) s.shapes rest) =
-    right p (shape_of c body p ls vs labels (InIf t first rest) s) s.reached in (
+    right p (shape_of s) s.reached in (
       on.0,
       part_typed c body (suc p) Main t ls on.0.below labels first rest s.shapes
           (drop 1 s.types) s.locals on.1 s.labels_are
@@ -148,12 +149,11 @@ ifs_lead_in c body table p t ls vs labels first rest typed right s =
 
 pub choices_lead_in : ChoicesLeadIn
 choices_lead_in c body table p t ls vs labels first second rest typed right s =
-    let shape = typed_there c body p ls vs labels (InIfElse t first second rest) typed s in
-    let on = condition_on s.types shape.typed_rest.0 vs shape.typed_rest.1 s.operands in
+    let shape = typed_there typed s in
+    let on = condition_on shape.typed_rest.0 vs shape.typed_rest.1 s.operands in
     let jump : HasJump (entry table p 0)
     (JumpsTo c body [] [] (ShapeOf (results_of t) rest (drop 1 s.types) rest Second
-    ∷ s.shapes) second) = right p (shape_of c body p ls vs labels
-    (InIfElse t first second rest) s) s.reached in (
+    ∷ s.shapes) second) = right p (shape_of s) s.reached in (
       on.0,
       part_typed c body (suc p) Main t ls on.0.below labels first rest s.shapes
           (drop 1 s.types) s.locals on.1 s.labels_are

@@ -65,11 +65,11 @@ exhausts thread h =
     inr (less_test 65536 (held_by thread) (nat_lt 65536 (held_by thread)) refl k))
     h)
 
-chosen_first : (b : Bool) (x y : Outcome) → b ≡ true → (if b then x else y) ≡ x
-chosen_first b x y e = rw e refl
+chosen_first : {b : Bool} (x y : Outcome) → b ≡ true → (if b then x else y) ≡ x
+chosen_first x y e = rw e refl
 
-chosen_second : (b : Bool) (x y : Outcome) → b ≡ false → (if b then x else y) ≡ y
-chosen_second b x y e = rw e refl
+chosen_second : {b : Bool} (x y : Outcome) → b ≡ false → (if b then x else y) ≡ y
+chosen_second x y e = rw e refl
 
 -- ---- a frame at its call
 
@@ -118,7 +118,7 @@ module _ (c : Context) (program : Program) (frame : threads.StackFrame)
   pub taken : Taken
   taken =
       let r = topmost_are (takes_of signature) calling.below vs calling.operands in
-      let split = topmost_is (length (takes_of signature)) vs r.0 r.1 in
+      let split = topmost_is (length (takes_of signature)) vs r.1 in
       let waiting : AreWaiting c program signature (frame ∷ frames) under waits = (
         calling.own,
         refl,
@@ -174,7 +174,8 @@ entered_count declared arguments =
     )
 
 pub called_own : (f : ℕ) (signature : FunctionType) (declared : List ValueType) (body : Sequence)
-    (d : Configuration) (caller : List Value → Frame) (vs arguments : List Value) (thread : Thread)
+    (d : Configuration) (caller : List Value → Frame) (vs : List Value) {arguments : List Value}
+    (thread : Thread)
     → topmost (length (takes_of signature)) vs ≡ Some arguments
     → called f (Own signature declared body) d caller vs thread
     ≡ (if is_exhausted (entered f signature declared body arguments
@@ -183,43 +184,42 @@ pub called_own : (f : ℕ) (signature : FunctionType) (declared : List ValueType
       thread = entered f signature declared body arguments
           ∷ caller (drop (length (takes_of signature)) vs) ∷ thread;
     }))
-called_own f signature declared body d caller vs arguments thread e = rw e refl
+called_own f signature declared body d caller vs thread e = rw e refl
 
 pub called_import : (f : ℕ) (signature : FunctionType) (d : Configuration) (caller : List Value
-    → Frame) (vs arguments : List Value) (thread : Thread)
+    → Frame) (vs : List Value) {arguments : List Value} (thread : Thread)
     → topmost (length (takes_of signature)) vs ≡ Some arguments
     → called f (Imported signature) d caller vs thread
     ≡ Asks f arguments (caller (drop (length (takes_of signature)) vs) ∷ thread)
-called_import f signature d caller vs arguments thread e = rw e refl
+called_import f signature d caller vs thread e = rw e refl
 
-module _ (c : Context) (program : Program) (table : List (Option ℕ)) (held : MachineParts)
-    (d : Configuration) (frame : threads.StackFrame) (frames : List threads.StackFrame)
+module _ {c : Context} {program : Program} {table : List (Option ℕ)} {held : MachineParts}
+    {d : Configuration} (frame : threads.StackFrame) (frames : List threads.StackFrame)
     (typed : IsTypedProgram c program) (stands : PartsStandFor c program table held d)
-    (were : held.frames ≡ frame ∷ frames) (reduced : IsReduced program d)
-    (thread : Thread) (words : List ℕ) (ls : List Value) (labels : List Label) (vs : List Value)
-    (rest : Sequence) (f : ℕ) where
+    (were : held.frames ≡ frame ∷ frames) (reduced : IsReduced program d) (thread : Thread)
+    (words : List ℕ) (ls : List Value) (labels : List Label) (vs : List Value) (rest : Sequence)
+    (f : ℕ) where
   abbrev caller : List Value → Frame
   caller others = FrameOf frame.function ls labels others rest
 
-  import_leads : (signature : FunctionType)
+  import_leads : {signature : FunctionType}
       → IsCalling c program frame frames thread signature words ls labels vs rest
       → counted_step program d ≡ called f (Imported signature) d caller vs thread
       → CallLeads c program table held d words f (Imported signature)
-  import_leads signature calling is =
+  import_leads {signature} calling is =
       let t = taken c program frame frames thread signature words ls labels vs rest calling in (
         t.arguments,
         waits c program frame frames thread signature words ls labels vs rest calling,
         under c program frame frames thread signature words ls labels vs rest calling,
-        is ∙ called_import f signature d caller vs t.arguments thread t.top,
+        is ∙ called_import f signature d caller vs thread t.top,
         t.are,
         t.words_are,
       )
 
-  module _ (signature : FunctionType) (declared : List ValueType) (body : Sequence)
-      (at : slice_get program.functions f ≡ Some (Own signature declared body))
-      (calling : IsCalling c program frame frames thread signature words ls labels vs rest)
-      (is : counted_step program d ≡ called f (Own signature declared body) d caller
-      vs thread) where
+  module _ {signature : FunctionType} (declared : List ValueType) (body : Sequence) (at : slice_get
+      program.functions f ≡ Some (Own signature declared body)) (calling : IsCalling c program frame
+      frames thread signature words ls labels vs rest) (is : counted_step program d ≡ called f
+      (Own signature declared body) d caller vs thread) where
     abbrev now : Taken c program frame frames thread signature words ls labels vs rest calling
     now = taken c program frame frames thread signature words ls labels vs rest calling
 
@@ -267,22 +267,17 @@ module _ (c : Context) (program : Program) (table : List (Option ℕ)) (held : M
     goes : length held.frames < 512 → length declared + length words ≤ 65536
         → IsCounted program d next
     goes h k =
-        is
-        ∙ called_own f signature declared body d caller vs now.arguments thread now.top
-        ∙ chosen_second (is_exhausted inside) (Traps trap.StackExhausted) (Goes next)
-        (fits inside (omega (arith, deeper)) (omega (arith, more_held)))
+        is ∙ called_own f signature declared body d caller vs thread now.top ∙ chosen_second
+        (Traps trap.StackExhausted) (Goes next) (fits inside (omega (arith, deeper))
+        (omega (arith, more_held)))
 
     traps : (512 ≤ length held.frames) ⊎ (65536 < length declared + length words)
         → counted_step program d ≡ Traps trap.StackExhausted
     traps h =
-        is
-        ∙ called_own f signature declared body d caller vs now.arguments thread now.top
-        ∙ chosen_first (is_exhausted inside) (Traps trap.StackExhausted) (Goes next)
-        (exhausts inside
-        (⊎_elim
-        (λ (k : 512 ≤ length held.frames). inl (omega (arith, deeper)))
-        (λ (k : 65536 < length declared + length words). inr (omega (arith, more_held)))
-        h))
+        is ∙ called_own f signature declared body d caller vs thread now.top ∙ chosen_first
+        (Traps trap.StackExhausted) (Goes next) (exhausts inside (⊎_elim (λ
+        (k : 512 ≤ length held.frames). inl (omega (arith, deeper))) (λ
+        (k : 65536 < length declared + length words). inr (omega (arith, more_held))) h))
 
     stands_inside : (h : length held.frames < 512) (k : length declared + length words ≤ 65536)
         → PartsStandFor c program table (record held {
@@ -305,7 +300,7 @@ module _ (c : Context) (program : Program) (table : List (Option ℕ)) (held : M
         ap (λ z. replicate (length declared) 0 ++ z) now.words_are
         ∙ sym (entry_pushes now.arguments declared below) in
         record {
-          typed = counted_typed c program d next typed stands.typed reduced (goes h k);
+          typed = counted_typed next typed stands.typed reduced (goes h k);
           frames = rw were (
             own,
             refl,
@@ -329,6 +324,5 @@ module _ (c : Context) (program : Program) (table : List (Option ℕ)) (held : M
       → IsCalling c program frame frames thread (signature_of callee) words ls labels vs rest
       → counted_step program d ≡ called f callee d caller vs thread
       → CallLeads c program table held d words f callee
-  leads (Imported signature) at calling is = import_leads signature calling is
-  leads (Own signature declared body) at calling is = own_leads signature declared
-      body at calling is
+  leads (Imported signature) at calling is = import_leads calling is
+  leads (Own signature declared body) at calling is = own_leads declared body at calling is

@@ -365,7 +365,7 @@ behind_call c branches (Plain (instr.CallIndirect x) after) rest signature takes
     subst (λ z. HasType c branches z (gives_of signature ++ types) out) (sym h.2) behind
 behind_call c branches _ rest signature takes types out h t = absurd h
 
-module _ (c : Context) (program : Program) (typed : IsTypedProgram c program) where
+module _ {c : Context} {program : Program} (typed : IsTypedProgram c program) where
   callers_typed : (above : FunctionType) (places : List ShownFrame) (thread : Thread)
       → ShowsCallers c program above places thread
       → IsTypedThread c program (gives_of above) thread
@@ -583,7 +583,7 @@ fits_shown c program table state typed entries h =
       record {
         typed = record {
           store = record { memory = h.memory; globals = globals.are; table = entries };
-          thread = thread_typed c program typed state.frames t.thread t.shows;
+          thread = thread_typed typed state.frames t.thread t.shows;
           later = h.later;
         };
         reduced = reduces c program state.frames t.thread state.later store t.shows h.over;

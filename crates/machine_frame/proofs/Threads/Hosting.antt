@@ -116,8 +116,8 @@ no_asking false d f arguments waiter e = absurd (cc)
 
 module _ (c : Context) (program : Program) (frame : threads.StackFrame)
     (frames : List threads.StackFrame) (thread : Thread) (words : List ℕ) (ls : List Value)
-    (labels : List Label) (vs : List Value) (rest : Sequence) (d : Configuration)
-    (f : ℕ) (arguments : List Value) (waiter : Thread) (signature : FunctionType)
+    (labels : List Label) (vs : List Value) (rest : Sequence) (d : Configuration) (f : ℕ)
+    (arguments : List Value) (waiter : Thread) (signature : FunctionType)
     (there : slice_get program.functions f ≡ Some (Imported signature)) where
   abbrev caller : List Value → Frame
   caller others = FrameOf frame.function ls labels others rest
@@ -130,7 +130,7 @@ module _ (c : Context) (program : Program) (frame : threads.StackFrame)
       let t = taken c program frame frames thread other words ls labels vs rest calling in
       let w : Thread = waits c program frame frames thread other words ls labels vs rest calling in
       let both : Asks g t.arguments w ≡ Asks f arguments waiter =
-      sym (called_import g other d caller vs t.arguments thread t.top) ∙ e in
+      sym (called_import g other d caller vs thread t.top) ∙ e in
       let number : g ≡ f = cc in
       let given : t.arguments ≡ arguments = cc in
       let waiters : w ≡ waiter = cc in
@@ -161,22 +161,20 @@ module _ (c : Context) (program : Program) (frame : threads.StackFrame)
       (record d {
         thread = entered g other declared body t.arguments
             ∷ caller (drop (length (takes_of other)) vs) ∷ thread;
-      })
-      f arguments waiter
-      (sym (called_own g other declared body d caller vs t.arguments thread t.top) ∙ e))
+      }) f arguments waiter (sym (called_own g other declared body d caller vs thread t.top) ∙ e))
 
-  module _ (own : FunctionType)
+  module _ {own : FunctionType}
       (calling : IsCalling c program frame frames thread own words ls labels vs rest) where
-    asked_signature : (g : ℕ) (callee : Callee) → slice_get program.functions g ≡ Some callee
+    asked_signature : (g : ℕ) {callee : Callee} → slice_get program.functions g ≡ Some callee
         → (b : Bool) → is_same_function_type own (signature_of callee) ≡ b
         → (if b then called g callee d caller vs thread else Traps trap.IndirectCallTypeMismatch)
         ≡ Asks f arguments waiter
         → Asked c program frame frames thread words ls labels rest arguments waiter signature
-    asked_signature g callee at true same e =
+    asked_signature g {callee} at true same e =
         asked g callee at
         (subst (λ k. IsCalling c program frame frames thread k words ls labels vs rest)
         (same_signature own (signature_of callee) same) calling) e
-    asked_signature g callee at false same e = absurd (cc)
+    asked_signature g at false same e = absurd (cc)
 
     asked_callee : (g : ℕ) (callee : Option Callee) → slice_get program.functions g ≡ callee
         → where_some callee (λ callee. if is_same_function_type own (signature_of callee)
@@ -185,7 +183,7 @@ module _ (c : Context) (program : Program) (frame : threads.StackFrame)
         → Asked c program frame frames thread words ls labels rest arguments waiter signature
     asked_callee g None at e = absurd (cc)
     asked_callee g (Some callee) at e =
-        asked_signature g callee at (is_same_function_type own (signature_of callee)) refl e
+        asked_signature g at (is_same_function_type own (signature_of callee)) refl e
 
     asked_entry : (entry : Option (Option ℕ))
         → calls_entry program entry own d caller vs thread ≡ Asks f arguments waiter
@@ -205,25 +203,24 @@ record Answered (c : Context) (program : Program) (held : MachineParts) (d : Con
   waits_are : waiter ≡ FrameOf frame.function ls labels others rest ∷ thread
   waiting : AreWaiting c program signature (frame ∷ frames) under waiter
 
-module _ (c : Context) (program : Program) (opcodes : ℕ → List Instruction) (tables : ℕ
-    → Table) (table : List (Option ℕ)) (held : MachineParts) (d : Configuration)
-    (frame : threads.StackFrame) (frames : List threads.StackFrame)
-    (f : ℕ) (arguments results : List Value) (waiter : Thread) (signature : FunctionType)
-    (memory : LinearMemory) (gone under : List ℕ)
+module _ {c : Context} {program : Program} {opcodes : ℕ → List Instruction} {tables : ℕ → Table}
+    {table : List (Option ℕ)} {held : MachineParts} {d : Configuration} {frame : threads.StackFrame}
+    {frames : List threads.StackFrame} (f : ℕ) (arguments results : List Value) (waiter : Thread)
+    (signature : FunctionType) (memory : LinearMemory) (gone under : List ℕ)
     (ready : IsReadyProgram c program opcodes tables)
     (stands : PartsStandFor c program table held d) (were : held.frames ≡ frame ∷ frames)
-    (asks : counted_step program d ≡ Asks f arguments waiter) (there : slice_get program.functions f
-    ≡ Some (Imported signature)) (words_are : held.words ≡ gone
-    ++ under) (top : Top c program held d frame frames) where
+    (asks : counted_step program d ≡ Asks f arguments waiter)
+    (there : slice_get program.functions f ≡ Some (Imported signature))
+    (words_are : held.words ≡ gone ++ under) (top : Top c program held d frame frames) where
   abbrev Waits : Type 0
   Waits = Answered c program held d frame frames top.runs.ls top.runs.labels top.thread
       waiter signature under
 
-  waits_under : (rest : Sequence) (words front : List ℕ) → IsReduced program d
+  waits_under : {rest : Sequence} {words : List ℕ} (front : List ℕ) → IsReduced program d
       → (a : Asked c program frame frames top.thread words top.runs.ls top.runs.labels rest
       arguments waiter signature) → held.words ≡ (front ++ map number_in arguments) ++ a.under
       → length gone ≡ length (front ++ map number_in arguments) → Waits
-  waits_under rest words front reduced a e h =
+  waits_under {rest} front reduced a e h =
       let parts = same_parts (front ++ map number_in arguments) gone a.under under (sym h) (sym e
       ∙ words_are) in
       record {
@@ -235,32 +232,31 @@ module _ (c : Context) (program : Program) (opcodes : ℕ → List Instruction) 
             a.waiting;
       }
 
-  waits_direct : (g : ℕ) → slice_get (opcodes frame.function) frame.position ≡ Some (instr.Call g)
+  waits_direct : {g : ℕ} → slice_get (opcodes frame.function) frame.position ≡ Some (instr.Call g)
       → length gone ≡ length arguments → Waits
-  waits_direct g at h =
-      let here = direct c program opcodes tables held d frame frames ready top g at in
+  waits_direct {g} at h =
+      let here = direct ready top at in
       let a = asked c program frame frames top.thread held.words top.runs.ls top.runs.labels
       top.runs.vs here.after d f arguments waiter signature there g here.callee here.there
       here.calling (sym here.calls ∙ asks) in
-      waits_under here.after held.words [] here.reduced a a.words_are (h
-      ∙ sym (length-map arguments number_in))
+      waits_under [] here.reduced a a.words_are (h ∙ sym (length-map arguments number_in))
 
-  waits_indirect : (t : ℕ)
+  waits_indirect : {t : ℕ}
       → slice_get (opcodes frame.function) frame.position ≡ Some (instr.CallIndirect t)
       → length gone ≡ suc (length arguments) → Waits
-  waits_indirect t at h =
-      let here = indirect c program opcodes tables held d frame frames ready top t at in
+  waits_indirect at h =
+      let here = indirect ready top at in
       let a = asked_entry c program frame frames top.thread here.words top.runs.ls top.runs.labels
-      here.vs here.after d f arguments waiter signature there here.signature here.calling
+      here.vs here.after d f arguments waiter signature there here.calling
       (slice_get d.store.table here.index) (sym here.calls ∙ asks) in
-      waits_under here.after here.words (here.index ∷ []) here.reduced a (here.words_are
-      ∙ ap (λ z. here.index ∷ z) a.words_are) (h
-      ∙ ap suc (sym (length-map arguments number_in)))
+      waits_under (here.index ∷ []) here.reduced a
+      (here.words_are ∙ ap (λ z. here.index ∷ z) a.words_are)
+      (h ∙ ap suc (sym (length-map arguments number_in)))
 
   waits_at : (o : Option Instruction) → slice_get (opcodes frame.function) frame.position ≡ o
       → HasTaken o (length gone) (length arguments) → Waits
-  waits_at (Some (instr.Call g)) at h = waits_direct g at h
-  waits_at (Some (instr.CallIndirect t)) at h = waits_indirect t at h
+  waits_at (Some (instr.Call g)) at h = waits_direct at h
+  waits_at (Some (instr.CallIndirect t)) at h = waits_indirect at h
   waits_at _ at h = absurd h
 
   answer_stands : Waits → AreOf (gives_of signature) results → IsTypedMemory program memory.bytes
@@ -298,8 +294,7 @@ pub answers_lead : AnswersLead
 answers_lead c program opcodes tables table held d frame frames f arguments results waiter signature
     memory gone under ready stands were asks there o bytes limit words_are has =
     let top = frames_run c program opcodes tables table held d frame frames ready stands were in
-    let w = waits_at c program opcodes tables table held d frame frames f arguments results waiter
-    signature memory gone under ready stands were asks there words_are top
-    (slice_get (opcodes frame.function) frame.position) refl has in
-    answer_stands c program opcodes tables table held d frame frames f arguments results
-    waiter signature memory gone under ready stands were asks there words_are top w o bytes limit
+    let w = waits_at f arguments results waiter signature memory gone under ready stands were asks
+    there words_are top (slice_get (opcodes frame.function) frame.position) refl has in
+    answer_stands f arguments results waiter signature memory gone under ready stands were asks
+    there words_are top w o bytes limit

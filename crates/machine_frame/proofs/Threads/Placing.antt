@@ -20,25 +20,25 @@ use Rattle.machine_frame.proofs.Threads.Showing.{parts_of, places_count}
 turned : {A : Type 0} (x : A) (xs : List A) → reverse (x ∷ xs) ≡ reverse xs ++ x ∷ []
 turned x xs = reverse-append (x ∷ []) xs
 
-in_front : {A : Type 0} (xs ys : List A) (i : ℕ) (y : A) → slice_get xs i ≡ Some y
+in_front : {A : Type 0} (xs ys : List A) (i : ℕ) {y : A} → slice_get xs i ≡ Some y
     → slice_get (xs ++ ys) i ≡ Some y
-in_front [] ys i y e = absurd (cc)
-in_front (x ∷ xs) ys zero y e = e
-in_front (x ∷ xs) ys (suc i) y e = in_front xs ys i y e
+in_front [] ys i e = absurd (cc)
+in_front (x ∷ xs) ys zero e = e
+in_front (x ∷ xs) ys (suc i) e = in_front xs ys i e
 
 at_end : {A : Type 0} (xs : List A) (x : A) → slice_get (xs ++ x ∷ []) (length xs) ≡ Some x
 at_end [] x = refl
 at_end (y ∷ xs) x = at_end xs x
 
 -- what is at a place of a list with one more at its end
-at_place : {A : Type 0} (xs : List A) (x y : A) (i : ℕ) → slice_get (xs ++ x ∷ []) i ≡ Some y
+at_place : {A : Type 0} (xs : List A) (x : A) {y : A} (i : ℕ) → slice_get (xs ++ x ∷ []) i ≡ Some y
     → (slice_get xs i ≡ Some y) ⊎ ((i ≡ length xs) × (x ≡ y))
-at_place [] x y zero e = inr (refl, same_Some x y e)
-at_place [] x y (suc i) e = absurd (cc)
-at_place (z ∷ xs) x y zero e = inl e
-at_place (z ∷ xs) x y (suc i) e =
+at_place [] x {y} zero e = inr (refl, same_Some x y e)
+at_place [] x (suc i) e = absurd (cc)
+at_place (z ∷ xs) x zero e = inl e
+at_place (z ∷ xs) x {y} (suc i) e =
     ⊎_elim (λ (k : slice_get xs i ≡ Some y). inl k)
-    (λ (k : (i ≡ length xs) × (x ≡ y)). inr (ap suc k.0, k.1)) (at_place xs x y i e)
+    (λ (k : (i ≡ length xs) × (x ≡ y)). inr (ap suc k.0, k.1)) (at_place xs x i e)
 
 -- ---- frames from the outermost in
 
@@ -67,8 +67,8 @@ end_again : (f : StackFrame) (frames : List StackFrame) (words callers : List �
     → f.base ≡ length callers
     → slots_end (f ∷ frames) words i ≡ end_of o (length callers)
 end_again f frames words callers i (Some g) e within at =
-    ap (λ z. end_of (slice_get z (suc i)) (length words)) (turned f frames)
-    ∙ ap (λ z. end_of z (length words)) (in_front (reverse frames) (f ∷ []) (suc i) g e)
+    ap (λ z. end_of (slice_get z (suc i)) (length words)) (turned f frames) ∙ ap
+    (λ z. end_of z (length words)) (in_front (reverse frames) (f ∷ []) (suc i) e)
 end_again f frames words callers i None e within at =
     let last : suc i ≡ length (reverse frames) = none_next (reverse frames) i e within in
     ap (λ z. end_of (slice_get z (suc i)) (length words)) (turned f frames)
@@ -84,11 +84,12 @@ end_again f frames words callers i None e within at =
     none_next (x ∷ xs) (suc i) e within = ap suc (none_next xs i e (omega arith))
 
 -- slots that lie below other words
-below_others : (words own callers : List ℕ) (base end : ℕ) → words ≡ own ++ callers → base ≤ end
+below_others : {words : List ℕ} (own callers : List ℕ) (base end : ℕ) → words ≡ own ++ callers →
+    base ≤ end
     → end ≤ length callers
     → take (end - base) (drop base (reverse words)) ≡ take (end - base)
     (drop base (reverse callers))
-below_others words own callers base end e begins ends =
+below_others {words} own callers base end e begins ends =
     let count = length-reverse callers in
     let back : reverse words ≡ reverse callers ++ reverse own = ap reverse e
     ∙ reverse-append own callers in
@@ -99,15 +100,15 @@ below_others words own callers base end e begins ends =
     (omega (arith, begins, ends, count)))
     ∙ take-append-le (end - base) (drop base (reverse callers)) (reverse own) few
 
-placed_below : (f : StackFrame) (frames : List StackFrame) (words own callers : List ℕ) (i : ℕ)
-    (frame : StackFrame)
+placed_below : (f : StackFrame) {frames : List StackFrame} {words : List ℕ} (own : List ℕ)
+    {callers : List ℕ} {i : ℕ} {frame : StackFrame}
     → words ≡ own ++ callers → f.base ≡ length callers → slice_get (reverse frames) i ≡ Some frame
     → IsPlaced frames callers i frame → IsPlaced (f ∷ frames) words i frame
-placed_below f frames words own callers i frame e at here p =
+placed_below f {frames} {words} own {callers} {i} {frame} e at here p =
     let within : i < length (reverse frames) = slice_get_within (reverse frames) i frame here in
     let same : slots_end (f ∷ frames) words i ≡ slots_end frames callers i =
     end_again f frames words callers i (slice_get (reverse frames) (suc i)) refl within at in
-    let parts = parts_of words own callers f.base e at in
+    let parts = parts_of own callers e at in
     let begins = p.begins in
     let ends = p.ends in
     let front : ShownFrame = record {
@@ -118,10 +119,9 @@ placed_below f frames words own callers i frame e at here p =
     } in
     let there : slice_get (reverse (places_of frames callers) ++ front ∷ []) i ≡ Some
     (shown_at frame (slots_end frames callers i) callers) =
-    in_front (reverse (places_of frames callers)) (front ∷ []) i
-    (shown_at frame (slots_end frames callers i) callers) p.shown in
+    in_front (reverse (places_of frames callers)) (front ∷ []) i p.shown in
     let slots =
-    below_others words own callers frame.base (slots_end frames callers i) e begins ends in
+    below_others own callers frame.base (slots_end frames callers i) e begins ends in
     record {
       begins = subst (λ z. frame.base ≤ z) (sym same) begins;
       ends = omega (arith, same, ends, ap length e, length-append own callers);
@@ -137,16 +137,17 @@ placed_below f frames words own callers i frame e at here p =
 
 -- ---- the innermost one
 
-placed_last : (frame : StackFrame) (frames : List StackFrame) (words own callers : List ℕ) (i : ℕ)
+placed_last : (frame : StackFrame) (frames : List StackFrame) {words : List ℕ}
+    (own callers : List ℕ) {i : ℕ}
     → words ≡ own ++ callers → frame.base ≡ length callers → i ≡ length (reverse frames)
     → IsPlaced (frame ∷ frames) words i frame
-placed_last frame frames words own callers i e at last =
+placed_last frame frames {words} own callers {i} e at last =
     let none : slice_get (reverse (frame ∷ frames)) (suc i) ≡ None =
     slice_get_past (reverse (frame ∷ frames)) (suc i)
     (omega (arith, last, length-reverse frames, length-reverse (frame ∷ frames))) in
     let same : slots_end (frame ∷ frames) words i ≡ length words =
     ap (λ z. end_of z (length words)) none in
-    let parts = parts_of words own callers frame.base e at in
+    let parts = parts_of own callers e at in
     let count : length words ≡ length own + length callers = ap length e
     ∙ length-append own callers in
     let front : ShownFrame = record {
@@ -194,18 +195,14 @@ placed_last frame frames words own callers i e at last =
 
 -- ---- each
 
-pub placed : (frames : List StackFrame) (words : List ℕ) (i : ℕ) (frame : StackFrame)
+pub placed : (frames : List StackFrame) (words : List ℕ) (i : ℕ) {frame : StackFrame}
     → AreStacked frames words
     → slice_get (reverse frames) i ≡ Some frame → IsPlaced frames words i frame
-placed [] words i frame h e = absurd (cc)
-placed (f ∷ frames) words i frame h e =
+placed [] words i h e = absurd (cc)
+placed (f ∷ frames) words i {frame} h e =
     let there : slice_get (reverse frames ++ f ∷ []) i ≡ Some frame =
     subst (λ z. slice_get z i ≡ Some frame) (turned f frames) e in
-    ⊎_elim
-    (λ (k : slice_get
-    (reverse frames) i ≡ Some frame). placed_below f frames words h.0 h.1 i frame h.2 h.3 k
-    (placed frames h.1 i frame h.4 k))
-    (λ (k : (i ≡ length (reverse frames)) × (f ≡ frame)). subst
-    (λ z. IsPlaced (f ∷ frames) words i z) k.1
-    (placed_last f frames words h.0 h.1 i h.2 h.3 k.0))
-    (at_place (reverse frames) f frame i there)
+    ⊎_elim (λ (k : slice_get (reverse frames) i ≡ Some frame). placed_below f h.0 h.2 h.3 k
+    (placed frames h.1 i h.4 k)) (λ (k : (i ≡ length (reverse frames)) × (f ≡ frame)). subst
+    (λ z. IsPlaced (f ∷ frames) words i z) k.1 (placed_last f frames h.0 h.1 h.2 h.3 k.0))
+    (at_place (reverse frames) f i there)

@@ -46,9 +46,9 @@ pub record Parts (words own callers : List ℕ) (base : ℕ) : Type 0 where
   pub front : take (length words - base) words ≡ own
   pub back : drop (length words - base) words ≡ callers
 
-pub parts_of : (words own callers : List ℕ) (base : ℕ) → words ≡ own ++ callers
+pub parts_of : {words : List ℕ} (own callers : List ℕ) {base : ℕ} → words ≡ own ++ callers
     → base ≡ length callers → Parts words own callers base
-parts_of words own callers base e at =
+parts_of {words} own callers {base} e at =
     let count : length words - base ≡ length own =
     omega (arith, ap length e, length-append own callers) in
     record {
@@ -75,8 +75,8 @@ waiting_shown c program signature [] words (other ∷ thread) h = absurd h
 waiting_shown c program signature (frame ∷ frames) words [] h = absurd h
 waiting_shown c program signature (frame ∷ frames) words (FrameOf f ls labels vs rest ∷ thread) h =
     let w = h.2 in
-    let parts = parts_of words (own_words ls labels vs) h.3 frame.base (h.4.words_are
-    ∙ words_part ls labels vs h.3) h.4.base_is in
+    let parts = parts_of (own_words ls labels vs) h.3 (h.4.words_are ∙ words_part ls labels vs h.3)
+    h.4.base_is in
     let more = waiting_shown c program h.0.signature frames h.3 thread h.5 in (
       record {
         signature = h.0.signature;
@@ -120,8 +120,8 @@ frames_shown c program (frame ∷ frames) words [] later store e h = absurd h
 frames_shown c program (frame ∷ frames) words (FrameOf f ls labels vs rest
     ∷ thread) later store e h =
     let s = h.2 in
-    let parts = parts_of words (own_words ls labels vs) h.3 frame.base (h.4.words_are
-    ∙ words_part ls labels vs h.3) h.4.base_is in
+    let parts = parts_of (own_words ls labels vs) h.3 (h.4.words_are ∙ words_part ls labels vs h.3)
+    h.4.base_is in
     let more = waiting_shown c program h.0.signature frames h.3 thread h.5 in (
       record {
         signature = h.0.signature;
@@ -193,10 +193,10 @@ frames_stacked c program (frame ∷ frames) words (FrameOf f ls labels vs rest �
 
 -- the words of a frame whose place has these slots
 stacked_words : (ls : List Value) (labels : List Label) (vs : List Value)
-    (words own callers : List ℕ) (base : ℕ) → words ≡ own ++ callers → Parts words own callers base
+    {words own callers : List ℕ} {base : ℕ} → words ≡ own ++ callers → Parts words own callers base
     → reverse (take (length words - base) words) ≡ slots_of ls labels vs
     → words ≡ frame_words ls vs (map number_in (all_below labels)) callers
-stacked_words ls labels vs words own callers base e parts slots =
+stacked_words ls labels vs {own} {callers} e parts slots =
     e ∙ ap (λ z. z ++ callers) (own_are ls labels vs own (sym (ap reverse parts.front) ∙ slots))
     ∙ sym (words_part ls labels vs callers)
 
@@ -209,7 +209,7 @@ shown_waits c program signature [] words (other ∷ thread) k h = absurd h
 shown_waits c program signature (frame ∷ frames) words [] k h = absurd h
 shown_waits c program signature (frame ∷ frames) words (FrameOf f ls labels vs rest ∷ thread) k h =
     let s = h.1 in
-    let parts = parts_of words k.0 k.1 frame.base k.2 k.3 in
+    let parts = parts_of k.0 k.1 k.2 k.3 in
     let more : ShowsCallers c program h.0.signature (places_of frames k.1) thread =
     subst (λ z. ShowsCallers c program h.0.signature (places_of frames z) thread)
     parts.back h.2 in (
@@ -233,7 +233,7 @@ shown_waits c program signature (frame ∷ frames) words (FrameOf f ls labels vs
       },
       k.1,
       record {
-        words_are = stacked_words ls labels vs words k.0 k.1 frame.base k.2 parts s.slots;
+        words_are = stacked_words ls labels vs k.2 parts s.slots;
         base_is = k.3;
       },
       shown_waits c program h.0.signature frames k.1 thread k.4 more,
@@ -248,7 +248,7 @@ shown_frames c program [] words (other ∷ thread) k h = absurd h
 shown_frames c program (frame ∷ frames) words [] k h = absurd h
 shown_frames c program (frame ∷ frames) words (FrameOf f ls labels vs rest ∷ thread) k h =
     let s = h.1 in
-    let parts = parts_of words k.0 k.1 frame.base k.2 k.3 in
+    let parts = parts_of k.0 k.1 k.2 k.3 in
     let more : ShowsCallers c program h.0.signature (places_of frames k.1) thread =
     subst (λ z. ShowsCallers c program h.0.signature (places_of frames z) thread)
     parts.back h.2 in (
@@ -269,7 +269,7 @@ shown_frames c program (frame ∷ frames) words (FrameOf f ls labels vs rest ∷
       },
       k.1,
       record {
-        words_are = stacked_words ls labels vs words k.0 k.1 frame.base k.2 parts s.slots;
+        words_are = stacked_words ls labels vs k.2 parts s.slots;
         base_is = k.3;
       },
       shown_waits c program h.0.signature frames k.1 thread k.4 more,

@@ -32,11 +32,11 @@ use Rattle.machine_frame.proofs.Threads.Words.{one_fall}
 
 -- ---- what remains at an opcode
 
-pub none_behind : (opcodes : List Instruction) (p : ℕ) (i : Instruction) → p ≡ length opcodes
+pub none_behind : (opcodes : List Instruction) (p : ℕ) {i : Instruction} → p ≡ length opcodes
     → slice_get opcodes p ≡ Some i → ⊥
-none_behind [] p i e h = absurd (cc)
-none_behind (j ∷ opcodes) zero i e h = absurd (omega arith)
-none_behind (j ∷ opcodes) (suc p) i e h = none_behind opcodes p i (omega arith) h
+none_behind [] p e h = absurd (cc)
+none_behind (j ∷ opcodes) zero e h = absurd (omega arith)
+none_behind (j ∷ opcodes) (suc p) e h = none_behind opcodes p (omega arith) h
 
 first_plain : (rest : Sequence) (i : Instruction) → IsPlain i → IsFirst rest i → (after : Sequence)
     × (rest ≡ Plain i after)
@@ -61,7 +61,7 @@ plain_remains : (c : Context) (body : Sequence) (p : ℕ) (i : Instruction) (sha
     × (rest ≡ Plain i after)
 plain_remains c body p i [] types rest typed e o plain =
     let h = no_opcode_behind c body p types rest typed e in
-    absurd (none_behind (opcodes_of body) p i h.0 o)
+    absurd (none_behind (opcodes_of body) p h.0 o)
 plain_remains c body p i (label ∷ shapes) types rest typed e o plain =
     let h = opcodes_first c body p label shapes types rest typed e in
     let one : Some h.0 ≡ Some i = sym h.1 ∙ o in
@@ -127,11 +127,12 @@ call_behind c (Plain (instr.CallIndirect x) after) rest signature takes below h 
 call_behind c _ rest signature takes below h = absurd h
 
 -- The frame that waits is given what the function gives, and is after its call.
-pub is_typed_behind : (c : Context) (body : Sequence) (p : ℕ) (signature : FunctionType)
-    (ls : List Value) (labels : List Label) (vs results : List Value) (rest : Sequence)
+pub is_typed_behind : {c : Context} {body : Sequence} {p : ℕ} {signature : FunctionType}
+    {ls : List Value} {labels : List Label} {vs : List Value} (results : List Value)
+    {rest : Sequence}
     → IsTypedBody c body → WaitsAt c body p signature ls labels vs rest
     → AreOf (gives_of signature) results → IsTypedAt c body (suc p) ls labels (results ++ vs) rest
-is_typed_behind c body p signature ls labels vs results rest typed w o =
+is_typed_behind {c} {body} {p} {signature} {vs} results {rest} typed w o =
     let b = call_behind c w.call rest signature w.takes w.types w.calls in
     let here : HasShape c body p w.shapes (w.takes ++ w.types) (Plain b.0 rest) =
     (rw b.1 at w.reached) in
@@ -171,8 +172,7 @@ module _ (c : Context) (program : Program) (bodies : AreBodies c program) where
   gives_back signature frame frames words (FrameOf f ls labels vs rest ∷ thread) results o h = (
     h.0,
     h.1,
-    is_typed_behind (context_of c h.0) h.0.body frame.position signature ls labels vs results rest
-        (bodies f h.0) h.2 o,
+    is_typed_behind results (bodies f h.0) h.2 o,
     h.3,
     record {
       words_are = ap (λ z. map number_in results ++ z) h.4.words_are
@@ -184,22 +184,23 @@ module _ (c : Context) (program : Program) (bodies : AreBodies c program) where
 
   -- a frame ends with these values
   pub frame_ends : (signature : FunctionType) (frames : List StackFrame) (callers : List ℕ)
-      (thread : Thread) (n base : ℕ) (ls vs results : List Value) (below old words : List ℕ)
+      (thread : Thread) (n : ℕ) {base : ℕ} (ls vs : List Value) {results : List Value}
+      (below : List ℕ) {old : List ℕ} (words : List ℕ)
       → AreOf (gives_of signature) results → AreWaiting c program signature frames callers thread
       → topmost n vs ≡ Some results → base ≡ length callers → old ≡ frame_words ls vs below callers
       → WordsReturned frames n base old words
       → AreFrames c program (frames_behind frames) words (returned results thread)
-  frame_ends signature [] callers [] n base ls vs results below old words o h top at was falls =
-      one_fall 0 base old words callers falls (rw (
+  frame_ends signature [] callers [] n ls vs below words o h top at was falls =
+      one_fall callers falls (rw (
         at,
         was,
       ) (return_splits 0 ls vs [] below callers refl)) ∙ h
-  frame_ends signature [] callers (other ∷ thread) n base ls vs results below old words
+  frame_ends signature [] callers (other ∷ thread) n ls vs below words
       o h top at was falls = absurd h
-  frame_ends signature (frame ∷ frames) callers thread n base ls vs results below old
+  frame_ends signature (frame ∷ frames) callers thread n ls vs {results} below
       words o h top at was falls =
       let same : words ≡ map number_in results ++ callers =
-      one_fall n base old words (map number_in results ++ callers) falls (rw (
+      one_fall (map number_in results ++ callers) falls (rw (
         at,
         was,
       ) (return_splits n ls vs results below callers top)) in

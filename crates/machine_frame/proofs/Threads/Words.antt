@@ -80,9 +80,9 @@ waiting_frames c program signature (frame ∷ frames) words (FrameOf f ls labels
     ap suc (waiting_frames c program h.0.signature frames h.3 thread h.5)
 
 -- A fall leads to the words that it leads to.
-pub one_fall : (keeps base : ℕ) (old new other : List ℕ) → Falls keeps base old new
+pub one_fall : {keeps base : ℕ} {old new : List ℕ} (other : List ℕ) → Falls keeps base old new
     → Falls keeps base old other → new ≡ other
-one_fall keeps base old new other a b =
+one_fall other a b =
     let parts = same_parts a.kept b.kept (a.between ++ a.under) (b.between
     ++ b.under) (sym a.keeps_is ∙ b.keeps_is) (sym a.before ∙ b.before) in
     let ends = same_ends a.between b.between a.under b.under (sym a.height_is ∙ b.height_is) parts.1

@@ -46,7 +46,7 @@ returns-in-LocalGet c =
     rw c.in-LocalGet.is (
       tt,
       λ program store ls vs below callers at r.
-          local_get_shown program store below callers _ _ _ _ _ ls vs _ at r c.local_get.ensures,
+          local_get_shown program store below callers _ _ _ _ ls vs _ at r c.local_get.ensures,
     )
 
 pub returns-in-LocalSet : goal.returns-in-LocalSet
@@ -54,7 +54,7 @@ returns-in-LocalSet c =
     rw c.in-LocalSet.is (
       tt,
       λ program store ls vs below callers at r.
-          local_set_shown program store below callers _ _ _ _ _ ls vs _ at r c.local_set.ensures,
+          local_set_shown program store below callers _ _ _ _ ls vs _ at r c.local_set.ensures,
     )
 
 pub returns-in-LocalTee : goal.returns-in-LocalTee
@@ -62,7 +62,7 @@ returns-in-LocalTee c =
     rw c.in-LocalTee.is (
       tt,
       λ program store ls vs below callers at r.
-          local_tee_shown program store below callers _ _ _ _ _ ls vs _ at r c.local_tee.ensures,
+          local_tee_shown program store below callers _ _ _ _ ls vs _ at r c.local_tee.ensures,
     )
 
 pub returns-in-GlobalGet : goal.returns-in-GlobalGet

@@ -19,8 +19,7 @@ run_straight-stop-requires-clause-is_there c = frame_in c.loop-fuel_left.invaria
 pub returns-in-Some : goal.returns-in-Some
 returns-in-Some c =
     rw c.at-in-Some.ensures (straight_halts c.loop-fuel_left.invariant.1
-    c.run_straight-stop.ensures.runs c.in-Some.trap c.in-Some.is
-    c.run_straight-stop.ensures.fueled)
+    c.run_straight-stop.ensures.runs c.in-Some.is c.run_straight-stop.ensures.fueled)
 
 pub step-requires-clause-is_there : goal.step-requires-clause-is_there
 step-requires-clause-is_there c =

@@ -34,9 +34,8 @@ returns c = λ between kept count is.
     let zeros : c.put_zeros.new.words ≡ replicate (c.args.height - c.args.under) 0 =
     c.put_zeros.ensures ∙ ap (λ n. replicate n 0) lent in
     ap (λ z. reverse (take (length c.raise_to.new.self)
-    (with_from c.args.under z (reverse c.raise_to.new.self)))) zeros
-    ∙ ap (λ z. reverse (take (length z) (with_from c.args.under
-    (replicate (c.args.height - c.args.under) 0) (reverse z)))) all
-    ∙ ap (λ n. reverse (take (length (raised.0 ++ kept)) (with_from n
-    (replicate (c.args.height - c.args.under) 0) (reverse (raised.0 ++ kept))))) count
-    ∙ zeros_above raised.0 kept (c.args.height - c.args.under) long
+    (with_from c.args.under z (reverse c.raise_to.new.self)))) zeros ∙ ap (λ z. reverse (take
+    (length z) (with_from c.args.under (replicate (c.args.height - c.args.under) 0) (reverse z))))
+    all ∙ ap (λ n. reverse (take (length (raised.0 ++ kept)) (with_from n
+    (replicate (c.args.height - c.args.under) 0) (reverse (raised.0 ++ kept))))) count ∙ zeros_above
+    raised.0 kept long

@@ -11,8 +11,7 @@ returns-then-keeps-eq0 c = λ kept between under k h e.
       simp (length-reverse, length-take) at (ap length c.self.view_is),
       c.requires.room,
     ) in
-    falls_all _ kept between under _ c.args.keeps c.args.height c.if-keeps-eq0.true fits k h
-    (c.self.view_is ∙ e)
+    falls_all _ kept between under _ c.if-keeps-eq0.true fits k h (c.self.view_is ∙ e)
 
 pub returns-else-keeps-eq0 : goal.returns-else-keeps-eq0
 returns-else-keeps-eq0 c = λ kept between under k h e.
@@ -27,5 +26,4 @@ returns-else-keeps-eq0 c = λ kept between under k h e.
     - 1) 0 = get_or_read c.self.inside.words.items (c.self.inside.height - 1) _
     (omega arith) c.index-kept.ensures 0 in
     rw same (falls_but_one c.self.inside.words.items kept between under c.self.inside.height
-    c.args.keeps c.args.height c.if-keeps-eq0.false c.requires.few fits (omega arith) k h
-    (c.self.view_is ∙ e))
+    c.if-keeps-eq0.false c.requires.few fits (omega arith) k h (c.self.view_is ∙ e))

@@ -8,6 +8,5 @@ returns c = λ between under h e.
     let fits : c.args.height ≤ c.self.inside.height =
     omega (arith, simp (length-reverse, length-take) at (ap length c.self.view_is), c.requires)
     in
-    rw (← take-take c.args.height c.self.inside.height c.self.inside.words.items fits)
-    (falls_to (take c.self.inside.height c.self.inside.words.items) between under c.args.height
-    h (c.self.view_is ∙ e))
+    rw (← take-take c.args.height c.self.inside.height c.self.inside.words.items fits) (falls_to
+    (take c.self.inside.height c.self.inside.words.items) between under h (c.self.view_is ∙ e))
