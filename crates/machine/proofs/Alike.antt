@@ -42,8 +42,8 @@ call_length c (Plain (instr.CallIndirect x) after) signature takes rest h =
     ap (λ z. suc (length (spelled z))) (sym h.2)
 call_length c _ signature takes rest h = absurd h
 
-module _ (c : Context) (body : Sequence) (a b : ShownFrame) (ls : List Value) (labels : List Label)
-    (vs : List Value) (rest : Sequence) where
+module _ {c : Context} {body : Sequence} {a b : ShownFrame} {ls : List Value} {labels : List Label}
+    {vs : List Value} {rest : Sequence} where
   one_running_place : ShowsRunning c body a ls labels vs rest
       → ShowsRunning c body b ls labels vs rest → a.position ≡ b.position
   one_running_place h k =
@@ -51,9 +51,9 @@ module _ (c : Context) (body : Sequence) (a b : ShownFrame) (ls : List Value) (l
       h.labels_are k.labels_are
       (ap (λ z. length (spelled z)) (sym h.remains ∙ k.remains))
 
-  one_waiting_place : (above other : FunctionType) → ShowsWaiting c body a above ls labels vs rest
+  one_waiting_place : {above other : FunctionType} → ShowsWaiting c body a above ls labels vs rest
       → ShowsWaiting c body b other ls labels vs rest → a.position ≡ b.position
-  one_waiting_place above other h k =
+  one_waiting_place {above} {other} h k =
       labels_tell c body a.position b.position h.shape k.shape labels h.reached k.reached
       h.labels_are k.labels_are
       (call_length c h.shape.rest above h.takes rest h.calls
@@ -70,7 +70,7 @@ one_frame a b f p s =
     whole
 
 -- the function of a frame has one type, one list of declared locals and one body
-module _ (c : Context) (program : Program) (a b : ShownFrame) (f : ℕ) (h : IsFrameOf c program a f)
+module _ {c : Context} {program : Program} {a b : ShownFrame} {f : ℕ} (h : IsFrameOf c program a f)
     (k : IsFrameOf c program b f) where
   same_own : Own k.signature k.declared k.body ≡ Own h.signature h.declared h.body
   same_own = let x = h.is in let y = k.is in cc
@@ -84,30 +84,23 @@ module _ (c : Context) (program : Program) (a b : ShownFrame) (f : ℕ) (h : IsF
   same_body : k.body ≡ h.body
   same_body = let e = same_own in cc
 
-  module _ (ls : List Value) (labels : List Label) (vs : List Value) (rest : Sequence) where
+  module _ {ls : List Value} {labels : List Label} {vs : List Value} {rest : Sequence} where
     one_running : ShowsRunning (body_context c h.signature h.declared) h.body a ls labels vs rest
         → ShowsRunning (body_context c k.signature k.declared) k.body b ls labels vs rest → a ≡ b
     one_running x y =
         let there : ShowsRunning (body_context c h.signature h.declared) h.body b ls
-        labels vs rest = running_of c b ls labels vs rest k.signature h.signature k.declared
-        h.declared k.body h.body same_signature
-        same_declared same_body y in
-        one_frame a b (h.same
-        ∙ sym k.same) (one_running_place (body_context c h.signature h.declared)
-        h.body a b ls labels vs rest x there) (x.slots ∙ sym y.slots)
+        labels vs rest = running_of c same_signature same_declared same_body y in
+        one_frame a b (h.same ∙ sym k.same) (one_running_place x there) (x.slots ∙ sym y.slots)
 
-    one_waiting : (above other : FunctionType)
+    one_waiting : {above other : FunctionType}
         → ShowsWaiting (body_context c h.signature h.declared) h.body a above ls labels vs rest
         → ShowsWaiting (body_context c k.signature k.declared) k.body b other ls labels
         vs rest → a ≡ b
-    one_waiting above other x y =
+    one_waiting {other} x y =
         let there : ShowsWaiting (body_context c h.signature h.declared) h.body b other ls labels vs
         rest =
-        waiting_of c b ls labels vs rest k.signature h.signature k.declared h.declared k.body h.body
-        same_signature same_declared same_body other y in
-        one_frame a b (h.same
-        ∙ sym k.same) (one_waiting_place (body_context c h.signature h.declared)
-        h.body a b ls labels vs rest above other x there) (x.slots ∙ sym y.slots)
+        waiting_of c same_signature same_declared same_body y in
+        one_frame a b (h.same ∙ sym k.same) (one_waiting_place x there) (x.slots ∙ sym y.slots)
 
 -- ---- one machine
 
@@ -123,7 +116,7 @@ one_callers c program above other (a ∷ frames) [] (FrameOf f ls labels vs rest
     absurd k
 one_callers c program above other (a ∷ frames) (b ∷ others) (FrameOf f ls labels vs rest
     ∷ thread) h k =
-    let first : a ≡ b = one_waiting c program a b f h.0 k.0 ls labels vs rest above other h.1 k.1 in
+    let first : a ≡ b = one_waiting h.0 k.0 h.1 k.1 in
     let behind : frames ≡ others =
     one_callers c program h.0.signature k.0.signature frames others thread h.2 k.2 in
     cc
@@ -136,7 +129,7 @@ one_frames c program (a ∷ frames) others [] h k = absurd h
 one_frames c program [] others (FrameOf f ls labels vs rest ∷ thread) h k = absurd h
 one_frames c program (a ∷ frames) [] (FrameOf f ls labels vs rest ∷ thread) h k = absurd k
 one_frames c program (a ∷ frames) (b ∷ others) (FrameOf f ls labels vs rest ∷ thread) h k =
-    let first : a ≡ b = one_running c program a b f h.0 k.0 ls labels vs rest h.1 k.1 in
+    let first : a ≡ b = one_running h.0 k.0 h.1 k.1 in
     let behind : frames ≡ others =
     one_callers c program h.0.signature k.0.signature frames others thread h.2 k.2 in
     cc
@@ -193,26 +186,26 @@ abbrev Stays : Program → Configuration → Type 0
 Stays program e = (f : Configuration) → Advances program e f → ⊥
 
 -- Two runs from one configuration that go on as far as the fuel allows are of one length.
-same_length : (program : Program) (m n fuel : ℕ) (d e f : Configuration) → Steps program m d e
+same_length : {program : Program} {m n : ℕ} (fuel : ℕ) {d e f : Configuration} → Steps program m d e
     → Steps program n d f
     → m ≤ fuel → n ≤ fuel → (m < fuel → Stays program e) → (n < fuel → Stays program f) → m ≡ n
-same_length program m n fuel d e f none none within within' stays stays' = refl
-same_length program m n fuel d e f none (more {n = k} {d = g} b rest) within within' stays stays' =
+same_length fuel none none within within' stays stays' = refl
+same_length fuel none (more {n = k} {d = g} b rest) within within' stays stays' =
     absurd (stays (omega (arith, within')) g b)
-same_length program m n fuel d e f (more {n = k} {d = g} a rest) none within within' stays stays' =
+same_length fuel (more {n = k} {d = g} a rest) none within within' stays stays' =
     absurd (stays' (omega (arith, within)) g a)
-same_length program m n fuel d e f (more {n = j} {c = c} {d = g} a rest)
-    (more {n = k} {d = h} b rest') within within' stays stays' =
+same_length {program} fuel {f} (more {n = j} {c = c} {d = g} a rest) (more {n = k} {d = h} b rest')
+    within within' stays stays' =
     let same : h ≡ g = one_run program 1 c h g (more b none) (more a none) in
     let others =
-    same_length program j k (fuel - 1) g e f rest (subst (λ z. Steps program k z f) same rest')
-    (omega (arith, within)) (omega (arith, within'))
-    (λ less. stays (omega (arith, less))) (λ less. stays' (omega (arith, less))) in
+    same_length (fuel - 1) rest (subst (λ z. Steps program k z f) same rest')
+    (omega (arith, within)) (omega (arith, within')) (λ less. stays (omega (arith, less)))
+    (λ less. stays' (omega (arith, less))) in
     ap suc others
 
 -- nothing applies once the program has ended
-stuck : (program : Program) (e : Configuration) → IsEnded e → counted_step program e ≡ Stuck
-stuck program e h = ap (λ t. counted_step_of program e t) h.returned
+stuck : (program : Program) {e : Configuration} → IsEnded e → counted_step program e ≡ Stuck
+stuck program {e} h = ap (λ t. counted_step_of program e t) h.returned
 
 -- the configuration that is shown after a pause
 abbrev shown_after : Pause → Configuration → Configuration
@@ -271,8 +264,7 @@ halts new program d fuel fuel_left pause.Returned h =
       steps = a.steps;
       ran = a.ran;
       within = omega (arith, used);
-      stays = λ less f on. (let none = stuck program a.configuration h.1 in let goes = on.counted
-          in cc);
+      stays = λ less f on. (let none = stuck program h.1 in let goes = on.counted in cc);
       is = (h.1, used);
       shows = a.shows;
     }
@@ -300,9 +292,9 @@ abbrev call_of : Call → List ℕ → HostCall
 call_of call arguments = record { call = call; arguments = arguments }
 
 -- a counted step asks for one call
-asks_once : (m : Module) (program : Program) (e : Configuration) (a b : HostCall)
+asks_once : {m : Module} {program : Program} {e : Configuration} (a b : HostCall)
     → AsksFor m program e a.call a.arguments → AsksFor m program e b.call b.arguments → a ≡ b
-asks_once m program e a b h k =
+asks_once a b h k =
     let asks = h.asks in let asks' = k.asks in
     let function : h.function ≡ k.function = cc in
     let operands : h.operands ≡ k.operands = cc in
@@ -325,7 +317,7 @@ module _ (m : Module) (program : Program) (e : Configuration)
   one_pause pause.Spent pause.Spent h k = let a = h.1 in let b = k.1 in (refl, omega (arith, a, b))
   one_pause (pause.Host asked) (pause.Host other) h k =
       let used = h.2 in let used' = k.2 in (
-        ap (λ (z : HostCall). pause.Host z) (asks_once m program e asked other h.0 k.0),
+        ap (λ (z : HostCall). pause.Host z) (asks_once asked other h.0 k.0),
         omega (arith, used, used'),
       )
   one_pause pause.Returned pause.Returned h k = let used = h.1 in let used' = k.1 in
@@ -345,17 +337,17 @@ module _ (m : Module) (program : Program) (e : Configuration)
   one_pause (pause.Trapped why) pause.Spent h k = let a = k.1 in let used = k.2 in let used' = h.1
       in absurd (omega (arith, a, used, used'))
   one_pause (pause.Host asked) pause.Returned h k = let asks = h.0.asks in
-      let none = stuck program e k.0 in absurd (cc)
+      let none = stuck program k.0 in absurd (cc)
   one_pause pause.Returned (pause.Host other) h k = let asks = k.0.asks in
-      let none = stuck program e h.0 in absurd (cc)
+      let none = stuck program h.0 in absurd (cc)
   one_pause (pause.Host asked) (pause.Trapped why) h k = let asks = h.0.asks in let traps = k.0 in
       absurd (cc)
   one_pause (pause.Trapped why) (pause.Host other) h k = let asks = k.0.asks in let traps = h.0 in
       absurd (cc)
   one_pause pause.Returned (pause.Trapped why) h k = let traps = k.0 in
-      let none = stuck program e h.0 in absurd (cc)
+      let none = stuck program h.0 in absurd (cc)
   one_pause (pause.Trapped why) pause.Returned h k = let traps = h.0 in
-      let none = stuck program e k.0 in absurd (cc)
+      let none = stuck program k.0 in absurd (cc)
 
 -- ---- two machines
 
@@ -367,8 +359,7 @@ run_alike v w v' w' program d fuel x y guest same same' shows shows' runs runs' 
     let a = halts v' program d fuel x.fuel_left x.why (runs program d shows) in
     let b = halts w' program d fuel y.fuel_left y.why (runs' program d shows') in
     let length : a.steps ≡ b.steps =
-    same_length program a.steps b.steps fuel d a.end b.end a.ran b.ran a.within b.within a.stays
-    b.stays in
+    same_length fuel a.ran b.ran a.within b.within a.stays b.stays in
     let end : a.end ≡ b.end =
     one_run program b.steps d a.end b.end (subst (λ n. Steps program n d a.end) length a.ran)
     b.ran in

@@ -23,9 +23,9 @@ pub record ReducesIn (code : Executable) (new : State) (functions : List Functio
 
 module _ (code : Executable) (new : State) (functions : List FunctionType) (program : Program)
     (d : Configuration) where
-  come_reduces : (fuel_left : ℕ) (come : ComesToState code new functions program d 0 fuel_left)
+  come_reduces : {fuel_left : ℕ} (come : ComesToState code new functions program d 0 fuel_left)
       → IsReduced program come.configuration → ReducesIn code new functions program d
-  come_reduces fuel_left come e =
+  come_reduces come e =
       let used = come.used in
       let none : come.steps ≡ 0 = omega (arith, used) in
       record {
@@ -38,9 +38,9 @@ module _ (code : Executable) (new : State) (functions : List FunctionType) (prog
 
   pub at_once : (fuel_left : ℕ) (why : Pause) → PausesFor code new functions program d
       0 fuel_left why → ReducesIn code new functions program d
-  at_once fuel_left pause.Spent h = come_reduces fuel_left h.0 h.1
+  at_once fuel_left pause.Spent h = come_reduces h.0 h.1
   at_once fuel_left (pause.Host asked) h = let used = h.0.used in let some = h.2 in
       absurd (omega (arith, used, some))
   at_once fuel_left pause.Returned h =
-      come_reduces fuel_left h.0 (ended_reduced program h.0.configuration h.1)
+      come_reduces h.0 (ended_reduced program h.1)
   at_once fuel_left (pause.Trapped why) h = let used = h.used in absurd (omega (arith, used))

@@ -20,13 +20,13 @@ use Rattle.machine.proofs.Inside.{memory_in, holds_reduced, reduced_with, shown,
 use Rattle.machine.proofs.OneProgram.{one_program, one_list}
 use Rattle.machine.proofs.AtOnce.{ReducesIn, at_once}
 
-module _ (code : Executable) (old : State) (most : ℕ) (results : List Value)
+module _ {code : Executable} {old : State} {most : ℕ} {results : List Value}
     (machine : IsMachine code old most) (shape : IsWithinLimit old.memory)
     (bytes : AllByRecursion IsByte old.memory.bytes) (waits : WaitsFor results (seen code old most))
   where
     stands_old : StateStandsFor code old waits.shows.functions waits.program waits.configuration
     stands_old =
-        stood_for code old most machine shape bytes waits.program waits.configuration waits.shows
+        stood_for machine shape bytes waits.shows
 
     pub is_waiting : IsWaiting results code old
     is_waiting = record {
@@ -62,14 +62,14 @@ module _ (code : Executable) (old : State) (most : ℕ) (results : List Value)
       }
 
       module _ (new : State) (paused : Paused) (pauses : Pauses code mid 0 paused new) where
-        reduces_from : (functions : List FunctionType) (program : Program) (d : Configuration)
+        reduces_from : {functions : List FunctionType} {program : Program} {d : Configuration}
             → StateStandsFor code mid functions program d → ReducesIn code new functions program d
-        reduces_from functions program d stands =
+        reduces_from {functions} {program} {d} stands =
             at_once code new functions program d paused.fuel_left paused.why
             (pauses functions program d stands)
 
         after : ReducesIn code new waits.shows.functions waits.program there
-        after = reduces_from waits.shows.functions waits.program there stands_there
+        after = reduces_from stands_there
 
         pub machine_finished : IsMachine code new most
         machine_finished = record {
@@ -85,29 +85,23 @@ module _ (code : Executable) (old : State) (most : ℕ) (results : List Value)
               let lists : waits.shows.functions ≡ functions =
               one_list code.«module» most waits.shows.functions functions waits.program program
               waits.shows.is is in
-              let here = reduced_with code new waits.shows.functions waits.program
-              after.configuration after.stands memory after.reduced
-              (memory_in code.«module» most waits.shows.functions waits.program waits.shows.is
-              memory is_memory) in
+              let here = reduced_with after.stands after.reduced (memory_in code.«module» most
+              waits.shows.functions waits.program waits.shows.is is_memory) in
               subst (λ z. IsReducedIn code (with_memory_of new memory) functions z) programs
               (subst (λ z. IsReducedIn code (with_memory_of new memory) z waits.program) lists
               here);
         }
 
         pub holds_finished : HoldsMemory (seen code new most)
-        holds_finished = holds_reduced code new waits.shows.functions waits.program
-            after.configuration after.stands most waits.shows.is
+        holds_finished = holds_reduced after.stands waits.shows.is
 
         pub answers_finished : Answers results (seen code old most) (seen code new most)
         answers_finished program d f arguments waiter signature shows asks there gives =
-            let stands = stood_for code old most machine shape bytes program d shows in
-            let end = reduces_from shows.functions program
-            (answered d old.memory.bytes results waiter)
-            (answers shows.functions program d f arguments waiter signature stands asks
-            there gives) in
+            let stands = stood_for machine shape bytes shows in
+            let end = reduces_from (answers shows.functions program d f arguments waiter signature
+            stands asks there gives) in
             record {
               configuration = end.configuration;
               reduces = end.reduces;
-              shows = shown code new shows.functions program end.configuration end.stands most
-                  shows.is end.reduced;
+              shows = shown end.stands shows.is end.reduced;
             }

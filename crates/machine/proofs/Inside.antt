@@ -41,9 +41,9 @@ typed_memory program memory h =
 module _ (m : Module) (most : ℕ) (functions : List FunctionType) (program : Program)
     (is : IsProgramIn m most functions program) where
   -- a memory for the module is one for its program
-  pub memory_in : (memory : LinearMemory) → IsMemoryFor (least_of m) most memory
+  pub memory_in : {memory : LinearMemory} → IsMemoryFor (least_of m) most memory
       → IsMemoryFor program.least_pages program.most_pages memory
-  memory_in memory h = record {
+  memory_in {memory} h = record {
     limit = h.limit ∙ sym is.most;
     least = subst (λ z. z * page_size ≤ length memory.bytes) (sym is.is_program.least_pages)
         h.least;
@@ -60,20 +60,20 @@ module _ (m : Module) (most : ℕ) (functions : List FunctionType) (program : Pr
       subst (λ z. z * page_size ≤ length memory) is.is_program.least_pages enough
 
   -- so there may be as many
-  pub least_fits : (memory : List ℕ) → IsTypedMemory program memory → least_of m ≤ most
-  least_fits memory h =
+  pub least_fits : {memory : List ℕ} → IsTypedMemory program memory → least_of m ≤ most
+  least_fits h =
       let least = h.least in let within = h.within in
       let fits : program.least_pages ≤ program.most_pages = omega (arith, least, within) in
       subst (λ z. z ≤ most) is.is_program.least_pages
       (subst (λ z. program.least_pages ≤ z) is.most fits)
 
-module _ (code : Executable) (s : State) (functions : List FunctionType) (program : Program)
-    (d : Configuration) (stands : StateStandsFor code s functions program d) where
-  pub with_another : (memory : LinearMemory)
+module _ {code : Executable} {s : State} {functions : List FunctionType} {program : Program}
+    {d : Configuration} (stands : StateStandsFor code s functions program d) where
+  pub with_another : {memory : LinearMemory}
       → IsMemoryFor program.least_pages program.most_pages memory
       → StateStandsFor code (with_memory_of s memory) functions program
       (with_memory_bytes d memory.bytes)
-  with_another memory h =
+  with_another {memory} h =
       let k = stands.stands in
       record {
         is_code = stands.is_code;
@@ -100,20 +100,20 @@ module _ (code : Executable) (s : State) (functions : List FunctionType) (progra
         };
       }
 
-  pub reduced_with : (memory : LinearMemory) → IsReduced program d
+  pub reduced_with : {memory : LinearMemory} → IsReduced program d
       → IsMemoryFor program.least_pages program.most_pages memory
       → IsReducedIn code (with_memory_of s memory) functions program
-  reduced_with memory e h = record {
+  reduced_with {memory} e h = record {
     configuration = with_memory_bytes d memory.bytes;
-    stands = with_another memory h;
+    stands = with_another h;
     reduced = another_store program d.thread d.later d.store
         (record d.store { memory = memory.bytes }) e;
   }
 
   -- it has the memory that it should
-  pub holds_reduced : (most : ℕ) → IsProgramIn code.«module» most functions program
+  pub holds_reduced : {most : ℕ} → IsProgramIn code.«module» most functions program
       → HoldsMemory (seen code s most)
-  holds_reduced most is = record {
+  holds_reduced {most} is = record {
     limit = stands.stands.shown.limit_is ∙ is.most;
     least = has_least code.«module» most functions program is s.memory.bytes
         (subst (IsTypedMemory program) (sym stands.stands.shown.bytes_are)
@@ -121,34 +121,34 @@ module _ (code : Executable) (s : State) (functions : List FunctionType) (progra
   }
 
   -- what it stands for is shown
-  module _ (most : ℕ) (is : IsProgramIn code.«module» most functions program) where
+  module _ {most : ℕ} (is : IsProgramIn code.«module» most functions program) where
     pub shown : IsReduced program d → ShowsIn (seen code s most) program d
     shown e = record {
       functions = functions;
       is = is;
-      holds = holds_reduced most is;
+      holds = holds_reduced is;
       shows = reduced_is_shown (module_context code.«module» functions) program
           (opcodes_in code.«module») (tables_in code.«module» code.routines.items) code.table.items
-          (parts_of_state s) d (ready code s functions program d stands) stands.stands e;
+          (parts_of_state s) d (ready stands) stands.stands e;
     }
 
 -- and what is shown, it stands for
-pub shown_is_stood_for : (code : Executable) (s : State) (most : ℕ) (program : Program)
-    (d e : Configuration) → (shows : ShowsIn (seen code s most) program d)
+pub shown_is_stood_for : {code : Executable} {s : State} (most : ℕ) {program : Program}
+    {d e : Configuration} → (shows : ShowsIn (seen code s most) program d)
     → StateStandsFor code s shows.functions program e → StateStandsFor code s
     shows.functions program d
-shown_is_stood_for code s most program d e shows stands = record {
+shown_is_stood_for {code} {s} most {program} {d} {e} shows stands = record {
   is_code = stands.is_code;
   stands = shown_stands (module_context code.«module» shows.functions) program code.table.items
       (parts_of_state s) e d (shows.holds.limit ∙ sym shows.is.most) stands.stands shows.shows;
 }
 
 -- the memory that it holds is one of those that may be in its place
-pub stood_for : (code : Executable) (s : State) (most : ℕ) → IsMachine code s most
+pub stood_for : {code : Executable} {s : State} {most : ℕ} → IsMachine code s most
     → IsWithinLimit s.memory → AllByRecursion IsByte s.memory.bytes
-    → (program : Program) (d : Configuration) → (shows : ShowsIn (seen code s most) program d)
+    → {program : Program} {d : Configuration} → (shows : ShowsIn (seen code s most) program d)
     → StateStandsFor code s shows.functions program d
-stood_for code s most machine shape bytes program d shows =
+stood_for {code} {s} {most} machine shape bytes {program} shows =
     let memory : IsMemoryFor (least_of code.«module») most s.memory = record {
       limit = shows.holds.limit;
       least = shows.holds.least;
@@ -156,4 +156,4 @@ stood_for code s most machine shape bytes program d shows =
       bytes = bytes;
     } in
     let some = machine.reduced s.memory shows.functions program memory shows.is in
-    shown_is_stood_for code s most program d some.configuration shows some.stands
+    shown_is_stood_for most shows some.stands

@@ -22,8 +22,8 @@ use Rattle.machine.proofs.Inside.{memory_in, has_least, least_fits, reduced_with
 use Rattle.machine.proofs.InstanceLemmas.Begun.{own_memories}
 use Rattle.machine.proofs.AtOnce.{ReducesIn, at_once}
 
-module _ (pages : ℕ) (m : Module) (b : MachineStart) (few : pages
-    ≤ 2 ^ 16) (h : HasStarted pages m b) where
+module _ {pages : ℕ} {m : Module} {b : MachineStart} (few : pages ≤ 2 ^ 16)
+    (h : HasStarted pages m b) where
   pub begin_stands : StandsForSome b.code b.state
   begin_stands = record {
     functions = h.functions;
@@ -38,19 +38,19 @@ module _ (pages : ℕ) (m : Module) (b : MachineStart) (few : pages
       subst IsValid h.guest start.is_code.valid
 
   module _ (state : State) (paused : Paused) (pauses : Pauses b.code b.state 0 paused state) where
-    reduces : (functions : List FunctionType) (program : Program) → AreFunctionTypes m functions
+    reduces : (functions : List FunctionType) {program : Program} → AreFunctionTypes m functions
         → IsProgram m pages program
         → ReducesIn b.code state functions program
         (first h.linkable.store (calls_of m.start h.linkable.entry))
-    reduces functions program types is =
+    reduces functions {program} types is =
         let start = first h.linkable.store (calls_of m.start h.linkable.entry) in
         at_once b.code state functions program start paused.fuel_left paused.why
         (pauses functions program start (h.stands functions program types is))
 
-    program_in : (functions : List FunctionType) (program : Program) → AreFunctionTypes m functions
+    program_in : (functions : List FunctionType) {program : Program} → AreFunctionTypes m functions
         → IsProgram m pages program
         → IsProgramIn b.code.«module» b.state.memory.limit functions program
-    program_in functions program types is = record {
+    program_in functions types is = record {
       pages = pages;
       few = few;
       is_program = rw h.guest is;
@@ -59,10 +59,10 @@ module _ (pages : ℕ) (m : Module) (b : MachineStart) (few : pages
     }
 
     -- one of the limit of memory is one under so many pages
-    under_pages : (functions : List FunctionType) (program : Program)
+    under_pages : {functions : List FunctionType} {program : Program}
         → IsProgramIn b.code.«module» b.state.memory.limit functions program
         → IsProgram m pages program × AreFunctionTypes m functions
-    under_pages functions program is =
+    under_pages {functions} {program} is =
         let p : IsProgram m is.pages program =
         subst (λ z. IsProgram z is.pages program) h.guest is.is_program in (
           record {
@@ -76,7 +76,7 @@ module _ (pages : ℕ) (m : Module) (b : MachineStart) (few : pages
 
     reduced_memory : IsTypedMemory h.program state.memory.bytes
     reduced_memory =
-        let after = reduces h.functions h.program h.types h.is_program in
+        let after = reduces h.functions h.types h.is_program in
         let stands = after.stands.stands in
         subst (IsTypedMemory h.program) (sym stands.shown.bytes_are) stands.typed.store.memory
 
@@ -84,22 +84,20 @@ module _ (pages : ℕ) (m : Module) (b : MachineStart) (few : pages
     linked_machine = record {
       functions = h.functions;
       program = h.program;
-      is = program_in h.functions h.program h.types h.is_program;
+      is = program_in h.functions h.types h.is_program;
       own = rw h.guest (own_memories m h.linkable.imports);
       fits = least_fits b.code.«module» b.state.memory.limit h.functions h.program
-          (program_in h.functions h.program h.types h.is_program) state.memory.bytes
-          reduced_memory;
+          (program_in h.functions h.types h.is_program) reduced_memory;
       reduced = λ memory functions program is_memory is.
-          let under = under_pages functions program is in
-          let after = reduces functions program under.1 under.0 in
-          reduced_with b.code state functions program after.configuration after.stands memory
-          after.reduced
-          (memory_in b.code.«module» b.state.memory.limit functions program is memory is_memory);
+          let under = under_pages is in
+          let after = reduces functions under.1 under.0 in
+          reduced_with after.stands after.reduced (memory_in b.code.«module» b.state.memory.limit
+          functions program is is_memory);
     }
 
     same_limit : state.memory.limit ≡ b.state.memory.limit
     same_limit =
-        let after = reduces h.functions h.program h.types h.is_program in
+        let after = reduces h.functions h.types h.is_program in
         after.stands.stands.shown.limit_is ∙ h.is_program.most_pages ∙ sym h.limit
 
     -- where the module begins is what the beginning reduces to
@@ -107,7 +105,7 @@ module _ (pages : ℕ) (m : Module) (b : MachineStart) (few : pages
         → Begins m pages h.linkable.entry program d
         → ShowsIn (seen b.code state b.state.memory.limit) program d
     shows_begun program d begins =
-        let after = reduces h.functions program h.types begins.is_program in
+        let after = reduces h.functions h.types begins.is_program in
         let stores : begins.store ≡ h.linkable.store =
         store_once m begins.store h.linkable.store begins.is_store h.linkable.segments in
         let P : Store → Type 0 =
@@ -117,14 +115,13 @@ module _ (pages : ℕ) (m : Module) (b : MachineStart) (few : pages
         after.configuration d after.reduces (subst P stores begins.reduces) in
         let Q : Configuration → Type 0 =
         λ z. ShowsIn (seen b.code state b.state.memory.limit) program z in
-        subst Q same (shown b.code state h.functions program after.configuration after.stands
-        b.state.memory.limit (program_in h.functions program h.types begins.is_program)
+        subst Q same (shown after.stands (program_in h.functions h.types begins.is_program)
         after.reduced)
 
     some_begins : (program : Program) × (d : Configuration)
         × Begins m pages h.linkable.entry program d
     some_begins =
-        let after = reduces h.functions h.program h.types h.is_program in (
+        let after = reduces h.functions h.types h.is_program in (
           h.program,
           after.configuration,
           record {
@@ -142,8 +139,7 @@ module _ (pages : ℕ) (m : Module) (b : MachineStart) (few : pages
       holds = record {
         limit = same_limit;
         least = has_least b.code.«module» b.state.memory.limit h.functions h.program
-            (program_in h.functions h.program h.types h.is_program) state.memory.bytes
-            reduced_memory;
+            (program_in h.functions h.types h.is_program) state.memory.bytes reduced_memory;
       };
       shows = shows_begun;
       begins = some_begins;

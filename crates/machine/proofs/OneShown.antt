@@ -110,9 +110,9 @@ module _ (locals operands : List ValueType) (shapes : List LabelShape) (ls ms : 
         values = parts.0;
       }
 
-same_shape : (c : Context) (body : Sequence) (p : ℕ) (shape shape' : Shape)
+same_shape : (c : Context) (body : Sequence) (p : ℕ) {shape shape' : Shape}
     → body_shape c body p ≡ Some shape → body_shape c body p ≡ Some shape' → shape ≡ shape'
-same_shape c body p shape shape' a b = cc
+same_shape c body p a b = cc
 
 -- a call takes the same of the operands
 same_call : (c : Context) (s : Sequence) (signature : FunctionType) (takes takes' : List ValueType)
@@ -124,14 +124,14 @@ same_call c (Plain (instr.CallIndirect x) after) signature takes takes' rest res
     (h.1 ∙ sym k.1, h.2 ∙ sym k.2)
 same_call c _ signature takes takes' rest rest' h k = absurd h
 
-module _ (c : Context) (body : Sequence) (place : ShownFrame) (f f' : ℕ) (ls ms : List Value)
-    (labels others : List Label) (vs ws : List Value) (rest rest' : Sequence) where
+module _ {c : Context} {body : Sequence} {place : ShownFrame} {f f' : ℕ} {ls ms : List Value}
+    {labels others : List Label} {vs ws : List Value} {rest rest' : Sequence} where
   one_running : f ≡ f' → ShowsRunning c body place ls labels vs rest
       → ShowsRunning c body place ms others ws rest'
       → FrameOf f ls labels vs rest ≡ FrameOf f' ms others ws rest'
   one_running same h k =
       let shape : k.shape ≡ h.shape =
-      same_shape c body place.position k.shape h.shape k.reached h.reached in
+      same_shape c body place.position k.reached h.reached in
       let frame = same_slots c.locals h.shape.operands h.shape.labels ls ms labels others vs ws
       h.locals k.locals h.operands (subst (λ (z : Shape). AreOf z.operands ws) shape k.operands)
       h.labels_are (subst (λ (z : Shape). HaveShape z.labels others) shape k.labels_are)
@@ -141,12 +141,12 @@ module _ (c : Context) (body : Sequence) (place : ShownFrame) (f f' : ℕ) (ls m
       let a = frame.locals in let b = frame.labels_are in let d = frame.values in
       cc
 
-  one_waiting : (signature : FunctionType) → f ≡ f' → ShowsWaiting c body place signature ls
-      labels vs rest → ShowsWaiting c body place signature ms others ws rest'
+  one_waiting : {signature : FunctionType} → f ≡ f' → ShowsWaiting c body place signature ls labels
+      vs rest → ShowsWaiting c body place signature ms others ws rest'
       → FrameOf f ls labels vs rest ≡ FrameOf f' ms others ws rest'
-  one_waiting signature same h k =
+  one_waiting {signature} same h k =
       let shape : k.shape ≡ h.shape =
-      same_shape c body place.position k.shape h.shape k.reached h.reached in
+      same_shape c body place.position k.reached h.reached in
       let call = same_call c h.shape.rest signature h.takes k.takes rest rest' h.calls
       (subst (λ (z : Shape). IsCallOf c z.rest signature k.takes rest') shape k.calls) in
       let split : h.takes ++ h.types ≡ h.takes ++ k.types =
@@ -165,21 +165,21 @@ module _ (c : Context) (body : Sequence) (place : ShownFrame) (f f' : ℕ) (ls m
 -- ---- threads
 
 -- equal functions are shown by the same frames
-module _ (c : Context) (place : ShownFrame) (ls : List Value) (labels : List Label)
-    (vs : List Value) (rest : Sequence) (signature signature' : FunctionType)
-    (declared declared' : List ValueType) (body body' : Sequence) (a : signature
-    ≡ signature') (b : declared ≡ declared') (d : body ≡ body') where
+module _ (c : Context) {place : ShownFrame} {ls : List Value} {labels : List Label}
+    {vs : List Value} {rest : Sequence} {signature signature' : FunctionType}
+    {declared declared' : List ValueType} {body body' : Sequence} (a : signature ≡ signature')
+    (b : declared ≡ declared') (d : body ≡ body') where
   pub running_of : ShowsRunning (body_context c signature declared) body place ls labels vs rest
       → ShowsRunning (body_context c signature' declared') body' place ls labels vs rest
   running_of h = rw (← a, ← b, ← d) h
 
-  pub waiting_of : (above : FunctionType)
+  pub waiting_of : {above : FunctionType}
       → ShowsWaiting (body_context c signature declared) body place above ls labels vs rest
       → ShowsWaiting (body_context c signature' declared') body' place above ls labels vs rest
-  waiting_of above h = rw (← a, ← b, ← d) h
+  waiting_of h = rw (← a, ← b, ← d) h
 
 -- a place has one function, with one type, one list of declared locals and one body
-module _ (c : Context) (program : Program) (place : ShownFrame) (f f' : ℕ)
+module _ {c : Context} {program : Program} {place : ShownFrame} {f f' : ℕ}
     (h : IsFrameOf c program place f) (k : IsFrameOf c program place f') where
   same_function : f ≡ f'
   same_function = sym h.same ∙ k.same
@@ -202,26 +202,20 @@ module _ (c : Context) (program : Program) (place : ShownFrame) (f f' : ℕ)
   same_callers places thread =
       subst (λ (z : FunctionType). ShowsCallers c program z places thread) same_signature
 
-  module _ (ls ms : List Value) (labels others : List Label) (vs ws : List Value)
-      (rest rest' : Sequence) where
+  module _ {ls ms : List Value} {labels others : List Label} {vs ws : List Value}
+      {rest rest' : Sequence} where
     running_frame : ShowsRunning (body_context c h.signature h.declared) h.body place ls
         labels vs rest → ShowsRunning (body_context c k.signature k.declared) k.body place ms
         others ws rest' → FrameOf f ls labels vs rest ≡ FrameOf f' ms others ws rest'
     running_frame a b =
-        one_running (body_context c h.signature h.declared) h.body place f f' ls ms
-        labels others vs ws rest rest' same_function a
-        (running_of c place ms others ws rest' k.signature h.signature k.declared
-        h.declared k.body h.body same_signature same_declared same_body b)
+        one_running same_function a (running_of c same_signature same_declared same_body b)
 
-    waiting_frame : (above : FunctionType)
+    waiting_frame : {above : FunctionType}
         → ShowsWaiting (body_context c h.signature h.declared) h.body place above ls labels vs rest
         → ShowsWaiting (body_context c k.signature k.declared) k.body place above ms others ws rest'
         → FrameOf f ls labels vs rest ≡ FrameOf f' ms others ws rest'
-    waiting_frame above a b =
-        one_waiting (body_context c h.signature h.declared) h.body place f f' ls ms
-        labels others vs ws rest rest' above same_function a
-        (waiting_of c place ms others ws rest' k.signature h.signature k.declared
-        h.declared k.body h.body same_signature same_declared same_body above b)
+    waiting_frame a b =
+        one_waiting same_function a (waiting_of c same_signature same_declared same_body b)
 
 one_caller : (c : Context) (program : Program) (above : FunctionType) (places : List ShownFrame)
     (thread other : Thread) → ShowsCallers c program above places thread
@@ -233,11 +227,10 @@ one_caller c program above (place ∷ places) [] other h k = absurd h
 one_caller c program above (place ∷ places) (g ∷ frames) [] h k = absurd k
 one_caller c program above (place ∷ places) (FrameOf f ls labels vs rest
     ∷ frames) (FrameOf f' ms labels' ws rest' ∷ others) h k =
-    let frame = waiting_frame c program place f f' h.0 k.0 ls ms labels labels' vs ws rest rest'
-    above h.1 k.1 in
+    let frame = waiting_frame h.0 k.0 h.1 k.1 in
     let behind =
     one_caller c program h.0.signature places frames others h.2
-    (same_callers c program place f f' h.0 k.0 places others k.2) in
+    (same_callers h.0 k.0 places others k.2) in
     cc
 
 one_thread : (c : Context) (program : Program) (places : List ShownFrame) (thread other : Thread)
@@ -249,11 +242,10 @@ one_thread c program (place ∷ places) [] other h k = absurd h
 one_thread c program (place ∷ places) (g ∷ frames) [] h k = absurd k
 one_thread c program (place ∷ places) (FrameOf f ls labels vs rest
     ∷ frames) (FrameOf f' ms labels' ws rest' ∷ others) h k =
-    let frame = running_frame c program place f f' h.0 k.0 ls ms labels labels' vs ws rest rest' h.1
-    k.1 in
+    let frame = running_frame h.0 k.0 h.1 k.1 in
     let behind =
     one_caller c program h.0.signature places frames others h.2
-    (same_callers c program place f f' h.0 k.0 places others k.2) in
+    (same_callers h.0 k.0 places others k.2) in
     cc
 
 -- ---- configurations
@@ -266,10 +258,10 @@ configuration_of memory globals table thread later =
       later = later;
     }
 
-one_configuration : (c : Context) (program : Program) (table : List (Option ℕ))
-    (state : MachineState) (d e : Configuration) → Shows c program table state d
+one_configuration : {c : Context} {program : Program} {table : List (Option ℕ)}
+    {state : MachineState} {d e : Configuration} → Shows c program table state d
     → Shows c program table state e → d ≡ e
-one_configuration c program table state d e h k =
+one_configuration {c} {program} {state} {d} {e} h k =
     let globals =
     same_values (map value_type_of c.globals) d.store.globals e.store.globals
     h.typed.store.globals k.typed.store.globals (sym h.globals ∙ k.globals) in
@@ -292,5 +284,5 @@ shows_one v p q d e h k =
     (subst (λ (z : List FunctionType). Shows (module_context v.guest z) q v.table v.state e)
     functions k.shows) in (
       sym programs,
-      one_configuration (module_context v.guest h.functions) p v.table v.state d e h.shows there,
+      one_configuration h.shows there,
     )

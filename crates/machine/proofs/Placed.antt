@@ -29,11 +29,11 @@ most_below (t ∷ memories) pages h = limited t.limits.maximum
     limited (Some most) = omega arith
 
 -- With its least pages in memory, it stands for some configuration of each program.
-pub reduced_zeroed : (code : Executable) (s : State) (most : ℕ) → IsMachine code s most
-    → (functions : List FunctionType) (program : Program)
+pub reduced_zeroed : {code : Executable} {s : State} {most : ℕ} → IsMachine code s most
+    → {functions : List FunctionType} {program : Program}
     → IsProgramIn code.«module» most functions program
     → IsReducedIn code (with_memory_of s (zeroed (least_of code.«module») most)) functions program
-reduced_zeroed code s most machine functions program is =
+reduced_zeroed {code} {most} machine {functions} {program} is =
     let memories = memories_of code.«module» in
     let below = most_below memories is.pages is.few in
     let limit = sym is.most ∙ is.is_program.most_pages in
@@ -53,15 +53,15 @@ reduced_zeroed code s most machine functions program is =
     } in
     machine.reduced (zeroed least most) functions program is_memory is
 
-pub stacked : (code : Executable) (s : State) (most : ℕ) → IsMachine code s most
+pub stacked : {code : Executable} {s : State} {most : ℕ} → IsMachine code s most
     → AreStacked s.frames s.slots
-stacked code s most machine =
-    let some = reduced_zeroed code s most machine machine.functions machine.program machine.is in
+stacked {code} {s} machine =
+    let some = reduced_zeroed machine machine.is in
     frames_stacked (module_context code.«module» machine.functions) machine.program s.frames
     s.slots some.configuration.thread some.stands.stands.frames
 
-pub valid_module : (code : Executable) (s : State) (most : ℕ) → IsMachine code s most
+pub valid_module : {code : Executable} {s : State} {most : ℕ} → IsMachine code s most
     → IsValid code.«module»
-valid_module code s most machine =
-    let some = reduced_zeroed code s most machine machine.functions machine.program machine.is in
+valid_module machine =
+    let some = reduced_zeroed machine machine.is in
     some.stands.is_code.valid

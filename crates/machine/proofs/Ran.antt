@@ -23,11 +23,11 @@ use Rattle.machine.proofs.Reduced.{ended_reduced, asking_reduced, trapping_reduc
 use Rattle.machine.proofs.Inside.{memory_in, holds_reduced, reduced_with, shown, stood_for}
 
 -- what the code's counted step asks for, the machine's does
-pub asks_for : (code : Executable) (s : State) (functions : List FunctionType) (program : Program)
-    (e : Configuration) (call : Call) (arguments : List ℕ) → StateStandsFor code s
-    functions program e → CodeAsksFor code program e call arguments
+pub asks_for : {code : Executable} {s : State} {functions : List FunctionType} {program : Program}
+    {e : Configuration} (call : Call) (arguments : List ℕ) → StateStandsFor code s functions program
+    e → CodeAsksFor code program e call arguments
     → AsksFor code.«module» program e call arguments
-asks_for code s functions program e call arguments stands h = record {
+asks_for {code} call arguments stands h = record {
   function = h.function;
   operands = h.operands;
   waits = h.waits;
@@ -60,7 +60,7 @@ module _ (code : Executable) (new : State) (most : ℕ) (functions : List Functi
   pause_reduces fuel fuel_left pause.Returned h = record {
     configuration = h.0.configuration;
     stands = h.0.stands;
-    reduced = ended_reduced program h.0.configuration h.1;
+    reduced = ended_reduced program h.1;
   }
   pause_reduces fuel fuel_left (pause.Trapped why) h = record {
     configuration = stopped h.configuration;
@@ -70,31 +70,30 @@ module _ (code : Executable) (new : State) (most : ℕ) (functions : List Functi
 
   module _ (is : IsProgramIn code.«module» most functions program)
       (before : IsReduced program d) where
-    arrives : (fuel fuel_left : ℕ) (come : ComesToState code new functions program d fuel fuel_left)
+    arrives : {fuel fuel_left : ℕ} (come : ComesToState code new functions program d fuel fuel_left)
         → IsReduced program come.configuration → Arrives (seen code new most) program d
         fuel fuel_left
-    arrives fuel fuel_left come e = record {
+    arrives come e = record {
       configuration = come.configuration;
       steps = come.steps;
       used = come.used;
       ran = walks_are_steps program come.steps d come.configuration come.walks before e;
-      shows = shown code new functions program come.configuration come.stands most is e;
+      shows = shown come.stands is e;
     }
 
     pub runs_for : (fuel fuel_left : ℕ) (why : Pause)
         → PausesFor code new functions program d fuel fuel_left why
         → RunsFor (seen code new most) program d fuel fuel_left why
     unfolding arrives
-    runs_for fuel fuel_left pause.Spent h = (arrives fuel fuel_left h.0 h.1, h.2, h.3)
+    runs_for fuel fuel_left pause.Spent h = (arrives h.0 h.1, h.2, h.3)
     runs_for fuel fuel_left (pause.Host asked) h =
         let e = h.0.configuration in (
-          arrives fuel fuel_left h.0
-              (asking_reduced program e h.1.function h.1.operands h.1.waits h.1.asks),
-          asks_for code new functions program e asked.call asked.arguments h.0.stands h.1,
+          arrives h.0 (asking_reduced program e h.1.function h.1.operands h.1.waits h.1.asks),
+          asks_for asked.call asked.arguments h.0.stands h.1,
           h.2,
         )
     runs_for fuel fuel_left pause.Returned h =
-        (arrives fuel fuel_left h.0 (ended_reduced program h.0.configuration h.1), h.1)
+        (arrives h.0 (ended_reduced program h.1), h.1)
     runs_for fuel fuel_left (pause.Trapped why) h = record {
       configuration = h.configuration;
       steps = h.steps;
@@ -102,14 +101,14 @@ module _ (code : Executable) (new : State) (most : ℕ) (functions : List Functi
       ran = walks_are_steps program h.steps d h.configuration h.walks before
           (trapping_reduced program h.configuration why h.traps);
       traps = h.traps;
-      shows = shown code new functions program (stopped h.configuration) h.stands most is refl;
+      shows = shown h.stands is refl;
     }
 
 -- ---- the whole
 
-module _ (code : Executable) (old new : State) (most : ℕ) (machine : IsMachine code old most)
-    (holds : HoldsMemory (seen code old most)) (shape : IsWithinLimit old.memory)
-    (bytes : AllByRecursion IsByte old.memory.bytes) where
+module _ {code : Executable} {old : State} (new : State) {most : ℕ}
+    (machine : IsMachine code old most) (holds : HoldsMemory (seen code old most))
+    (shape : IsWithinLimit old.memory) (bytes : AllByRecursion IsByte old.memory.bytes) where
   old_memory : IsMemoryFor (least_of code.«module») most old.memory
   old_memory = record {
     limit = holds.limit;
@@ -118,13 +117,13 @@ module _ (code : Executable) (old new : State) (most : ℕ) (machine : IsMachine
     bytes = bytes;
   }
 
-  reduced_old : (functions : List FunctionType) (program : Program)
+  reduced_old : {functions : List FunctionType} {program : Program}
       → IsProgramIn code.«module» most functions program → IsReducedIn code old functions program
-  reduced_old functions program is = machine.reduced old.memory functions program old_memory is
+  reduced_old {functions} {program} is = machine.reduced old.memory functions program old_memory is
 
   pub stands_for_some : StandsForSome code old
   stands_for_some =
-      let some = reduced_old machine.functions machine.program machine.is in
+      let some = reduced_old machine.is in
       record {
         functions = machine.functions;
         program = machine.program;
@@ -141,26 +140,25 @@ module _ (code : Executable) (old new : State) (most : ℕ) (machine : IsMachine
     own = machine.own;
     fits = machine.fits;
     reduced = λ memory functions program h is.
-        let some = reduced_old functions program is in
+        let some = reduced_old is in
         let after = pause_reduces code new most functions program some.configuration fuel
         paused.fuel_left paused.why (pauses functions program some.configuration some.stands) in
-        reduced_with code new functions program after.configuration after.stands memory
-        after.reduced (memory_in code.«module» most functions program is memory h);
+        reduced_with after.stands after.reduced
+        (memory_in code.«module» most functions program is h);
   }
 
   pub holds_again : (fuel : ℕ) (paused : Paused) → Pauses code old fuel paused new
       → HoldsMemory (seen code new most)
   holds_again fuel paused pauses =
-      let some = reduced_old machine.functions machine.program machine.is in
+      let some = reduced_old machine.is in
       let after = pause_reduces code new most machine.functions machine.program some.configuration
       fuel paused.fuel_left paused.why
       (pauses machine.functions machine.program some.configuration some.stands) in
-      holds_reduced code new machine.functions machine.program after.configuration after.stands
-      most machine.is
+      holds_reduced after.stands machine.is
 
   pub runs : (fuel : ℕ) (paused : Paused) → Pauses code old fuel paused new
       → RunsOnFuel (seen code old most) fuel paused (seen code new most)
   runs fuel paused pauses program d shows =
-      let stands = stood_for code old most machine shape bytes program d shows in
+      let stands = stood_for machine shape bytes shows in
       runs_for code new most shows.functions program d shows.is shows.shows.reduced fuel
       paused.fuel_left paused.why (pauses shows.functions program d stands)

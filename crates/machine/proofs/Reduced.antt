@@ -26,35 +26,35 @@ another_store program (FrameOf f ls labels vs rest ∷ frames) later old new e =
     nothing_made (exited rest f ls labels vs frames) _ _ e
 
 -- what is ended is reduced
-pub ended_reduced : (program : Program) (d : Configuration) → IsEnded d → IsReduced program d
-ended_reduced program d h = rw (h.returned, h.nothing_later) refl
+pub ended_reduced : (program : Program) {d : Configuration} → IsEnded d → IsReduced program d
+ended_reduced program h = rw (h.returned, h.nothing_later) refl
 
 -- what has a counted step is reduced
-frame_reduced : (program : Program) (c : Configuration) (o : Outcome) (f : ℕ) (ls : List Value)
+frame_reduced : (program : Program) (c : Configuration) {o : Outcome} (f : ℕ) (ls : List Value)
     (labels : List Label) (vs : List Value) (rest : Sequence) (frames : Thread) (later : List ℕ)
     (store : Store) → counted_step_of program c (FrameOf f ls labels vs rest ∷ frames) ≡ o
     → (o ≡ Stuck → ⊥) → exited_by program (FrameOf f ls labels vs rest ∷ frames) later store ≡ None
-frame_reduced program c o f ls labels vs Stop frames later store e known = absurd (known (sym e))
-frame_reduced program c o f ls labels vs (Plain i rest) frames later store e known = refl
-frame_reduced program c o f ls labels vs (InBlock t body rest) frames later store e known = refl
-frame_reduced program c o f ls labels vs (InLoop t body rest) frames later store e known = refl
-frame_reduced program c o f ls labels vs (InIf t first rest) frames later store e known = refl
-frame_reduced program c o f ls labels vs (InIfElse t first second rest) frames later store e known =
+frame_reduced program c f ls labels vs Stop frames later store e known = absurd (known (sym e))
+frame_reduced program c f ls labels vs (Plain i rest) frames later store e known = refl
+frame_reduced program c f ls labels vs (InBlock t body rest) frames later store e known = refl
+frame_reduced program c f ls labels vs (InLoop t body rest) frames later store e known = refl
+frame_reduced program c f ls labels vs (InIf t first rest) frames later store e known = refl
+frame_reduced program c f ls labels vs (InIfElse t first second rest) frames later store e known =
     refl
 
-thread_reduced : (program : Program) (c : Configuration) (o : Outcome) (thread : Thread)
+thread_reduced : (program : Program) (c : Configuration) {o : Outcome} (thread : Thread)
     (later : List ℕ) (store : Store) → counted_step_of program c thread ≡ o → (o ≡ Stuck → ⊥)
     → exited_by program thread later store ≡ None
-thread_reduced program c o [] later store e known = absurd (known (sym e))
-thread_reduced program c o (FrameOf f ls labels vs rest ∷ frames) later store e known =
-    frame_reduced program c o f ls labels vs rest frames later store e known
+thread_reduced program c [] later store e known = absurd (known (sym e))
+thread_reduced program c (FrameOf f ls labels vs rest ∷ frames) later store e known =
+    frame_reduced program c f ls labels vs rest frames later store e known
 
 pub asking_reduced : (program : Program) (d : Configuration) (f : ℕ) (arguments : List Value)
     (waits : Thread) → counted_step program d ≡ Asks f arguments waits → IsReduced program d
 asking_reduced program d f arguments waits e =
-    thread_reduced program d (Asks f arguments waits) d.thread d.later d.store e (λ k. absurd (cc))
+    thread_reduced program d d.thread d.later d.store e (λ k. absurd (cc))
 
 pub trapping_reduced : (program : Program) (d : Configuration) (why : Trap)
     → counted_step program d ≡ Traps why → IsReduced program d
 trapping_reduced program d why e =
-    thread_reduced program d (Traps why) d.thread d.later d.store e (λ k. absurd (cc))
+    thread_reduced program d d.thread d.later d.store e (λ k. absurd (cc))

@@ -24,17 +24,17 @@ one : BytesSpellAtMostOneModule
 one bytes m n is_m is_n =
     some_is m n (sym (module_complete bytes m is_m) ∙ module_complete bytes n is_n)
 
-module _ (bytes : List ℕ) where
-  pub not_valid : (m : Module) → IsModule bytes m → (e : ValidFault) → DeniesValid e (IsValid m)
+module _ {bytes : List ℕ} where
+  pub not_valid : {m : Module} → IsModule bytes m → (e : ValidFault) → DeniesValid e (IsValid m)
       → ModuleFaultDenies (Valid e) (HasNoValidModule bytes)
-  not_valid m spelled valid.Memory h = tt
-  not_valid m spelled valid.Typing h =
+  not_valid spelled valid.Memory h = tt
+  not_valid {m} spelled valid.Typing h =
       λ n a. h (subst IsValid (one bytes n m a.spelled spelled) a.valid)
-  not_valid m spelled valid.Index h =
+  not_valid {m} spelled valid.Index h =
       λ n a. h (subst IsValid (one bytes n m a.spelled spelled) a.valid)
-  not_valid m spelled valid.Limits h =
+  not_valid {m} spelled valid.Limits h =
       λ n a. h (subst IsValid (one bytes n m a.spelled spelled) a.valid)
-  not_valid m spelled valid.DuplicateExport h =
+  not_valid {m} spelled valid.DuplicateExport h =
       λ n a. h (subst IsValid (one bytes n m a.spelled spelled) a.valid)
 
 module _ (pages : ℕ) (bytes : List ℕ) where

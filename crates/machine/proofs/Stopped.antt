@@ -17,7 +17,7 @@ use Rattle.machine.specs.rules.Values.{IsProgramIn, HoldsMemory, least_of}
 use Rattle.machine.specs.rules.Runs.{Stops}
 use Rattle.machine.specs.Insides.{seen, IsMemoryFor, IsReducedIn, IsMachine, with_memory_of}
 
-module _ (code : Executable) (old new : State) (most : ℕ) (cleared : IsCleared old new) where
+module _ (code : Executable) {old new : State} (most : ℕ) (cleared : IsCleared old new) where
   reduced_with : IsMachine code old most
       → (memory : LinearMemory) (functions : List FunctionType) (program : Program)
       → IsMemoryFor (least_of code.«module») most memory
@@ -36,9 +36,7 @@ module _ (code : Executable) (old new : State) (most : ℕ) (cleared : IsCleared
       let k = some.stands.stands in
       record {
         configuration = stopped some.configuration;
-        stands = cleared_stands code functions program (with_memory_of old memory)
-            (with_memory_of new memory) some.configuration some.stands.is_code k.typed k.shown
-            k.same_table there;
+        stands = cleared_stands some.stands.is_code k.typed k.shown k.same_table there;
         reduced = refl;
       }
 

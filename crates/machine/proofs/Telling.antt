@@ -25,19 +25,19 @@ use Rattle.machine.proofs.Ran.{asks_for}
 
 -- ---- what waits
 
-module _ (code : Executable) (s : State) (functions : List FunctionType) (program : Program)
-    (d : Configuration) (stands : StateStandsFor code s functions program d) where
+module _ {code : Executable} {s : State} {functions : List FunctionType} {program : Program}
+    {d : Configuration} (stands : StateStandsFor code s functions program d) where
   told_of : (told : Option HostCall) → CodeTellsCall code program d told
       → TellsCall code.«module» program d told
   told_of None h = h
-  told_of (Some x) h = asks_for code s functions program d x.call x.arguments stands h
+  told_of (Some x) h = asks_for x.call x.arguments stands h
 
-pub tells : (code : Executable) (s : State) (most : ℕ) → IsMachine code s most
+pub tells : {code : Executable} {s : State} {most : ℕ} → IsMachine code s most
     → IsWithinLimit s.memory → AllByRecursion IsByte s.memory.bytes → (told : Option HostCall)
     → TellsOfState code s told → TellsWaiting (seen code s most) told
-tells code s most machine shape bytes told h = λ program d shows.
-    let stands = stood_for code s most machine shape bytes program d shows in
-    told_of code s shows.functions program d stands told (h shows.functions program d stands)
+tells machine shape bytes told h = λ program d shows.
+    let stands = stood_for machine shape bytes shows in
+    told_of stands told (h shows.functions program d stands)
 
 -- ---- whether the program has ended
 

@@ -9,9 +9,9 @@ use Rattle.machine.specs.laws.Laws.{with_memory_bytes, ShowsWhatIsWritten, Waits
 use Rattle.machine.proofs.AskingAgain.{asks_again}
 use Rattle.machine.proofs.Reduced.{another_store}
 
-as_many_bytes : (program : Program) (old new : List ℕ) → length new ≡ length old
+as_many_bytes : {program : Program} {old : List ℕ} (new : List ℕ) → length new ≡ length old
     → AllByRecursion IsByte new → IsTypedMemory program old → IsTypedMemory program new
-as_many_bytes program old new e bytes h = record {
+as_many_bytes new e bytes h = record {
   pages = h.pages;
   whole = e ∙ h.whole;
   least = h.least;
@@ -32,8 +32,8 @@ shows_what_is_written v memory program d count bytes limit h =
       shows = record {
         typed = record {
           store = record {
-            memory = as_many_bytes program d.store.memory memory.bytes (count
-                ∙ ap length s.memory) bytes s.typed.store.memory;
+            memory = as_many_bytes memory.bytes (count ∙ ap length s.memory) bytes
+                s.typed.store.memory;
             globals = s.typed.store.globals;
             table = s.typed.store.table;
           };

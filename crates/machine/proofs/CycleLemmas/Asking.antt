@@ -134,18 +134,18 @@ module _ (f : ℕ) (arguments : List Value) (waits : Thread) where
       ∷ frames) h)
 
   -- through the table it has the type that is asked for
-  module _ (program : Program) (signature : FunctionType) (d : Configuration) (caller : List Value
-      → Frame) (vs : List Value) (frames : Thread) where
+  module _ (program : Program) (signature : FunctionType) (d : Configuration)
+      (caller : List Value → Frame) (vs : List Value) (frames : Thread) where
     abbrev pub EntryGiven : Type 0
     EntryGiven = (slice_get program.functions f ≡ Some (Imported signature))
         × (topmost (length (takes_of signature)) vs ≡ Some arguments)
 
-    same_given : (g : ℕ) (callee : Callee) → slice_get program.functions g ≡ Some callee
+    same_given : (g : ℕ) {callee : Callee} → slice_get program.functions g ≡ Some callee
         → (b : Bool) → is_same_function_type signature (signature_of callee) ≡ b
         → Asking (if b then called g callee d caller vs frames
         else Traps trap.IndirectCallTypeMismatch) → EntryGiven
-    same_given g callee at false same h = absurd (cc)
-    same_given g callee at true same h =
+    same_given g at false same h = absurd (cc)
+    same_given g {callee} at true same h =
         let given = called_given g callee d caller vs frames h in
         let is = given.1 in
         let number = given.2 in
@@ -162,7 +162,7 @@ module _ (f : ℕ) (arguments : List Value) (waits : Thread) where
         → EntryGiven
     callee_given g None at h = absurd (cc)
     callee_given g (Some callee) at h =
-        same_given g callee at (is_same_function_type signature (signature_of callee)) refl h
+        same_given g at (is_same_function_type signature (signature_of callee)) refl h
 
     pub entry_given : (entry : Option (Option ℕ))
         → Asking (calls_entry program entry signature d caller vs frames) → EntryGiven

@@ -14,8 +14,7 @@ use Rattle.wasm_rules.specs.Types.{number_in, takes_of}
 use Rattle.wasm_rules.specs.Typing.{Context}
 use Rattle.wasm_rules.specs.Shapes.{LabelShape}
 use Rattle.wasm_rules.specs.Validity.{module_context}
-use Rattle.wasm_rules.specs.Configuration.{Imported, Program, Label, Thread, Configuration, Asks}
-use Rattle.wasm_rules.specs.Configuration.{FrameOf}
+use Rattle.wasm_rules.specs.Configuration.{Program, Label, Thread, Configuration, Asks, FrameOf}
 use Rattle.wasm_rules.specs.Steps.{topmost, signature_of, counted_step_of}
 use Rattle.machine_jumps.specs.Jumps.{HasShape}
 use Rattle.machine_jumps.specs.Moves.{HasOpcode, IsFirst, IsTypedBody}
@@ -25,7 +24,7 @@ use Rattle.machine_frame.specs.rules.Threads.{AreFrames, context_of}
 use Rattle.machine_frame.specs.laws.Threads.{Top, HasTaken}
 use Rattle.machine_frame.proofs.Threads.Entering.{IsCalling, taken, under}
 use Rattle.machine_frame.proofs.Threads.Calling.{direct, indirect}
-use Rattle.machine.specs.Routines.Routines.{opcodes_in, tables_in}
+use Rattle.machine.specs.Routines.Routines.{opcodes_in}
 use Rattle.machine_frame.proofs.FrameLemmas.Effects.{has_room}
 use Rattle.machine.specs.declared.execution.code.Executable.{Executable}
 use Rattle.machine.specs.declared.execution.state.State.{State}
@@ -48,29 +47,32 @@ running_of c program d f arguments waits [] words (frame ∷ thread) h e = absur
 running_of c program d f arguments waits (frame ∷ frames) words thread h e = (frame, frames, refl)
 
 -- the opcode at a position is the instruction that remains there
-first_is : (rest after : Sequence) (i j : Instruction) → IsFirst rest i → rest ≡ Plain j after
+first_is : {rest : Sequence} (after : Sequence) (i j : Instruction) → IsFirst rest i → rest ≡ Plain
+    j after
     → i ≡ j
-first_is rest after i j h r = let first : IsFirst (Plain j after) i = subst (λ z. IsFirst z i) r h
-    in first.0
+first_is after i j h r = let first : IsFirst (Plain j after) i = subst (λ z. IsFirst z i) r h in
+    first.0
 
 opcode_remains : (c : Context) (body : Sequence) (p : ℕ) (shapes : List LabelShape)
-    (types : List ValueType) (rest after : Sequence) (i : Instruction) → IsTypedBody c body
+    (types : List ValueType) {rest : Sequence} (after : Sequence) (i : Instruction) → IsTypedBody c
+    body
     → HasShape c body p shapes types rest → rest ≡ Plain i after → HasOpcode body p i
-opcode_remains c body p [] types rest after i typed reached r =
+opcode_remains c body p [] types {rest} after i typed reached r =
     let h = no_opcode_behind c body p types rest typed reached in let none = h.1 in absurd (cc)
-opcode_remains c body p (label ∷ shapes) types rest after i typed reached r =
+opcode_remains c body p (label ∷ shapes) types {rest} after i typed reached r =
     let h = opcodes_first c body p label shapes types rest typed reached in
-    h.1 ∙ ap Some (first_is rest after h.0 i h.2 r)
+    h.1 ∙ ap Some (first_is after h.0 i h.2 r)
 
 -- as many arguments as parameters, which are on top
-given_count : (c : Context) (program : Program) (frame : StackFrame) (frames : List StackFrame)
-    (thread : Thread) (signature : FunctionType) (words : List ℕ) (ls : List Value)
-    (labels : List Label) (vs arguments : List Value) (rest : Sequence)
+given_count : {c : Context} {program : Program} {frame : StackFrame} {frames : List StackFrame}
+    {thread : Thread} {signature : FunctionType} {words : List ℕ} {ls : List Value}
+    {labels : List Label} {vs arguments : List Value} {rest : Sequence}
     → IsCalling c program frame frames thread signature words ls labels vs rest
     → topmost (length (takes_of signature)) vs ≡ Some arguments
     → (length signature.parameters ≡ length arguments) × (length signature.parameters
     ≤ length words)
-given_count c program frame frames thread signature words ls labels vs arguments rest calling top =
+given_count {c} {program} {frame} {frames} {thread} {signature} {words} {ls} {labels} {vs}
+    {arguments} {rest} calling top =
     let t = taken c program frame frames thread signature words ls labels vs rest calling in
     let u = under c program frame frames thread signature words ls labels vs rest calling in
     let both : Some t.arguments ≡ Some arguments = sym t.top ∙ top in
@@ -97,7 +99,7 @@ module _ (code : Executable) (s : State) (functions : List FunctionType) (progra
 
   module _ (frame : StackFrame) (frames : List StackFrame) (e : s.frames ≡ frame ∷ frames) where
     abbrev top : Top c program (parts_of_state s) d frame frames
-    top = top_of code s functions program d h.stands frame frames e
+    top = top_of h.stands frame frames e
 
     abbrev here : Instruction → Type 0
     here i = slice_get (opcodes_in code.«module» frame.function) frame.position ≡ Some i
@@ -107,24 +109,24 @@ module _ (code : Executable) (s : State) (functions : List FunctionType) (progra
     call_here =
         let runs = top.runs in
         let at = runs.is_there in
-        let routine = (ready code s functions program d h.stands).routines frame.function top.own in
+        let routine = (ready h.stands).routines frame.function top.own in
         let asks : counted_step_of program d (FrameOf frame.function runs.ls runs.labels
         runs.vs runs.rest ∷ top.thread) ≡ Asks f arguments waits = sym
         (ap (λ t. counted_step_of program d t) runs.thread) ∙ h.asks in
         let call = only_calls f arguments waits program d frame.function runs.ls runs.labels runs.vs
         runs.rest top.thread asks in
         let there = opcode_remains (context_of c top.own) top.own.body frame.position at.shapes
-        at.types runs.rest call.1 call.0 routine.typed at.reached call.2 in
+        at.types call.1 call.0 routine.typed at.reached call.2 in
         (call.0, ap (λ xs. slice_get xs frame.position) routine.spelled ∙ there, call.3)
 
     -- there is room above the words, and an opcode behind
     pub room : length s.slots < 69632
     room =
-        let own = own_of code s functions program d h.stands frame frames e in
-        let stands = frame_is_at code s functions program d h.stands frame frames e in
-        has_room _ own.function.code.body own.routine.table frame.base (frame.base
-        + own.routine.locals) frame.position s.slots s.globals.items s.memory d stands
-        call_here.0 (ap (λ xs. slice_get xs frame.position) (sym own.opcodes) ∙ call_here.1)
+        let own = own_of h.stands frame frames e in
+        let stands = frame_is_at h.stands frame frames e in
+        has_room _ own.function.code.body own.routine.table frame.base
+        (frame.base + own.routine.locals) frame.position s.slots s.globals.items s.memory d stands
+        (ap (λ xs. slice_get xs frame.position) (sym own.opcodes) ∙ call_here.1)
 
     pub position_within : frame.position < length (opcodes_in code.«module» frame.function)
     position_within =
@@ -133,7 +135,7 @@ module _ (code : Executable) (s : State) (functions : List FunctionType) (progra
 
     pub position_few : frame.position < 4096
     position_few =
-        let routine = (ready code s functions program d h.stands).routines frame.function top.own in
+        let routine = (ready h.stands).routines frame.function top.own in
         let few = routine.few in let within = position_within in omega (arith, few, within)
 
     -- what a direct call takes
@@ -145,23 +147,18 @@ module _ (code : Executable) (s : State) (functions : List FunctionType) (progra
 
     pub direct_takes : (g : ℕ) → here (instr.Call g) → DirectTakes g
     direct_takes g at =
-        let there = direct c program (opcodes_in code.«module»)
-        (tables_in code.«module» code.routines.items) (parts_of_state s) d frame frames
-        (ready code s functions program d h.stands) top g at in
+        let there = direct (ready h.stands) top at in
         let given = called_given f arguments waits g there.callee d (λ others.
         FrameOf frame.function top.runs.ls top.runs.labels others there.after) top.runs.vs
         top.thread (sym there.calls ∙ h.asks) in
         let signatures : signature_of there.callee ≡ given.0 = ap signature_of given.1 in
         let counts =
-        given_count c program frame frames top.thread given.0 s.slots top.runs.ls
-        top.runs.labels top.runs.vs arguments there.after
-        (subst (λ k.
+        given_count (subst (λ k.
         IsCalling c program frame frames top.thread k s.slots top.runs.ls top.runs.labels
         top.runs.vs there.after) signatures there.calling) given.3 in
         record {
           signature = given.0;
-          has_signature = signature_there code functions program h.stands.is_code g
-              (Imported given.0) (there.there ∙ ap Some given.1);
+          has_signature = signature_there h.stands.is_code g (there.there ∙ ap Some given.1);
           count = counts.0;
           enough = counts.1;
         }
@@ -175,15 +172,12 @@ module _ (code : Executable) (s : State) (functions : List FunctionType) (progra
 
     pub indirect_takes : (t : ℕ) → here (instr.CallIndirect t) → IndirectTakes t
     indirect_takes t at =
-        let there = indirect c program (opcodes_in code.«module»)
-        (tables_in code.«module» code.routines.items) (parts_of_state s) d frame frames
-        (ready code s functions program d h.stands) top t at in
+        let there = indirect (ready h.stands) top at in
         let given = entry_given f arguments waits program there.signature d (λ others.
         FrameOf frame.function top.runs.ls top.runs.labels others there.after) there.vs
         top.thread (slice_get d.store.table there.index) (sym there.calls ∙ h.asks) in
         let counts =
-        given_count c program frame frames top.thread there.signature there.words top.runs.ls
-        top.runs.labels there.vs arguments there.after there.calling given.1 in
+        given_count there.calling given.1 in
         let words = ap length there.words_are in
         let enough = counts.1 in
         record {
@@ -194,8 +188,8 @@ module _ (code : Executable) (s : State) (functions : List FunctionType) (progra
           enough = omega (arith, words, enough);
         }
 
-pub room_of : (code : Executable) (s : State) → IsAsking code s → length s.slots < 69632
-room_of code s r =
+pub room_of : {code : Executable} {s : State} → IsAsking code s → length s.slots < 69632
+room_of {code} {s} r =
     let top = running code s r.functions r.program r.configuration r.function r.arguments r.waits
     r.at in
     room code s r.functions r.program r.configuration r.function r.arguments r.waits r.at top.0
@@ -205,9 +199,9 @@ room_of code s r =
 
 -- the index of a function's type
 pub signature_read : (code : Executable) (g : ℕ) (signature : FunctionType)
-    → HasSignature code g signature → (indices : List ℕ) → indices ≡ code.type_indices.items
+    → HasSignature code g signature → {indices : List ℕ} → indices ≡ code.type_indices.items
     → (g < length indices) × (slice_get code.«module».types (get_or indices g 0) ≡ Some signature)
-signature_read code g signature h indices e =
+signature_read code g signature h {indices} e =
     let at : slice_get indices g ≡ Some h.0 = ap (λ xs. slice_get xs g) e ∙ h.1 in
     let within = slice_get_within indices g h.0 at in
     let read = slice_get-get_or indices g 0 within in
@@ -220,8 +214,8 @@ not_other i h a b =
     ⊎_elim (λ (k : (g : ℕ) × (i ≡ instr.Call g)). a k.0 k.1)
     (λ (k : (t : ℕ) × (i ≡ instr.CallIndirect t)). b k.0 k.1) h
 
-module _ (code : Executable) (s : State) (frame : StackFrame) (first : slice_get s.frames 0
-    ≡ Some frame) where
+module _ (code : Executable) (s : State) {frame : StackFrame}
+    (first : slice_get s.frames 0 ≡ Some frame) where
   abbrev others : List StackFrame
   others = (first_of s.frames frame first).0
 
@@ -233,19 +227,18 @@ module _ (code : Executable) (s : State) (frame : StackFrame) (first : slice_get
     few_there = position_few code s r.functions r.program r.configuration r.function r.arguments
         r.waits r.at frame others frames_are
 
-    pub within_there : (opcodes : List Instruction)
+    pub within_there : {opcodes : List Instruction}
         → opcodes ≡ opcodes_in code.«module» frame.function → frame.position < length opcodes
-    within_there opcodes e =
+    within_there e =
         rw e (position_within code s r.functions r.program r.configuration r.function r.arguments
         r.waits r.at frame others frames_are)
 
-    module _ (opcodes : List Instruction) (opcodes_are : opcodes
-        ≡ opcodes_in code.«module» frame.function) (i : Instruction) (read : i
-        ≡ get_or opcodes frame.position i) where
+    module _ {opcodes : List Instruction}
+        (opcodes_are : opcodes ≡ opcodes_in code.«module» frame.function) {i : Instruction}
+        (read : i ≡ get_or opcodes frame.position i) where
       pub read_there : slice_get (opcodes_in code.«module» frame.function) frame.position ≡ Some i
       read_there =
-          read_at opcodes (opcodes_in code.«module» frame.function) frame.position i opcodes_are
-          (within_there opcodes opcodes_are) read
+          read_at frame.position opcodes_are (within_there opcodes_are) read
 
       pub no_other : ((g : ℕ) → i ≡ instr.Call g → ⊥) → ((t : ℕ) → i ≡ instr.CallIndirect t → ⊥) → ⊥
       no_other a b =
@@ -255,29 +248,30 @@ module _ (code : Executable) (s : State) (frame : StackFrame) (first : slice_get
           let same : call.0 ≡ i = cc in
           not_other i (subst IsCall same call.2) a b
 
-      pub direct_there : (g : ℕ) → i ≡ instr.Call g
+      pub direct_there : {g : ℕ} → i ≡ instr.Call g
           → DirectTakes code s r.functions r.program r.configuration r.function r.arguments r.waits
           r.at frame others frames_are g
-      direct_there g is =
+      direct_there {g} is =
           direct_takes code s r.functions r.program r.configuration r.function r.arguments r.waits
           r.at frame others frames_are g (read_there ∙ ap Some is)
 
-      pub indirect_there : (t : ℕ) → i ≡ instr.CallIndirect t
+      pub indirect_there : {t : ℕ} → i ≡ instr.CallIndirect t
           → IndirectTakes code s r.functions r.program r.configuration r.function r.arguments
           r.waits r.at frame others frames_are t
-      indirect_there t is =
+      indirect_there {t} is =
           indirect_takes code s r.functions r.program r.configuration r.function r.arguments r.waits
           r.at frame others frames_are t (read_there ∙ ap Some is)
 
   -- how many words are taken
-  has_taken : (o : Option Instruction) (i : Instruction) (n arguments : ℕ) → o ≡ Some i
+  has_taken : {o : Option Instruction} {i : Instruction} (n arguments : ℕ) → o ≡ Some i
       → HasTaken (Some i) n arguments → HasTaken o n arguments
-  has_taken o i n arguments e h = subst (λ z. HasTaken z n arguments) (sym e) h
+  has_taken n arguments e h = subst (λ z. HasTaken z n arguments) (sym e) h
 
-  pub takes_direct : (g n : ℕ) → slice_get (opcodes_in code.«module» frame.function) frame.position
-      ≡ Some (instr.Call g) → ((signature : FunctionType) → HasSignature code g signature
+  pub takes_direct : {g : ℕ} (n : ℕ) → slice_get (opcodes_in code.«module» frame.function)
+      frame.position ≡ Some (instr.Call g) →
+      ((signature : FunctionType) → HasSignature code g signature
       → n ≡ length signature.parameters) → TakesWords code s n
-  takes_direct g n at count = λ functions program d f arguments waits h.
+  takes_direct {g} n at count = λ functions program d f arguments waits h.
       let t = direct_takes code s functions program d f arguments waits h frame others frames_are g
       at in
       let is = count t.signature t.has_signature in
@@ -287,17 +281,16 @@ module _ (code : Executable) (s : State) (frame : StackFrame) (first : slice_get
           frame,
           others,
           frames_are,
-          has_taken (slice_get (opcodes_in code.«module» frame.function) frame.position)
-              (instr.Call g) n (length arguments) at (is ∙ t.count),
+          has_taken n (length arguments) at (is ∙ t.count),
         ),
       )
 
-  pub takes_indirect : (t n : ℕ)
+  pub takes_indirect : {t : ℕ} (n : ℕ)
       → slice_get (opcodes_in code.«module» frame.function) frame.position
       ≡ Some (instr.CallIndirect t)
       → ((signature : FunctionType) → slice_get code.«module».types t ≡ Some signature
       → n ≡ length signature.parameters + 1) → TakesWords code s n
-  takes_indirect t n at count = λ functions program d f arguments waits h.
+  takes_indirect {t} n at count = λ functions program d f arguments waits h.
       let k = indirect_takes code s functions program d f arguments waits h frame others frames_are
       t at in
       let is = count k.signature k.signature_is in
@@ -308,7 +301,6 @@ module _ (code : Executable) (s : State) (frame : StackFrame) (first : slice_get
           frame,
           others,
           frames_are,
-          has_taken (slice_get (opcodes_in code.«module» frame.function) frame.position)
-              (instr.CallIndirect t) n (length arguments) at (omega (arith, is, given)),
+          has_taken n (length arguments) at (omega (arith, is, given)),
         ),
       )

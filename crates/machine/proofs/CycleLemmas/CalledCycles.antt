@@ -33,8 +33,8 @@ use Rattle.machine.proofs.CycleLemmas.Codes.{HasOwn, has_own}
 use Rattle.machine.proofs.CycleLemmas.Advancing.{ready, cleared_stands}
 use Rattle.machine.proofs.CycleLemmas.Calling.{ImportAsks, import_asks, Own_enters, own_enters}
 
-module _ (code : Executable) (s : State) (functions : List FunctionType) (program : Program)
-    (d : Configuration) (stands : StateStandsFor code s functions program d) where
+module _ {code : Executable} {s : State} {functions : List FunctionType} {program : Program}
+    {d : Configuration} (stands : StateStandsFor code s functions program d) where
   -- nothing was done yet
   pub stays : (fuel : ℕ) → ComesToState code s functions program d fuel fuel
   stays fuel = record {
@@ -52,11 +52,11 @@ module _ (code : Executable) (s : State) (functions : List FunctionType) (progra
   returned fuel ended = (stays fuel, ended)
 
   -- a trap, one of the rules that the fuel is for
-  pub trapped : (why : Trap) (fuel : ℕ) (cycled : Cycle) (new : State) → 0 < fuel
+  pub trapped : (why : Trap) (fuel : ℕ) {cycled : Cycle} (new : State) → 0 < fuel
       → counted_step program d ≡ Traps why
       → cycled ≡ cycle.Waits (record { why = pause.Trapped why; fuel_left = fuel - 1 })
       → IsCleared s new → RunsCycleFor code new functions program d fuel cycled
-  trapped why fuel cycled new some traps is cleared =
+  trapped why fuel new some traps is cleared =
       let k = stands.stands in
       rw is (record {
         configuration = d;
@@ -64,46 +64,44 @@ module _ (code : Executable) (s : State) (functions : List FunctionType) (progra
         used = omega (arith, some);
         walks = here;
         traps = traps;
-        stands = cleared_stands code functions program s new d stands.is_code k.typed k.shown
-            k.same_table cleared;
+        stands = cleared_stands stands.is_code k.typed k.shown k.same_table cleared;
       })
 
   -- what the running frame's call leads to
-  direct : (f : ℕ) → StateIsAtOpcode code s (instr.Call f) → (callee : Callee)
-      × (slice_get program.functions f ≡ Some callee)
-      × CallLeads (module_context code.«module» functions) program code.table.items
-      (parts_of_state s) d s.slots f callee
-  direct f at =
+  direct : {f : ℕ} → StateIsAtOpcode code s (instr.Call f) → (callee : Callee) ×
+      (slice_get program.functions f ≡ Some callee) × CallLeads
+      (module_context code.«module» functions) program code.table.items (parts_of_state s) d s.slots
+      f callee
+  direct {f} at =
       calls_lead (module_context code.«module» functions) program (opcodes_in code.«module»)
-      (tables_in code.«module» code.routines.items) code.table.items
-      (parts_of_state s) d at.0 at.1 f (ready code s functions program d stands) stands.stands
-      (record { frames_are = at.2; here = at.3 })
+      (tables_in code.«module» code.routines.items) code.table.items (parts_of_state s) d at.0 at.1
+      f (ready stands) stands.stands (record { frames_are = at.2; here = at.3 })
 
-  pub direct_import : (f : ℕ) (call : Call) → StateIsAtOpcode code s (instr.Call f)
+  pub direct_import : {f : ℕ} {call : Call} → StateIsAtOpcode code s (instr.Call f)
       → slice_get code.calls.items f ≡ Some call
       → ImportAsks code functions program stands.is_code code.table.items
       (parts_of_state s) d s.slots f call
-  direct_import f call at there =
-      let l = direct f at in
-      import_asks code functions program stands.is_code code.table.items
-      (parts_of_state s) d s.slots f l.0 call l.1 l.2 there
+  direct_import {f} at there =
+      let l = direct at in
+      import_asks code functions program stands.is_code code.table.items (parts_of_state s) d
+      s.slots f l.0 l.1 l.2 there
 
-  pub direct_own : (f : ℕ) → StateIsAtOpcode code s (instr.Call f)
+  pub direct_own : {f : ℕ} → StateIsAtOpcode code s (instr.Call f)
       → slice_get code.calls.items f ≡ None
       → Own_enters code functions program stands.is_code code.table.items
       (parts_of_state s) d s.slots f
-  direct_own f at there =
-      let l = direct f at in
+  direct_own {f} at there =
+      let l = direct at in
       own_enters code functions program stands.is_code code.table.items
       (parts_of_state s) d s.slots f l.0 l.1 l.2 there
 
-  module _ (f : ℕ) (words : List ℕ) where
+  module _ {f : ℕ} {words : List ℕ} where
     -- the arguments are there
-    pub arguments_there : (call : Call) (above : ℕ) (over : List ℕ)
+    pub arguments_there : {call : Call} (above : ℕ) (over : List ℕ)
         → ImportAsks code functions program stands.is_code code.table.items
         (parts_of_state s) d words f call → s.slots ≡ over ++ words → above ≡ length over
         → length (parameters_of call) + above ≤ length s.slots
-    arguments_there call above over h slots count =
+    arguments_there above over h slots count =
         let n = h.count in
         rw slots (rw h.words_are (omega (
           arith,
@@ -114,14 +112,14 @@ module _ (code : Executable) (s : State) (functions : List FunctionType) (progra
         )))
 
     -- a call of the host
-    pub asked : (call : Call) (above fuel : ℕ) (over : List ℕ) (cycled : Cycle) → 0 < fuel
+    pub asked : {call : Call} (above fuel : ℕ) (over : List ℕ) (cycled : Cycle) → 0 < fuel
         → slice_get code.calls.items f ≡ Some call
         → ImportAsks code functions program stands.is_code code.table.items
         (parts_of_state s) d words f call → s.slots ≡ over ++ words → above ≡ length over
         → AsksWith s.slots call above fuel cycled → RunsCycleFor code s functions
         program d fuel cycled
     unfolding stays
-    asked call above fuel over cycled some there h slots count asks =
+    asked above fuel over cycled some there h slots count asks =
         rw (asks over (map number_in h.arguments) h.under (slots
         ∙ ap (λ z. over ++ z) h.words_are) count h.count) (
           stays fuel,
@@ -140,10 +138,10 @@ module _ (code : Executable) (s : State) (functions : List FunctionType) (progra
 
     -- a function of the module's own
     module _ (o : Own_enters code functions program stands.is_code code.table.items
-        (parts_of_state s) d words f) (routine : Routine) (there : slice_get code.routines.items (f
-        - length code.calls.items) ≡ Some routine) where
+        (parts_of_state s) d words f) {routine : Routine}
+        (there : slice_get code.routines.items (f - length code.calls.items) ≡ Some routine) where
       own : HasOwn code functions program stands.is_code f o.own
-      own = has_own code functions program stands.is_code f o.own
+      own = has_own code functions program stands.is_code o.own
 
       pub parameters_are : routine.parameters ≡ length o.own.signature.parameters
       parameters_are = let known = own.routine_there in let same : own.routine ≡ routine = (cc) in
@@ -159,7 +157,7 @@ module _ (code : Executable) (s : State) (functions : List FunctionType) (progra
       declared_are = let a = parameters_are in let b = locals_are in omega (arith, a, b)
 
       pub few_locals : routine.locals ≤ 512
-      few_locals = let few = (ready code s functions program d stands).few_locals f o.own in
+      few_locals = let few = (ready stands).few_locals f o.own in
           let b = locals_are in omega (arith, few, b)
 
       pub enough : routine.parameters ≤ length words
@@ -253,8 +251,7 @@ module _ (code : Executable) (s : State) (functions : List FunctionType) (progra
           ⊎ (HELD_VALUES < q + length words)) declared_are
           (subst (λ (z : State). (FRAMES ≤ length z.frames)
           ⊎ (HELD_VALUES < routine.locals - routine.parameters + length z.slots)) e h.1) in
-          trapped trap.StackExhausted fuel cycled new some (o.exhausts full) h.0
-          (record {
+          trapped trap.StackExhausted fuel new some (o.exhausts full) h.0 (record {
             frames = cleared.frames;
             slots = cleared.slots;
             later = cleared.later;

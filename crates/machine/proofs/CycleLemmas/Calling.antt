@@ -38,19 +38,19 @@ use Rattle.machine_frame.proofs.Threads.Words.{values_count}
 
 -- an offered function has the type of its call
 offered_signature : (o : Option Call) (types : List FunctionType) (item : ImportItem)
-    (others : List ℕ) (x : ℕ) (signature : FunctionType) → IsItemOffered
-    (option_map call_type_of o) types item → slice_get (with_function_index item others) 0 ≡ Some x
+    (others : List ℕ) {x : ℕ} {signature : FunctionType} → IsItemOffered (option_map call_type_of o)
+    types item → slice_get (with_function_index item others) 0 ≡ Some x
     → slice_get types x ≡ Some signature → (call : Call) × (o ≡ Some call)
     × (signature ≡ call_type_of call)
-offered_signature None types item others x signature h e k = absurd h
-offered_signature (Some call) types (import.Function y) others x signature h e k =
+offered_signature None types item others h e k = absurd h
+offered_signature (Some call) types (import.Function y) others {x} h e k =
     let same : y ≡ x = cc in
     let there : slice_get types x ≡ Some (call_type_of call) =
     subst (λ z. slice_get types z ≡ Some (call_type_of call)) same h in
     (call, refl, (cc))
-offered_signature (Some call) types (import.Table t) others x signature h e k = absurd h
-offered_signature (Some call) types (import.Memory t) others x signature h e k = absurd h
-offered_signature (Some call) types (import.Global t) others x signature h e k = absurd h
+offered_signature (Some call) types (import.Table t) others h e k = absurd h
+offered_signature (Some call) types (import.Memory t) others h e k = absurd h
+offered_signature (Some call) types (import.Global t) others h e k = absurd h
 
 next_function : (o : Option FunctionType) (types : List FunctionType) (item : ImportItem)
     (others : List ℕ) (f : ℕ) → IsItemOffered o types item
@@ -61,45 +61,42 @@ next_function (Some signature) types (import.Table t) others f h = absurd h
 next_function (Some signature) types (import.Memory t) others f h = absurd h
 next_function (Some signature) types (import.Global t) others f h = absurd h
 
-pub call_of_import : (types : List FunctionType) (imports : List Import) (f x : ℕ)
-    (signature : FunctionType) → AllByRecursion (IsOffered offer types) imports
+pub call_of_import : (types : List FunctionType) (imports : List Import) (f : ℕ) {x : ℕ}
+    {signature : FunctionType} → AllByRecursion (IsOffered offer types) imports
     → slice_get (imported_functions imports) f ≡ Some x → slice_get types x ≡ Some signature
     → (call : Call) × (slice_get (map imported_call imports) f ≡ Some (Some call))
     × (signature ≡ call_type_of call)
 unfolding offered_call offer
-call_of_import types [] f x signature h e k = absurd (cc)
-call_of_import types (i ∷ imports) zero x signature h e k =
+call_of_import types [] f h e k = absurd (cc)
+call_of_import types (i ∷ imports) zero h e k =
     let found = offered_signature (offered_call i.module_name i.name) types i.item
-    (imported_functions imports) x signature h.0 e k in
+    (imported_functions imports) h.0 e k in
     (found.0, ap Some found.1, found.2)
-call_of_import types (i ∷ imports) (suc f) x signature h e k =
-    call_of_import types imports f x signature h.1
-    (sym (next_function (offer i.module_name i.name) types i.item
+call_of_import types (i ∷ imports) (suc f) h e k =
+    call_of_import types imports f h.1 (sym (next_function (offer i.module_name i.name) types i.item
     (imported_functions imports) f h.0) ∙ e) k
 
-some_some : (calls : List Call) (f : ℕ) (call : Call)
+some_some : (calls : List Call) (f : ℕ) {call : Call}
     → slice_get (map Some calls) f ≡ Some (Some call) → slice_get calls f ≡ Some call
-some_some [] f call e = absurd (cc)
-some_some (c ∷ calls) zero call e = let h : Some c ≡ Some call = (cc) in h
-some_some (c ∷ calls) (suc f) call e = some_some calls f call e
+some_some [] f e = absurd (cc)
+some_some (c ∷ calls) zero {call} e = let h : Some c ≡ Some call = (cc) in h
+some_some (c ∷ calls) (suc f) e = some_some calls f e
 
 module _ (code : Executable) (functions : List FunctionType) (program : Program)
     (is : IsExecutable code functions program) where
-  numbered : (f : ℕ) (callee : Callee) → slice_get program.functions f ≡ Some callee
+  numbered : (f : ℕ) {callee : Callee} → slice_get program.functions f ≡ Some callee
       → IsNumberedCallee code.«module» f callee
-  numbered f callee e = functions_numbered is.pages code.«module» program f callee is.is_program e
+  numbered f {callee} e = functions_numbered is.pages code.«module» program f callee is.is_program e
 
   -- the call that one of the host's functions is
   pub call_of_import_at : (f : ℕ) (signature : FunctionType)
       → slice_get program.functions f ≡ Some (Imported signature)
       → (call : Call) × (slice_get code.calls.items f ≡ Some call) × (signature ≡ call_type_of call)
   call_of_import_at f signature e =
-      let n = numbered f (Imported signature) e in
-      let found = call_of_import code.«module».types code.«module».imports f n.1 signature
-      is.offered n.2 n.3 in (
+      let n = numbered f e in
+      let found = call_of_import code.«module».types code.«module».imports f is.offered n.2 n.3 in (
         found.0,
-        some_some code.calls.items f found.0 (ap (λ xs. slice_get xs f) (sym is.calls)
-            ∙ found.1),
+        some_some code.calls.items f (ap (λ xs. slice_get xs f) (sym is.calls) ∙ found.1),
         found.2,
       )
 
@@ -108,7 +105,7 @@ module _ (code : Executable) (functions : List FunctionType) (program : Program)
       (body : Sequence) → slice_get program.functions f ≡ Some (Own signature declared body)
       → slice_get code.calls.items f ≡ None
   own_is_behind f signature declared body e =
-      let n = numbered f (Own signature declared body) e in
+      let n = numbered f e in
       let count = calls_count code functions program is in
       let place = n.2 in
       slice_get_past code.calls.items f (omega (arith, count, place))
@@ -126,10 +123,10 @@ module _ (code : Executable) (functions : List FunctionType) (program : Program)
       pub count : length (parameters_of call) ≡ length (map number_in arguments)
       pub words_are : words ≡ map number_in arguments ++ under
 
-    pub import_asks : (callee : Callee) (call : Call) → slice_get program.functions f ≡ Some callee
+    pub import_asks : (callee : Callee) {call : Call} → slice_get program.functions f ≡ Some callee
         → CallLeads (module_context code.«module» functions) program table held d words f callee
         → slice_get code.calls.items f ≡ Some call → ImportAsks call
-    import_asks (Imported signature) call e leads there =
+    import_asks (Imported signature) {call} e leads there =
         let found = call_of_import_at f signature e in
         let known = found.1 in
         let same : found.0 ≡ call = cc in
@@ -151,7 +148,7 @@ module _ (code : Executable) (functions : List FunctionType) (program : Program)
           );
           words_are = leads.5;
         }
-    import_asks (Own signature declared body) call e leads there =
+    import_asks (Own signature declared body) e leads there =
         let none = own_is_behind f signature declared body e in absurd (cc)
 
     -- where it is the module's own, it is entered, or the stack is exhausted

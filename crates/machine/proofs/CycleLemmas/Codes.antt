@@ -24,15 +24,15 @@ use Rattle.machine.specs.declared.execution.code.Executable.{Executable}
 use Rattle.machine.specs.Execution.Codes.{IsExecutable, HasOwnFunction}
 
 -- what is read at a place is there, and where nothing is read there is nothing
-pub read_at : {X : Type 0} (xs ys : List X) (place : ℕ) (x : X) → xs ≡ ys → place < length xs
+pub read_at : {X : Type 0} {xs ys : List X} (place : ℕ) {x : X} → xs ≡ ys → place < length xs
     → x ≡ get_or xs place x → slice_get ys place ≡ Some x
-read_at xs ys place x e within is =
+read_at {xs} place {x} e within is =
     subst (λ z. slice_get z place ≡ Some x) e (slice_get-get_or xs place x within
     ∙ ap Some (sym is))
 
-pub none_at : {X : Type 0} (xs ys : List X) (place : ℕ) → xs ≡ ys → length xs ≤ place
+pub none_at : {X : Type 0} {xs ys : List X} (place : ℕ) → xs ≡ ys → length xs ≤ place
     → slice_get ys place ≡ None
-none_at xs ys place e past = subst (λ z. slice_get z place ≡ None) e (slice_get_past xs place past)
+none_at {xs} place e past = subst (λ z. slice_get z place ≡ None) e (slice_get_past xs place past)
 
 -- only functions are imported
 item_counts : (o : Option FunctionType) (types : List FunctionType) (item : ImportItem)
@@ -82,8 +82,8 @@ module _ (code : Executable) (functions : List FunctionType) (program : Program)
     pub counts : HasCounts own.signature own.declared routine
     pub code_fits : CodeFits routine.code function.code.body routine.table routine.locals
 
-  pub has_own : (f : ℕ) (own : IsOwn program f) → HasOwn f own
-  has_own f own =
+  pub has_own : {f : ℕ} (own : IsOwn program f) → HasOwn f own
+  has_own {f} own =
       let h = is.routines.own is.pages program is.is_program f own in
       let count = calls_count in
       let number = h.number in
@@ -105,10 +105,10 @@ module _ (code : Executable) (functions : List FunctionType) (program : Program)
 
 -- ---- looking it up
 
-module _ (code : Executable) (f : ℕ) (r : HasOwnFunction code f) (calls : List Call) (n : ℕ)
+module _ {code : Executable} {f : ℕ} (r : HasOwnFunction code f) {calls : List Call} (n : ℕ)
     (calls_are : calls ≡ code.calls.items) (count : n ≡ length calls) where
   abbrev own : HasOwn code r.functions r.program r.is_code f r.own
-  own = has_own code r.functions r.program r.is_code f r.own
+  own = has_own code r.functions r.program r.is_code r.own
 
   same_place : f - n ≡ f - length code.calls.items
   same_place = ap (λ z. f - z) (count ∙ ap length calls_are)
@@ -116,33 +116,33 @@ module _ (code : Executable) (f : ℕ) (r : HasOwnFunction code f) (calls : List
   pub not_imported_there : n ≤ f
   not_imported_there = rw (count ∙ ap length calls_are) own.not_imported
 
-  pub routine_within : (routines : List Routine) → routines ≡ code.routines.items
+  pub routine_within : {routines : List Routine} → routines ≡ code.routines.items
       → f - n < length routines
-  routine_within routines e =
+  routine_within e =
       rw (e, same_place) (slice_get_within code.routines.items (f
       - length code.calls.items) own.routine own.routine_there)
 
-  pub routine_read : (routines : List Routine) (routine : Routine) → routines ≡ code.routines.items
+  pub routine_read : {routines : List Routine} {routine : Routine} → routines ≡ code.routines.items
       → routine ≡ get_or routines (f - n) routine
       → slice_get code.routines.items (f - length code.calls.items) ≡ Some routine
-  routine_read routines routine e is =
-      let within = routine_within routines e in
+  routine_read {routines} {routine} e is =
+      let within = routine_within e in
       let there = slice_get-get_or routines (f - n) routine within ∙ ap Some (sym is) in
       subst (λ z. slice_get code.routines.items z
       ≡ Some routine) same_place (subst (λ z. slice_get z (f - n) ≡ Some routine) e there)
 
-  pub function_within : (own_functions : List Function) → own_functions ≡ code.«module».functions
+  pub function_within : {own_functions : List Function} → own_functions ≡ code.«module».functions
       → f - n < length own_functions
-  function_within own_functions e =
+  function_within e =
       rw (e, same_place) (slice_get_within code.«module».functions (f
       - length code.calls.items) own.function own.function_there)
 
-  pub opcodes_read : (own_functions : List Function) → own_functions ≡ code.«module».functions
-      → (function : Function) → function ≡ get_or own_functions (f - n) function
-      → (opcodes : List Instruction) → opcodes ≡ (get_or own_functions (f - n) function).code.body
+  pub opcodes_read : {own_functions : List Function} → own_functions ≡ code.«module».functions
+      → {function : Function} → function ≡ get_or own_functions (f - n) function
+      → {opcodes : List Instruction} → opcodes ≡ (get_or own_functions (f - n) function).code.body
       → opcodes ≡ opcodes_in code.«module» f
-  opcodes_read own_functions e function is opcodes body =
-      let within = function_within own_functions e in
+  opcodes_read {own_functions} e {function} is body =
+      let within = function_within e in
       let there = slice_get-get_or own_functions (f - n) function within in
       let here : slice_get code.«module».functions (f - length code.calls.items)
       ≡ Some (get_or own_functions (f - n) function) = subst (λ z.

@@ -79,8 +79,7 @@ module _ (code : Executable) (s : State) (functions : List FunctionType) (progra
   calls f others none later =
       let h = host_calls c program (opcodes_in code.«module»)
       (tables_in code.«module» code.routines.items) code.table.items (parts_of_state s) d f
-      (reverse others) (ready code s functions program d stands) stands.stands none
-      (turned_later f others later) in
+      (reverse others) (ready stands) stands.stands none (turned_later f others later) in
       record {
         own = h.0;
         no_parameters = h.1;
@@ -90,11 +89,11 @@ module _ (code : Executable) (s : State) (functions : List FunctionType) (progra
         entered = h.5;
       }
 
-  pub host_comes : (f : ℕ) (others : List ℕ) (h : Calls f others) (routine : Routine)
+  pub host_comes : {f : ℕ} {others : List ℕ} (h : Calls f others) {routine : Routine}
       → slice_get code.routines.items (f - length code.calls.items) ≡ Some routine
       → routine.locals ≡ length h.own.declared
-  host_comes f others h routine there =
-      let own = has_own code functions program stands.is_code f h.own in
+  host_comes h {routine} there =
+      let own = has_own code functions program stands.is_code h.own in
       let known = own.routine_there in
       let same : own.routine ≡ routine = (cc) in
       let count : routine.locals ≡ length h.own.signature.parameters + length h.own.declared =
@@ -103,11 +102,11 @@ module _ (code : Executable) (s : State) (functions : List FunctionType) (progra
       let none : length h.own.signature.parameters ≡ 0 = ap length h.no_parameters in
       omega (arith, count, none)
 
-  pub few_declared : (f : ℕ) (others : List ℕ) (h : Calls f others) → length h.own.declared ≤ 512
-  few_declared f others h = let few = (ready code s functions program d stands).few_locals f h.own
-      in omega (arith, few)
+  pub few_declared : {f : ℕ} {others : List ℕ} (h : Calls f others) → length h.own.declared ≤ 512
+  few_declared {f} h = let few = (ready stands).few_locals f h.own in
+      omega (arith, few)
 
-  pub called_next : (fuel f : ℕ) (others : List ℕ) (h : Calls f others) (n : ℕ) (new : State)
+  pub called_next : (fuel : ℕ) {f : ℕ} {others : List ℕ} (h : Calls f others) {n : ℕ} (new : State)
       → n ≡ length h.own.declared → new.frames ≡ record {
         function = f;
         position = 0;
@@ -115,7 +114,7 @@ module _ (code : Executable) (s : State) (functions : List FunctionType) (progra
       } ∷ s.frames → new.slots ≡ replicate n 0 ++ s.slots → new.globals ≡ s.globals
       → new.memory ≡ s.memory → new.later.items ≡ others → s.frames ≡ []
       → ComesToState code new functions program d fuel fuel
-  called_next fuel f others h n new count frames slots globals memory later none =
+  called_next fuel {f} {others} h {n} new count frames slots globals memory later none =
       let words : new.slots ≡ replicate (length h.own.declared) 0 =
       slots ∙ ap (λ z. replicate n 0 ++ z) h.no_words ∙ append-nil (replicate n 0)
       ∙ ap (λ z. replicate z 0) count in
@@ -178,9 +177,9 @@ module _ (code : Executable) (s : State) (functions : List FunctionType) (progra
 
 -- ---- the innermost frame is left
 
-shape_within : (c : Context) (body : Sequence) (p : ℕ) (s : Shape) → body_shape c body p ≡ Some s
+shape_within : (c : Context) (body : Sequence) (p : ℕ) {s : Shape} → body_shape c body p ≡ Some s
     → p ≤ length (spelled body) + 1
-shape_within c body p s e = first (nat_le p (length (spelled body))) refl
+shape_within c body p e = first (nat_le p (length (spelled body))) refl
   where
     second : (b : Bool) → (p == length (spelled body) + 1) ≡ b
         → nat_le p (length (spelled body)) ≡ false → p ≤ length (spelled body) + 1
@@ -235,13 +234,9 @@ module _ (code : Executable) (s : State) (functions : List FunctionType) (progra
       let own = h.0 in
       let waits = h.2 in
       let within =
-      shape_within (context_of (module_context code.«module» functions) own) own.body
-      frame.position (record {
-        labels = waits.shapes;
-        operands = waits.takes ++ waits.types;
-        rest = waits.call;
-      }) waits.reached in
-      let routine = (ready code s functions program d stands).routines f own in
+      shape_within (context_of (module_context code.«module» functions) own) own.body frame.position
+      waits.reached in
+      let routine = (ready stands).routines f own in
       let few : length (opcodes_of own.body) ≤ 4096 =
       subst (λ z. length z ≤ 4096) routine.spelled routine.few in
       let count : length (opcodes_of own.body) ≡ length (spelled own.body) + 1 =
@@ -252,7 +247,7 @@ module _ (code : Executable) (s : State) (functions : List FunctionType) (progra
       → (waiting : StackFrame) (others : List StackFrame) → frames ≡ waiting ∷ others
       → waiting.position + 1 < 2 ^ 64
   behind_small frame frames e waiting others is =
-      let top = top_of code s functions program d stands frame frames e in
+      let top = top_of stands frame frames e in
       position_small waiting others top.own.signature top.callers top.thread
       (subst (λ z. AreWaiting (module_context code.«module» functions) program top.own.signature z
       top.callers top.thread) is top.waiting)
@@ -274,9 +269,8 @@ module _ (code : Executable) (s : State) (functions : List FunctionType) (progra
       → Leaving frame frames (IsAdministrative program d)
   leaves_by_end frame frames e at =
       let h = bodies_end (module_context code.«module» functions) program (opcodes_in code.«module»)
-      (tables_in code.«module» code.routines.items) code.table.items
-      (parts_of_state s) d frame frames (ready code s functions program d stands) stands.stands
-      e at in
+      (tables_in code.«module» code.routines.items) code.table.items (parts_of_state s) d frame
+      frames (ready stands) stands.stands e at in
       record { own = h.0; one = h.1; room = h.2; goes = h.3 }
 
   pub leaves_by_return : (frame : StackFrame) (frames : List StackFrame) → s.frames ≡ frame ∷ frames
@@ -285,17 +279,16 @@ module _ (code : Executable) (s : State) (functions : List FunctionType) (progra
   leaves_by_return frame frames e at =
       let h = returns_lead (module_context code.«module» functions) program
       (opcodes_in code.«module») (tables_in code.«module» code.routines.items) code.table.items
-      (parts_of_state s) d frame frames (ready code s functions program d stands) stands.stands
+      (parts_of_state s) d frame frames (ready stands) stands.stands
       (record { frames_are = e; here = at }) in
       record { own = h.0; one = h.1; room = h.2; goes = h.3 }
 
-  module _ (frame : StackFrame) (frames : List StackFrame) (P : Configuration
-      → Type 0) (h : Leaving frame frames P) (routine : Routine)
-      (there : slice_get code.routines.items (frame.function - length code.calls.items)
-      ≡ Some routine) where
+  module _ {frame : StackFrame} {frames : List StackFrame} {P : Configuration → Type 0}
+      (h : Leaving frame frames P) {routine : Routine} (there : slice_get code.routines.items
+      (frame.function - length code.calls.items) ≡ Some routine) where
     results_are : routine.results ≡ length h.own.signature.results
     results_are =
-        let own = has_own code functions program stands.is_code frame.function h.own in
+        let own = has_own code functions program stands.is_code h.own in
         let known = own.routine_there in
         let same : own.routine ≡ routine = (cc) in
         subst (λ (z : Routine). z.results ≡ length h.own.signature.results) same own.counts.results
@@ -310,9 +303,9 @@ module _ (code : Executable) (s : State) (functions : List FunctionType) (progra
       behind = behind_small frame frames e;
     }
 
-    pub exited_stands : (new : State) → HasExited routine.results frame frames s new
+    pub exited_stands : {new : State} → HasExited routine.results frame frames s new
         → (e : Configuration) × P e × StateStandsFor code new functions program e
-    exited_stands new exited =
+    exited_stands {new} exited =
         let keeps : ℕ = results_left frames (length h.own.signature.results) in
         let room = h.room in
         let kept_few = few_results_left frames (length h.own.signature.results) in
@@ -342,43 +335,39 @@ module _ (code : Executable) (s : State) (functions : List FunctionType) (progra
 
   -- the innermost frame that is over
   pub over_leaves : (frame : StackFrame) (frames : List StackFrame) → s.frames ≡ frame ∷ frames
-      → IsBodyOver code s → (routine : Routine)
+      → IsBodyOver code s → {routine : Routine}
       → slice_get code.routines.items (frame.function - length code.calls.items) ≡ Some routine
       → CanLeave routine.results s
-  over_leaves frame frames e over routine there =
+  over_leaves frame frames e over there =
       let known = over.2 in
       let same : over.0 ≡ frame = cc in
       ⊎_elim
       (λ (at : over.0.position ≡ length (opcodes_in code.«module» over.0.function)).
-      can_leave frame frames (IsAdministrative program d)
-      (leaves_by_end frame frames e (subst (λ (z : StackFrame). z.position
-      ≡ length (opcodes_in code.«module» z.function)) same at)) routine there e)
-      (λ (at : slice_get (opcodes_in code.«module» over.0.function) over.0.position
-      ≡ Some instr.Return).
-      can_leave frame frames (IsCounted program d) (leaves_by_return frame frames e
-      (subst (λ (z : StackFrame). slice_get (opcodes_in code.«module» z.function) z.position
-      ≡ Some instr.Return) same at)) routine there e)
-      over.3
+      can_leave (leaves_by_end frame frames e (subst (λ (z : StackFrame). z.position ≡ length
+      (opcodes_in code.«module» z.function)) same at)) there e) (λ (at : slice_get
+      (opcodes_in code.«module» over.0.function) over.0.position ≡ Some instr.Return).
+      can_leave (leaves_by_return frame frames e (subst (λ (z : StackFrame). slice_get
+      (opcodes_in code.«module» z.function) z.position ≡ Some instr.Return) same at)) there
+      e) over.3
 
-  pub over_exited : (frame : StackFrame) (frames : List StackFrame) (routine : Routine)
+  pub over_exited : {frame : StackFrame} {frames : List StackFrame} {routine : Routine}
       → s.frames ≡ frame ∷ frames
       → slice_get code.routines.items (frame.function - length code.calls.items) ≡ Some routine
-      → (new : State) → HasExited routine.results frame frames s new
+      → {new : State} → HasExited routine.results frame frames s new
       → (IsAtPosition code s (λ p opcodes. p ≡ length opcodes) → (e : Configuration)
       × IsAdministrative program d e × StateStandsFor code new functions program e)
       × (StateIsAtOpcode code s instr.Return → (e : Configuration) × IsCounted program d e
       × StateStandsFor code new functions program e)
-  over_exited frame frames routine e there new exited = (
+  over_exited {frame} {frames} e there exited = (
     (λ over.
         let known = over.2 in
         let same : over.0 ≡ frame = cc in
-        exited_stands frame frames (IsAdministrative program d)
-        (leaves_by_end frame frames e (subst (λ (z : StackFrame). z.position
-        ≡ length (opcodes_in code.«module» z.function)) same over.3)) routine there new exited),
+        exited_stands (leaves_by_end frame frames e (subst (λ (z : StackFrame). z.position ≡ length
+        (opcodes_in code.«module» z.function)) same over.3)) there exited),
     (λ over.
         let known = over.2 in
         let same : over.0 ≡ frame = cc in
-        exited_stands frame frames (IsCounted program d) (leaves_by_return frame frames e
-        (subst (λ (z : StackFrame). slice_get (opcodes_in code.«module» z.function) z.position
-        ≡ Some instr.Return) same over.3)) routine there new exited),
+        exited_stands (leaves_by_return frame frames e (subst (λ (z : StackFrame). slice_get
+        (opcodes_in code.«module» z.function) z.position ≡ Some instr.Return) same over.3)) there
+        exited),
   )

@@ -18,14 +18,15 @@ use Rattle.machine.proofs.InstanceLemmas.Offered.{same_parts}
 -- ---- types by their parts
 
 pub same_type : (a b : FunctionType) → a.parameters ≡ b.parameters → a.results ≡ b.results → a ≡ b
-same_type a b p r = same_parts a.parameters b.parameters a.results b.results p r
+same_type a b p r = same_parts p r
 
 -- ---- places in two lists, one behind the other
 
-in_first : (xs ys : List ℕ) (k x : ℕ) → slice_get xs k ≡ Some x → slice_get (xs ++ ys) k ≡ Some x
-in_first [] ys k x e = absurd (cc)
-in_first (z ∷ xs) ys zero x e = e
-in_first (z ∷ xs) ys (suc k) x e = in_first xs ys k x e
+in_first : (xs ys : List ℕ) (k : ℕ) {x : ℕ} → slice_get xs k ≡ Some x → slice_get (xs ++ ys) k ≡
+    Some x
+in_first [] ys k e = absurd (cc)
+in_first (z ∷ xs) ys zero e = e
+in_first (z ∷ xs) ys (suc k) e = in_first xs ys k e
 
 in_second : (xs ys : List ℕ) (k place : ℕ) → k ≡ length xs + place
     → slice_get (xs ++ ys) k ≡ slice_get ys place
@@ -42,7 +43,7 @@ numbered_signature : (code : Executable) (f : ℕ) (callee : Callee)
 numbered_signature code f (Imported signature) indices n =
     let imported = imported_functions code.«module».imports in
     let own = map function_type_of code.«module».functions in
-    (n.1, ap (λ z. slice_get z f) indices ∙ in_first imported own f n.1 n.2, n.3)
+    (n.1, ap (λ z. slice_get z f) indices ∙ in_first imported own f n.2, n.3)
 numbered_signature code f (Own signature declared body) indices n =
     let imported = imported_functions code.«module».imports in
     let own = map function_type_of code.«module».functions in (
@@ -53,9 +54,9 @@ numbered_signature code f (Own signature declared body) indices n =
       n.4,
     )
 
-pub signature_there : (code : Executable) (functions : List FunctionType) (program : Program)
-    → IsExecutable code functions program → (f : ℕ) (callee : Callee)
+pub signature_there : {code : Executable} {functions : List FunctionType} {program : Program}
+    → IsExecutable code functions program → (f : ℕ) {callee : Callee}
     → slice_get program.functions f ≡ Some callee → HasSignature code f (signature_of callee)
-signature_there code functions program is f callee e =
+signature_there {code} {program} is f {callee} e =
     numbered_signature code f callee is.type_indices
     (functions_numbered is.pages code.«module» program f callee is.is_program e)

@@ -38,11 +38,11 @@ pub none_where_trapped : (program : Program) (d : Configuration) (why : Trap)
 none_where_trapped program d why traps = λ f arguments waits asks. absurd (cc)
 
 -- by a call of the module's own function
-pub none_where_own : (code : Executable) (functions : List FunctionType) (program : Program)
-    (is : IsExecutable code functions program) (table : List (Option ℕ)) (held : MachineParts)
-    (d : Configuration) (words : List ℕ) (f : ℕ)
+pub none_where_own : {code : Executable} {functions : List FunctionType} {program : Program}
+    {is : IsExecutable code functions program} {table : List (Option ℕ)} {held : MachineParts}
+    {d : Configuration} {words : List ℕ} {f : ℕ}
     → Own_enters code functions program is table held d words f → AsksNothing program d
-none_where_own code functions program is table held d words f o =
+none_where_own {program} {held} {d} {words} o =
     by_room (ltb (length held.frames) FRAMES)
     (nat_le (length o.own.declared + length words) HELD_VALUES) refl refl
   where
@@ -63,8 +63,8 @@ none_where_own code functions program is table held d words f o =
         let traps = o.exhausts (inl full) in
         absurd (cc)
 
-module _ (code : Executable) (s : State) (functions : List FunctionType) (program : Program)
-    (d : Configuration) (stands : StateStandsFor code s functions program d) where
+module _ {code : Executable} {s : State} {functions : List FunctionType} {program : Program}
+    {d : Configuration} (stands : StateStandsFor code s functions program d) where
   -- without frames
   pub none_without_frames : s.frames ≡ [] → AsksNothing program d
   none_without_frames e = λ f arguments waits asks.
@@ -75,12 +75,13 @@ module _ (code : Executable) (s : State) (functions : List FunctionType) (progra
 
   -- ---- what a call of the host tells
 
-  pub told_asked : (f : ℕ) (words over : List ℕ) (call : Call) (above : ℕ) (told : HostCall)
+  pub told_asked : {f : ℕ} {words : List ℕ} (over : List ℕ) {call : Call} (above : ℕ)
+      (told : HostCall)
       → slice_get code.calls.items f ≡ Some call
       → ImportAsks code functions program stands.is_code code.table.items (parts_of_state s) d words
       f call → s.slots ≡ over ++ words → above ≡ length over → IsCallBelow s.slots call above told
       → CodeTellsCall code program d (Some told)
-  told_asked f words over call above told there h slots count below =
+  told_asked {f} over above told there h slots count below =
       let same = below over (map number_in h.arguments) h.under
       (slots ∙ ap (λ z. over ++ z) h.words_are) count h.count in
       rw same (record {
@@ -96,7 +97,7 @@ module _ (code : Executable) (s : State) (functions : List FunctionType) (progra
 
   -- ---- the opcode of the running frame
 
-  module _ (frame : StackFrame) (first : slice_get s.frames 0 ≡ Some frame) where
+  module _ {frame : StackFrame} (first : slice_get s.frames 0 ≡ Some frame) where
     abbrev others : List StackFrame
     others = (first_of s.frames frame first).0
 
@@ -104,7 +105,7 @@ module _ (code : Executable) (s : State) (functions : List FunctionType) (progra
     frames_are = (first_of s.frames frame first).1
 
     pub own_running : HasOwnFunction code frame.function
-    own_running = own_function code s functions program d stands frame others frames_are
+    own_running = own_function stands frame others frames_are
 
     -- where no call is
     none_elsewhere : ((i : Instruction)
@@ -115,24 +116,22 @@ module _ (code : Executable) (s : State) (functions : List FunctionType) (progra
         (record { stands = stands; asks = asks }) frame others frames_are in
         other call.0 call.1 call.2
 
-    module _ (opcodes : List Instruction) (are : opcodes ≡ opcodes_in code.«module» frame.function)
+    module _ {opcodes : List Instruction} (are : opcodes ≡ opcodes_in code.«module» frame.function)
       where
         -- after the last opcode
         pub none_behind : length opcodes ≤ frame.position → AsksNothing program d
         none_behind past = none_elsewhere (λ i at call.
-            let none = none_at opcodes (opcodes_in code.«module» frame.function) frame.position are
-            past in
+            let none = none_at frame.position are past in
             absurd (cc))
 
-        module _ (i : Instruction) (within : frame.position < length opcodes)
+        module _ {i : Instruction} (within : frame.position < length opcodes)
             (read : i ≡ get_or opcodes frame.position i) where
           abbrev here : slice_get (opcodes_in code.«module» frame.function) frame.position ≡ Some i
           here =
-              read_at opcodes (opcodes_in code.«module» frame.function) frame.position i are within
-              read
+              read_at frame.position are within read
 
-          pub at_opcode : (j : Instruction) → i ≡ j → StateIsAtOpcode code s j
-          at_opcode j is = (frame, others, frames_are, here ∙ ap Some is)
+          pub at_opcode : {j : Instruction} → i ≡ j → StateIsAtOpcode code s j
+          at_opcode is = (frame, others, frames_are, here ∙ ap Some is)
 
           -- at another opcode
           pub none_at_other : ((g : ℕ) → i ≡ instr.Call g → ⊥)

@@ -31,17 +31,14 @@ abbrev pub behind : State → StackFrame → List StackFrame → List ℕ → St
 behind s frame frames words =
     record s { frames = record frame { position = suc frame.position } ∷ frames; slots = words }
 
-module _ (code : Executable) (s : State) (functions : List FunctionType) (program : Program)
-    (d : Configuration) (f : ℕ) (arguments results : List Value) (waits : Thread)
-    (signature : FunctionType)
-    (stands : StateStandsFor code s functions program d) (asks : counted_step program d
-    ≡ Asks f arguments waits) (there : slice_get program.functions f
-    ≡ Some (Imported signature)) (gives : AreOf (gives_of signature) results)
-    (frame : StackFrame) (frames : List StackFrame) (were : s.frames
-    ≡ frame ∷ frames) (taken : ℕ) (few : taken
-    ≤ length s.slots)
-    (has : HasTaken (slice_get (opcodes_in code.«module» frame.function) frame.position) taken
-    (length arguments)) where
+module _ {code : Executable} {s : State} {functions : List FunctionType} {program : Program}
+    {d : Configuration} (f : ℕ) (arguments results : List Value) (waits : Thread)
+    (signature : FunctionType) (stands : StateStandsFor code s functions program d)
+    (asks : counted_step program d ≡ Asks f arguments waits) (there : slice_get program.functions f
+    ≡ Some (Imported signature)) (gives : AreOf (gives_of signature) results) (frame : StackFrame)
+    (frames : List StackFrame) (were : s.frames ≡ frame ∷ frames) {taken : ℕ}
+    (few : taken ≤ length s.slots) (has : HasTaken (slice_get
+    (opcodes_in code.«module» frame.function) frame.position) taken (length arguments)) where
   typed_bytes : IsTypedMemory program s.memory.bytes
   typed_bytes = let k = stands.stands in
       subst (λ z. IsTypedMemory program z) (sym k.shown.bytes_are) k.typed.store.memory
@@ -52,20 +49,19 @@ module _ (code : Executable) (s : State) (functions : List FunctionType) (progra
     is_code = stands.is_code;
     stands =
         answers_lead (module_context code.«module» functions) program (opcodes_in code.«module»)
-        (tables_in code.«module» code.routines.items) code.table.items
-        (parts_of_state s) d frame frames f arguments results waits signature s.memory
-        (take taken s.slots) (drop taken s.slots)
-        (ready code s functions program d stands) stands.stands were asks there gives typed_bytes
-        stands.stands.shown.limit_is (sym (take-append-drop taken s.slots))
-        (subst (λ n. HasTaken (slice_get (opcodes_in code.«module» frame.function) frame.position) n
-        (length arguments)) (sym (front_count taken s.slots few)) has);
+        (tables_in code.«module» code.routines.items) code.table.items (parts_of_state s) d frame
+        frames f arguments results waits signature s.memory (take taken s.slots)
+        (drop taken s.slots) (ready stands) stands.stands were asks there gives typed_bytes
+        stands.stands.shown.limit_is (sym (take-append-drop taken s.slots)) (subst (λ n. HasTaken
+        (slice_get (opcodes_in code.«module» frame.function) frame.position) n (length arguments))
+        (sym (front_count taken s.slots few)) has);
   }
 
 -- ---- in the code's words
 
-pub asking_of : (results : List Value) (code : Executable) (s : State) → IsWaiting results code s
+pub asking_of : {results : List Value} {code : Executable} {s : State} → IsWaiting results code s
     → IsAsking code s
-asking_of results code s w = record {
+asking_of w = record {
   functions = w.functions;
   program = w.program;
   configuration = w.configuration;
@@ -75,24 +71,25 @@ asking_of results code s w = record {
   at = record { stands = w.stands; asks = w.asks };
 }
 
-pub enough_there : (code : Executable) (s : State) (taken : ℕ) → TakesWords code s taken
+pub enough_there : {code : Executable} {s : State} (taken : ℕ) → TakesWords code s taken
     → IsAsking code s → taken ≤ length s.slots
-enough_there code s taken takes r =
+enough_there taken takes r =
     (takes r.functions r.program r.configuration r.function r.arguments r.waits r.at).0
 
 -- the first frame moves on
-moved_on : (frames others after : List StackFrame) (frame first : StackFrame)
+moved_on : {frames : List StackFrame} (others after : List StackFrame) (frame : StackFrame)
+    {first : StackFrame}
     → frames ≡ frame ∷ others → slice_get frames 0 ≡ Some first
     → ((x : StackFrame) (xs : List StackFrame) → frames ≡ x ∷ xs
     → after ≡ record x { position = first.position + 1 } ∷ xs)
     → after ≡ record frame { position = suc frame.position } ∷ others
-moved_on frames others after frame first e top is =
+moved_on others after frame {first} e top is =
     let here : Some frame ≡ Some first = sym (ap (λ xs. slice_get xs 0) e) ∙ top in
     let same : first ≡ frame = cc in
     let next : first.position + 1 ≡ suc frame.position = rw same (omega arith) in
     is frame others e ∙ ap (λ p. record frame { position = p } ∷ others) next
 
-pub is_answered : (code : Executable) (s : State) (results : List Value) (first : StackFrame)
+pub is_answered : (code : Executable) (s : State) (results : List Value) {first : StackFrame}
     (taken : ℕ) (frames : List StackFrame) (slots : List ℕ) → TakesWords code s taken
     → slice_get s.frames 0 ≡ Some first
     → ((gone under : List ℕ) → taken ≡ length gone → s.slots ≡ gone ++ under
@@ -100,16 +97,16 @@ pub is_answered : (code : Executable) (s : State) (results : List Value) (first 
     → ((x : StackFrame) (xs : List StackFrame) → s.frames ≡ x ∷ xs
     → frames ≡ record x { position = first.position + 1 } ∷ xs)
     → IsAnswered results code s (record s { frames = frames; slots = slots })
-is_answered code s results first taken frames slots takes top replaced is =
+is_answered code s results taken frames slots takes top replaced is =
     λ functions program d f arguments waits signature stands asks there gives.
     let t = takes functions program d f arguments waits (record { stands = stands; asks = asks }) in
     let at = t.1 in
-    let frames_are = moved_on s.frames at.1 frames at.0 first at.2 top is in
+    let frames_are = moved_on at.1 frames at.0 at.2 top is in
     let slots_are =
     replaced (take taken s.slots) (drop taken s.slots) (sym (front_count taken s.slots t.0))
     (sym (take-append-drop taken s.slots)) in
-    let new = answer_stands code s functions program d f arguments results waits
-    signature stands asks there gives at.0 at.1 at.2 taken t.0 at.3 in
+    let new = answer_stands f arguments results waits signature stands asks there gives at.0 at.1
+    at.2 t.0 at.3 in
     subst (λ xs. StateStandsFor code (record s {
       frames = xs;
       slots = slots;

@@ -19,8 +19,8 @@ use Rattle.machine.specs.declared.hosting.starting.MachineStart.{MachineStart}
 use Rattle.machine.specs.Hosting.Beginnings.{first, IsOfInstance, StartStands}
 use Rattle.machine.proofs.HostingLemmas.Programs.{has_program}
 
-module _ (pages : ℕ) (m : Module) (i : Instance) (b : MachineStart) (few : pages
-    ≤ 2 ^ 16) (linked : IsLinked pages m i) (h : IsOfInstance i b) where
+module _ {pages : ℕ} {m : Module} {i : Instance} {b : MachineStart} (few : pages ≤ 2 ^ 16)
+    (linked : IsLinked pages m i) (h : IsOfInstance i b) where
   guest : b.code.«module» ≡ m
   guest = h.guest ∙ linked.same
 
@@ -71,7 +71,7 @@ module _ (pages : ℕ) (m : Module) (i : Instance) (b : MachineStart) (few : pag
 
   pub begun : StartStands pages m b
   begun =
-      let program = has_program m pages valid in
+      let program = has_program pages valid in
       record {
         guest = guest;
         linkable = linked.linkable;

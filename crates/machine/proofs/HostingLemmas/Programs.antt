@@ -32,9 +32,9 @@ all_callees m functions (x ∷ imported) own (f ∷ fs) t v =
     let others = all_callees m functions imported own fs t.1 v in
     (Imported f ∷ others.0, (t.0, others.1))
 
-pub has_program : (m : Module) (pages : ℕ) → IsValid m → (program : Program)
-    × IsProgram m pages program
-has_program m pages v =
+pub has_program : {m : Module} (pages : ℕ) → IsValid m → (program : Program) × IsProgram m pages
+    program
+has_program {m} pages v =
     let callees =
     all_callees m v.functions (imported_functions m.imports) m.functions v.functions
     v.function_types v.bodies in (

@@ -41,36 +41,36 @@ own_memories m h = ap (λ ts. ts ++ m.memories) (no_memories m.types m.imports h
 
 -- ---- the store to begin with
 
-pub fills_table : (m : Module) → AreImportsOffered m → (store : Store) → IsInitialStore m store
+pub fills_table : {m : Module} → AreImportsOffered m → {store : Store} → IsInitialStore m store
     → filled_table store.globals m.elements (empty_table m.tables) ≡ Some store.table
-fills_table m h store is = let P : List TableType
+fills_table {m} h {store} is = let P : List TableType
     → Type 0 = λ ts. filled_table store.globals m.elements (empty_table ts) ≡ Some store.table in
     subst P (own_tables m h) is.table
 
-pub fills_memory : (m : Module) → AreImportsOffered m → (store : Store) → IsInitialStore m store
+pub fills_memory : {m : Module} → AreImportsOffered m → {store : Store} → IsInitialStore m store
     → filled_memory store.globals m.data_segments (empty_memory m.memories) ≡ Some store.memory
-fills_memory m h store is = let P : List MemoryType
+fills_memory {m} h {store} is = let P : List MemoryType
     → Type 0 = λ ts. filled_memory store.globals m.data_segments (empty_memory ts)
     ≡ Some store.memory in subst P (own_memories m h) is.memory
 
 pub can_fill_table : (m : Module) → AreImportsOffered m → CanBegin m
     → CanFillTable m.globals m.elements (empty_table m.tables)
 can_fill_table m h begins =
-    (begins.0.globals, begins.0.table, begins.1.globals, fills_table m h begins.0 begins.1)
+    (begins.0.globals, begins.0.table, begins.1.globals, fills_table h begins.1)
 
 pub can_fill_memory : (m : Module) → AreImportsOffered m → CanBegin m
     → CanFillMemory m.globals m.data_segments (empty_memory m.memories)
 can_fill_memory m h begins =
-    (begins.0.globals, begins.0.memory, begins.1.globals, fills_memory m h begins.0 begins.1)
+    (begins.0.globals, begins.0.memory, begins.1.globals, fills_memory h begins.1)
 
 -- all segments are inside, whatever values the globals have
 abbrev pub FillsAll : Module → List Value → Type 0
 FillsAll m values = IsSome (filled_table values m.elements (empty_table m.tables))
     × IsSome (filled_memory values m.data_segments (empty_memory m.memories))
 
-pub begins_filled : (m : Module) → IsValid m → AreImportsOffered m
+pub begins_filled : {m : Module} → IsValid m → AreImportsOffered m
     → ((values : List Value) → AreInitial m.globals values → FillsAll m values) → CanBegin m
-begins_filled m v h fills =
+begins_filled {m} v h fills =
     let globals = initial_values m m.globals (no_globals m.types m.imports h) v.globals in
     let all = fills globals.0 globals.1 in
     let table = some_of _ all.0 in
@@ -92,18 +92,19 @@ pub filled_begins : (m : Module) → AreImportsOffered m → CanBegin m → (val
 filled_begins m h begins values initial =
     let P : List Value → Type 0 = FillsAll m in
     subst P (initial_once m.globals begins.0.globals values begins.1.globals initial) (
-      ap is_some (fills_table m h begins.0 begins.1),
-      ap is_some (fills_memory m h begins.0 begins.1),
+      ap is_some (fills_table h begins.1),
+      ap is_some (fills_memory h begins.1),
     )
 
-pub begins_by : (m : Module) → IsValid m → AreImportsOffered m → (inside data_inside : Bool)
+pub begins_by : {m : Module} → IsValid m → AreImportsOffered m → {inside : Bool}
+    (data_inside : Bool)
     → ((values : List Value) → AreInitial m.globals values → IsTrue inside
     ↔ IsSome (filled_table values m.elements (empty_table m.tables)))
     → ((values : List Value) → AreInitial m.globals values → IsTrue data_inside
     ↔ IsSome (filled_memory values m.data_segments (empty_memory m.memories))) → inside ≡ true
     → IsTrue data_inside ↔ CanBegin m
-begins_by m v h inside data_inside table memory e = (
-  λ t. begins_filled m v h (λ values initial. (
+begins_by {m} v h data_inside table memory e = (
+  λ t. begins_filled v h (λ values initial. (
     (table values initial).0 e,
     (memory values initial).0 t,
   )),
@@ -112,11 +113,11 @@ begins_by m v h inside data_inside table memory e = (
       (memory globals begins.1.globals).1 (filled_begins m h begins globals begins.1.globals).1,
 )
 
-pub begins_nowhere : (m : Module) → AreImportsOffered m → (inside : Bool)
+pub begins_nowhere : (m : Module) → AreImportsOffered m → {inside : Bool}
     → ((values : List Value) → AreInitial m.globals values → IsTrue inside
     ↔ IsSome (filled_table values m.elements (empty_table m.tables))) → inside ≡ false
     → IsTrue inside ↔ CanBegin m
-begins_nowhere m h inside table e = (
+begins_nowhere m h table e = (
   λ t. absurd (is_false (sym e ∙ t)),
   λ begins.
       let globals = begins.0.globals in
@@ -138,9 +139,9 @@ import_fault types [] e h = absurd h
 import_fault types (i ∷ imports) e (inl h) = refused_for types i e h
 import_fault types (i ∷ imports) e (inr h) = import_fault types imports e h.1
 
-pub imports_refused : (pages : ℕ) (m : Module) (e : LinkFault) → CanStart m → HasExportedMemory m
+pub imports_refused : (pages : ℕ) {m : Module} (e : LinkFault) → CanStart m → HasExportedMemory m
     → AreImportsRefused m.types m.imports e → IsRefused pages m e × (e ≢ Memory)
-imports_refused pages m e s memory r = by_fault (import_fault m.types m.imports e r)
+imports_refused pages {m} e s memory r = by_fault (import_fault m.types m.imports e r)
   where
     by_fault : (e ≡ UnknownImport) ⊎ (e ≡ ImportType) → IsRefused pages m e × (e ≢ Memory)
     by_fault (inl is) =
@@ -163,9 +164,9 @@ denied pages m TooManyPages r = λ l. r.4 l.fits
 denied pages m Memory r = tt
 
 -- where all is there that memory isn't needed for, the module can be linked
-pub could_be_linked : (pages : ℕ) (m : Module) (entry : ℕ) → IsPrepared pages m entry
+pub could_be_linked : {pages : ℕ} {m : Module} {entry : ℕ} → IsPrepared pages m entry
     → IsLinkable offer pages m
-could_be_linked pages m entry p = record {
+could_be_linked {entry} p = record {
   entry = entry;
   store = p.begins.0;
   has_entry = p.has_entry;
@@ -177,23 +178,23 @@ could_be_linked pages m entry p = record {
 
 -- ---- instances
 
-same_store : (memory bytes : List ℕ) (globals values : List Value) (table entries : List (Option ℕ))
+same_store : {memory bytes : List ℕ} {globals values : List Value} {table entries : List (Option ℕ)}
     → memory ≡ bytes → globals ≡ values → table ≡ entries
     → store_from memory globals table ≡ store_from bytes values entries
-same_store memory bytes globals values table entries m g t = rw (m, g, t) refl
+same_store m g t = rw (m, g, t) refl
 
-pub linked_by : (pages : ℕ) (m : Module) (i : Instance) → i.«module» ≡ m
+pub linked_by : {pages : ℕ} {m : Module} (i : Instance) → i.«module» ≡ m
     → IsPrepared pages m i.entry → AreInitial m.globals i.globals.items
     → FillsTable m.globals m.elements (empty_table m.tables) i.table.items
     → FillsMemory m.globals m.data_segments (empty_memory m.memories) i.memory.bytes
     → i.memory.limit ≡ most_pages_of m.memories pages → AreImportedCalls m.imports i.calls.items
     → IsLinked pages m i
-linked_by pages m i same p globals table memory limit calls =
+linked_by {pages} {m} i same p globals table memory limit calls =
     let s = p.begins.0 in
     let is = p.begins.1 in
     let g = initial_once m.globals s.globals i.globals.items is.globals globals in
-    let t = table s.globals s.table is.globals (fills_table m p.offered s is) in
-    let b = memory s.globals s.memory is.globals (fills_memory m p.offered s is) in
+    let t = table s.globals s.table is.globals (fills_table p.offered is) in
+    let b = memory s.globals s.memory is.globals (fills_memory p.offered is) in
     record {
       same = same;
       linkable = record {
@@ -202,9 +203,7 @@ linked_by pages m i same p globals table memory limit calls =
         has_entry = p.has_entry;
         has_memory = p.has_memory;
         imports = p.offered;
-        segments = subst (IsInitialStore m)
-            (same_store s.memory i.memory.bytes s.globals i.globals.items s.table i.table.items
-            (sym b) g (sym t)) is;
+        segments = subst (IsInitialStore m) (same_store (sym b) g (sym t)) is;
         fits = p.fits;
       };
       entry = refl;

@@ -24,14 +24,14 @@ global_value (g ∷ globals) (v ∷ values) zero h = h.0
 global_value (g ∷ globals) (v ∷ values) (suc x) h = global_value globals values x h.1
 
 -- Each of the globals that have initial values has one.
-pub initial_at : (globals : List Global) (values : List Value) (i : ℕ) (g : Global)
+pub initial_at : (globals : List Global) (values : List Value) (i : ℕ) {g : Global}
     → i < length globals → g ≡ get_or globals i g → AreInitial globals values
     → IsSome (constant_of [] g.initial)
-initial_at [] values i g lt is h = absurd (omega arith)
-initial_at (f ∷ globals) [] i g lt is h = absurd h
-initial_at (f ∷ globals) (v ∷ values) zero g lt is h = let first = h.0 in rw (is, first) refl
-initial_at (f ∷ globals) (v ∷ values) (suc i) g lt is h =
-    initial_at globals values i g (omega arith) is h.1
+initial_at [] values i lt is h = absurd (omega arith)
+initial_at (f ∷ globals) [] i lt is h = absurd h
+initial_at (f ∷ globals) (v ∷ values) zero lt is h = let first = h.0 in rw (is, first) refl
+initial_at (f ∷ globals) (v ∷ values) (suc i) lt is h =
+    initial_at globals values i (omega arith) is h.1
 
 -- the values so far, and those of the rest
 abbrev pub Continues : List Global → List Value → ℕ → Type 0

@@ -1,5 +1,5 @@
 -- Entries of a table, written one by one.
-use Rattle.std.proofs.Common.{◌≡◌, ℕ, ◌+◌, ◌<◌, List, [], ◌∷◌, length, get_or, set, drop, Option}
+use Rattle.std.proofs.Common.{◌≡◌, ℕ, ◌+◌, ◌<◌, List, ◌∷◌, length, get_or, set, drop, Option}
 use Rattle.std.proofs.Common.{Some, refl, sym, ap, ◌∙◌, arith, append_assoc}
 use Rattle.std.proofs.lemmas.List.{take_more_set, drop-set-lt}
 use Rattle.wasm_validate.proofs.PartLemmas.Loops.{next}
@@ -18,11 +18,11 @@ put_more table f functions from h =
     rw (front, back, append_assoc) refl
 
 -- the functions from here on, by this one and what follows it
-pub put_next : (table : List (Option ℕ)) (functions : List ℕ) (i from : ℕ) (f : ℕ)
+pub put_next : (table : List (Option ℕ)) (functions : List ℕ) (i from : ℕ) {f : ℕ}
     → i < length functions → f ≡ get_or functions i f → from + i < length table
     → entries_put (set table (from + i) (Some f)) (drop (i + 1) functions) (from + (i + 1))
     ≡ entries_put table (drop i functions) (from + i)
-put_next table functions i from f lt is h =
+put_next table functions i from {f} lt is h =
     let place : from + (i + 1) ≡ (from + i) + 1 = omega arith in
     ap (λ n. entries_put (set table (from + i) (Some f)) (drop (i + 1) functions) n) place
     ∙ (put_more table f (drop (i + 1) functions) (from + i) h

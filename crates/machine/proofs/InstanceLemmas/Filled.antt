@@ -23,9 +23,9 @@ some_of None h = absurd (cc)
 some_of (Some x) h = (x, refl)
 
 -- a value that a test lets through
-passed_test : {X : Type 0} (n most : ℕ) (x y : X)
+passed_test : {X : Type 0} (n most : ℕ) (x : X) {y : X}
     → (if nat_le n most then Some x else None) ≡ Some y → (n ≤ most) × (x ≡ y)
-passed_test {X} n most x y e = by_test (nat_le n most) refl e
+passed_test {X} n most x {y} e = by_test (nat_le n most) refl e
   where
     by_test : (b : Bool) → nat_le n most ≡ b → (if b then Some x else None) ≡ Some y
         → (n ≤ most) × (x ≡ y)
@@ -64,16 +64,17 @@ pub record FirstElement (values : List Value) (e : Element) (elements : List Ele
   pub others : filled_table values elements (entries_put table e.functions from) ≡ Some filled
 
 pub first_element : (values : List Value) (e : Element) (elements : List Element)
-    (table filled : List (Option ℕ)) → filled_table values (e ∷ elements) table ≡ Some filled
+    (table : List (Option ℕ)) {filled : List (Option ℕ)} → filled_table values (e ∷ elements) table
+    ≡ Some filled
     → FirstElement values e elements table filled
-first_element values e elements table filled h =
+first_element values e elements table {filled} h =
     let after = and_then_some (λ table'. filled_table values elements table')
     (option_and_then (λ from. with_entries table e.functions from) (offset_of values e.offset))
     filled h in
     let place = and_then_some (λ from. with_entries table e.functions from)
     (offset_of values e.offset) after.0 after.1 in
     let put = passed_test (place.0 + length e.functions) (length table)
-    (entries_put table e.functions place.0) after.0 place.2 in
+    (entries_put table e.functions place.0) place.2 in
     let P : List (Option ℕ) → Type 0 = λ t. filled_table values elements t ≡ Some filled in
     record {
       from = place.0;
@@ -86,10 +87,10 @@ abbrev pub IsElementInside : List Value → ℕ → Element → Type 0
 IsElementInside values size e = IsInside values e.offset (length e.functions) size
 
 pub table_from_inside : (values : List Value) (elements : List Element) (table : List (Option ℕ))
-    (size : ℕ) → length table ≡ size → AllByRecursion (IsElementInside values size) elements
+    {size : ℕ} → length table ≡ size → AllByRecursion (IsElementInside values size) elements
     → IsSome (filled_table values elements table)
-table_from_inside values [] table size n h = refl
-table_from_inside values (e ∷ elements) table size n h =
+table_from_inside values [] table n h = refl
+table_from_inside values (e ∷ elements) table n h =
     let p = h.0 in
     let within : p.0 + length e.functions ≤ length table = omega (arith, n, p.2) in
     let put = with_entries_inside table e.functions p.0 within in
@@ -98,19 +99,18 @@ table_from_inside values (e ∷ elements) table size n h =
     let Q : Option ℕ → Type 0 =
     λ o. IsSome (option_and_then (λ table'. filled_table values elements table')
     (option_and_then (λ from. with_entries table e.functions from) o)) in
-    subst Q (sym p.1)
-    (subst P (sym put) (table_from_inside values elements (entries_put table e.functions p.0)
-    size (length-entries_put table e.functions p.0 within ∙ n) h.1))
+    subst Q (sym p.1) (subst P (sym put) (table_from_inside values elements
+    (entries_put table e.functions p.0) (length-entries_put table e.functions p.0 within ∙ n) h.1))
 
-pub inside_from_table : (values : List Value) (elements : List Element)
-    (table filled : List (Option ℕ)) (size : ℕ) → length table ≡ size
+pub inside_from_table : (values : List Value) (elements : List Element) (table : List (Option ℕ))
+    {filled : List (Option ℕ)} {size : ℕ} → length table ≡ size
     → filled_table values elements table ≡ Some filled
     → AllByRecursion (IsElementInside values size) elements
-inside_from_table values [] table filled size n h = tt
-inside_from_table values (e ∷ elements) table filled size n h =
-    let f = first_element values e elements table filled h in (
+inside_from_table values [] table n h = tt
+inside_from_table values (e ∷ elements) table n h =
+    let f = first_element values e elements table h in (
       (f.from, f.offset, omega (arith, n, f.inside)),
-      inside_from_table values elements (entries_put table e.functions f.from) filled size
+      inside_from_table values elements (entries_put table e.functions f.from)
           (length-entries_put table e.functions f.from f.inside ∙ n) f.others,
     )
 
@@ -128,17 +128,18 @@ pub record FirstData (values : List Value) (d : Data) (segments : List Data)
   pub inside : from + length d.bytes ≤ length memory
   pub others : filled_memory values segments (with_part memory from d.bytes) ≡ Some filled
 
-pub first_data : (values : List Value) (d : Data) (segments : List Data) (memory filled : List ℕ)
+pub first_data : (values : List Value) (d : Data) (segments : List Data) (memory : List ℕ)
+    {filled : List ℕ}
     → filled_memory values (d ∷ segments) memory ≡ Some filled
     → FirstData values d segments memory filled
-first_data values d segments memory filled h =
+first_data values d segments memory {filled} h =
     let after = and_then_some (λ memory'. filled_memory values segments memory')
     (option_and_then (λ from. with_segment memory d.bytes from) (offset_of values d.offset))
     filled h in
     let place = and_then_some (λ from. with_segment memory d.bytes from)
     (offset_of values d.offset) after.0 after.1 in
     let put = passed_test (place.0 + length d.bytes) (length memory)
-    (with_part memory place.0 d.bytes) after.0 place.2 in
+    (with_part memory place.0 d.bytes) place.2 in
     let P : List ℕ → Type 0 = λ t. filled_memory values segments t ≡ Some filled in
     record {
       from = place.0;
@@ -150,11 +151,11 @@ first_data values d segments memory filled h =
 abbrev pub IsDataInside : List Value → ℕ → Data → Type 0
 IsDataInside values size d = IsInside values d.offset (length d.bytes) size
 
-pub memory_from_inside : (values : List Value) (segments : List Data) (memory : List ℕ) (size : ℕ)
+pub memory_from_inside : (values : List Value) (segments : List Data) (memory : List ℕ) {size : ℕ}
     → length memory ≡ size → AllByRecursion (IsDataInside values size) segments
     → IsSome (filled_memory values segments memory)
-memory_from_inside values [] memory size n h = refl
-memory_from_inside values (d ∷ segments) memory size n h =
+memory_from_inside values [] memory n h = refl
+memory_from_inside values (d ∷ segments) memory n h =
     let p = h.0 in
     let within : p.0 + length d.bytes ≤ length memory = omega (arith, n, p.2) in
     let put = with_bytes_inside memory d.bytes p.0 within in
@@ -163,31 +164,31 @@ memory_from_inside values (d ∷ segments) memory size n h =
     let Q : Option ℕ → Type 0 =
     λ o. IsSome (option_and_then (λ memory'. filled_memory values segments memory')
     (option_and_then (λ from. with_segment memory d.bytes from) o)) in
-    subst Q (sym p.1)
-    (subst P (sym put) (memory_from_inside values segments (with_part memory p.0 d.bytes) size
-    (length-with_part memory p.0 d.bytes within ∙ n) h.1))
+    subst Q (sym p.1) (subst P (sym put) (memory_from_inside values segments
+    (with_part memory p.0 d.bytes) (length-with_part memory p.0 d.bytes within ∙ n) h.1))
 
-pub inside_from_memory : (values : List Value) (segments : List Data) (memory filled : List ℕ)
-    (size : ℕ) → length memory ≡ size → filled_memory values segments memory ≡ Some filled
+pub inside_from_memory : (values : List Value) (segments : List Data) (memory : List ℕ)
+    {filled : List ℕ} {size : ℕ} → length memory ≡ size → filled_memory values segments memory ≡
+    Some filled
     → AllByRecursion (IsDataInside values size) segments
-inside_from_memory values [] memory filled size n h = tt
-inside_from_memory values (d ∷ segments) memory filled size n h =
-    let f = first_data values d segments memory filled h in (
+inside_from_memory values [] memory n h = tt
+inside_from_memory values (d ∷ segments) memory n h =
+    let f = first_data values d segments memory h in (
       (f.from, f.offset, omega (arith, n, f.inside)),
-      inside_from_memory values segments (with_part memory f.from d.bytes) filled size
+      inside_from_memory values segments (with_part memory f.from d.bytes)
           (length-with_part memory f.from d.bytes f.inside ∙ n) f.others,
     )
 
 -- ---- loops over segments
 
-pub element_next : (values : List Value) (elements : List Element) (i : ℕ) (e : Element)
-    (table filled : List (Option ℕ)) → i < length elements → e ≡ get_or elements i e
+pub element_next : (values : List Value) (elements : List Element) (i : ℕ) {e : Element}
+    (table : List (Option ℕ)) {filled : List (Option ℕ)} → i < length elements → e ≡ get_or elements
+    i e
     → filled_table values (drop i elements) table ≡ Some filled
     → FirstElement values e (drop (i + 1) elements) table filled
-element_next values elements i e table filled lt is h =
+element_next values elements i {e} table {filled} lt is h =
     let P : List Element → Type 0 = λ es. filled_table values es table ≡ Some filled in
-    first_element values e (drop (i + 1) elements) table filled
-    (subst P (next elements i e lt is) h)
+    first_element values e (drop (i + 1) elements) table (subst P (next elements i e lt is) h)
 
 pub data_next : (values : List Value) (segments : List Data) (i : ℕ) (d : Data)
     (memory filled : List ℕ) → i < length segments → d ≡ get_or segments i d
@@ -195,4 +196,4 @@ pub data_next : (values : List Value) (segments : List Data) (i : ℕ) (d : Data
     → FirstData values d (drop (i + 1) segments) memory filled
 data_next values segments i d memory filled lt is h =
     let P : List Data → Type 0 = λ ds. filled_memory values ds memory ≡ Some filled in
-    first_data values d (drop (i + 1) segments) memory filled (subst P (next segments i d lt is) h)
+    first_data values d (drop (i + 1) segments) memory (subst P (next segments i d lt is) h)

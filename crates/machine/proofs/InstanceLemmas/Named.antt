@@ -25,39 +25,39 @@ distinct_rest exports zero h = h
 distinct_rest [] (suc i) h = tt
 distinct_rest (e ∷ exports) (suc i) h = distinct_rest exports i h.1
 
-none_named : (first name : List ℕ) (exports : List Export) (item : ExportItem)
+none_named : {first name : List ℕ} (exports : List Export) (item : ExportItem)
     → AllByRecursion (λ (other : Export). first ≢ other.name) exports → first ≡ name
     → Exports exports name item → ⊥
-none_named first name [] item h e x = x
-none_named first name (other ∷ exports) item h e (inl x) = h.0 (e ∙ sym x.0)
-none_named first name (other ∷ exports) item h e (inr x) =
-    none_named first name exports item h.1 e x
+none_named [] item h e x = x
+none_named (other ∷ exports) item h e (inl x) = h.0 (e ∙ sym x.0)
+none_named (other ∷ exports) item h e (inr x) =
+    none_named exports item h.1 e x
 
-one_named : (e : Export) (exports : List Export) (name : List ℕ) (item : ExportItem)
+one_named : (e : Export) (exports : List Export) {name : List ℕ} (item : ExportItem)
     → HaveDistinctNames (e ∷ exports) → e.name ≡ name → Exports (e ∷ exports) name item
     → e.item ≡ item
-one_named e exports name item d is (inl h) = h.1
-one_named e exports name item d is (inr h) = absurd (none_named e.name name exports item d.0 is h)
+one_named e exports item d is (inl h) = h.1
+one_named e exports item d is (inr h) = absurd (none_named exports item d.0 is h)
 
 -- the export at this place has this name
-pub found_there : (exports : List Export) (i : ℕ) (e : Export) (name : List ℕ) → i < length exports
+pub found_there : (exports : List Export) (i : ℕ) {e : Export} {name : List ℕ} → i < length exports
     → e ≡ get_or exports i e → e.name ≡ name → Exports exports name e.item
-found_there exports i e name h is same =
+found_there exports i {e} {name} h is same =
     let P : List Export → Type 0 = λ xs. Exports xs name e.item in
     among_all exports i name e.item (subst P (sym (next exports i e h is)) (inl (same, refl)))
 
-pub found_only : (exports : List Export) (i : ℕ) (e : Export) (name : List ℕ) (item : ExportItem)
+pub found_only : (exports : List Export) (i : ℕ) {e : Export} {name : List ℕ} (item : ExportItem)
     → i < length exports → e ≡ get_or exports i e → e.name ≡ name → HaveDistinctNames exports
     → Exports (drop i exports) name item → e.item ≡ item
-found_only exports i e name item h is same distinct x =
+found_only exports i {e} {name} item h is same distinct x =
     let P : List Export → Type 0 = λ xs. Exports xs name item in
     let rest = next exports i e h is in
-    one_named e (drop (i + 1) exports) name item
-    (subst HaveDistinctNames rest (distinct_rest exports i distinct)) same (subst P rest x)
+    one_named e (drop (i + 1) exports) item (subst HaveDistinctNames rest
+    (distinct_rest exports i distinct)) same (subst P rest x)
 
-pub further : (exports : List Export) (i : ℕ) (e : Export) (name : List ℕ) (item : ExportItem)
+pub further : (exports : List Export) (i : ℕ) {e : Export} (name : List ℕ) (item : ExportItem)
     → i < length exports → e ≡ get_or exports i e → (e.name ≡ name → ⊥)
     → Exports (drop i exports) name item → Exports (drop (i + 1) exports) name item
-further exports i e name item h is differs x =
+further exports i {e} name item h is differs x =
     let P : List Export → Type 0 = λ xs. Exports xs name item in
     after_another e (drop (i + 1) exports) name item differs (subst P (next exports i e h is) x)

@@ -27,15 +27,15 @@ use Rattle.machine.specs.rules.Refusals.{AreImportsRefused, IsImportRefused}
 
 -- ---- look-ups
 
-pub find_next : {X : Type 0} (p : X → Bool) (xs : List X) (i : ℕ) (x : X) → i < length xs
+pub find_next : {X : Type 0} (p : X → Bool) (xs : List X) (i : ℕ) {x : X} → i < length xs
     → x ≡ get_or xs i x → p x ≡ false → find p (drop i xs) ≡ find p (drop (i + 1) xs)
-find_next {X} p xs i x h is fails = ap (find p) (next xs i x h is)
-    ∙ ap (λ b. cond b (Some x) (find p (drop (i + 1) xs))) fails
+find_next {X} p xs i {x} h is fails = ap (find p) (next xs i x h is) ∙ ap
+    (λ b. cond b (Some x) (find p (drop (i + 1) xs))) fails
 
-pub find_here : {X : Type 0} (p : X → Bool) (xs : List X) (i : ℕ) (x : X) → i < length xs
+pub find_here : {X : Type 0} (p : X → Bool) (xs : List X) (i : ℕ) {x : X} → i < length xs
     → x ≡ get_or xs i x → p x ≡ true → find p (drop i xs) ≡ Some x
-find_here {X} p xs i x h is holds = ap (find p) (next xs i x h is)
-    ∙ ap (λ b. cond b (Some x) (find p (drop (i + 1) xs))) holds
+find_here {X} p xs i {x} h is holds = ap (find p) (next xs i x h is) ∙ ap
+    (λ b. cond b (Some x) (find p (drop (i + 1) xs))) holds
 
 -- ---- offers
 
@@ -54,10 +54,10 @@ no_entry from name signature e p r = of_call (offered_call from name) e
         with_parameters c (ap (λ (t : FunctionType). t.results) same
         ∙ r) (ap (λ (t : FunctionType). t.parameters) same ∙ p)
 
-pub offered_as : (i : Import) (call : Call) → Some call ≡ imported_call i
+pub offered_as : (i : Import) {call : Call} → Some call ≡ imported_call i
     → offer i.module_name i.name ≡ Some (call_type_of call)
 unfolding offer
-offered_as i call e = ap (option_map call_type_of) (sym e)
+offered_as i e = ap (option_map call_type_of) (sym e)
 
 pub offered_nothing : (i : Import) → None ≡ imported_call i → offer i.module_name i.name ≡ None
 unfolding offer
@@ -105,10 +105,10 @@ no_memories types (i ∷ imports) h =
 
 -- what is refused for a fault isn't offered
 refused_import : (types : List FunctionType) (i : Import) (o : Option FunctionType)
-    (signature : FunctionType) → o ≡ Some signature → (IsItemOffered (Some signature)
-    types i.item → ⊥) → IsItemOffered o types i.item → ⊥
-refused_import types i None signature e denied h = h
-refused_import types i (Some k) signature e denied h = let same : k
+    {signature : FunctionType} → o ≡ Some signature →
+    (IsItemOffered (Some signature) types i.item → ⊥) → IsItemOffered o types i.item → ⊥
+refused_import types i None e denied h = h
+refused_import types i (Some k) {signature} e denied h = let same : k
     ≡ signature = cc in let P : FunctionType → Type 0 = λ k. IsItemOffered (Some k) types i.item in
     denied (subst P same h)
 
@@ -117,7 +117,7 @@ pub not_offered : (types : List FunctionType) (i : Import) (e : LinkFault)
 not_offered types i UnknownImport r h = let P : Option FunctionType
     → Type 0 = λ o. IsItemOffered o types i.item in subst P r h
 not_offered types i ImportType r h =
-    refused_import types i (offer i.module_name i.name) r.0 r.1 r.2 h
+    refused_import types i (offer i.module_name i.name) r.1 r.2 h
 not_offered types i _ r h = r
 
 pub not_all_offered : (types : List FunctionType) (imports : List Import) (e : LinkFault)
@@ -147,9 +147,9 @@ pub call_found : (name seen : List ℕ) (i : ℕ) → i < length all_calls
     → Some (get_or all_calls i call.ArgsGet) ≡ found_among all_calls name
 call_found name seen i lt is same so_far =
     let x = get_or all_calls i call.ArgsGet in
-    sym (find_here (λ (c : Call). bytes_eq (name_of c) name) all_calls i x lt
-    (get_or_default all_calls i call.ArgsGet x lt) (ap (λ n. bytes_eq n name) (sym is) ∙ same))
-    ∙ so_far
+    sym (find_here (λ (c : Call). bytes_eq (name_of c) name) all_calls i lt
+    (get_or_default all_calls i call.ArgsGet x lt) (ap (λ n. bytes_eq n name) (sym is) ∙ same)) ∙
+    so_far
 
 pub call_passed : (name seen : List ℕ) (i : ℕ) → i < length all_calls
     → seen ≡ name_of (get_or all_calls i call.ArgsGet) → bytes_eq seen name ≡ false
@@ -157,9 +157,9 @@ pub call_passed : (name seen : List ℕ) (i : ℕ) → i < length all_calls
     → found_among (drop (i + 1) all_calls) name ≡ found_among all_calls name
 call_passed name seen i lt is differs so_far =
     let x = get_or all_calls i call.ArgsGet in
-    sym (find_next (λ (c : Call). bytes_eq (name_of c) name) all_calls i x lt
-    (get_or_default all_calls i call.ArgsGet x lt) (ap (λ n. bytes_eq n name) (sym is)
-    ∙ differs)) ∙ so_far
+    sym (find_next (λ (c : Call). bytes_eq (name_of c) name) all_calls i lt
+    (get_or_default all_calls i call.ArgsGet x lt) (ap (λ n. bytes_eq n name) (sym is) ∙ differs)) ∙
+    so_far
 
 pub no_call : (name : List ℕ) (i : ℕ) → length all_calls ≤ i
     → found_among (drop i all_calls) name ≡ found_among all_calls name
@@ -171,29 +171,29 @@ no_call name i h so_far = sym (at_drop_all (λ calls. found_among calls name) al
 abbrev pub of_parts : List ValueType → List ValueType → FunctionType
 of_parts p r = record { parameters = p; results = r }
 
-pub same_parts : (p q r s : List ValueType) → p ≡ q → r ≡ s → of_parts p r ≡ of_parts q s
-same_parts p q r s e f = rw (e, f) refl
+pub same_parts : {p q r s : List ValueType} → p ≡ q → r ≡ s → of_parts p r ≡ of_parts q s
+same_parts e f = rw (e, f) refl
 
 -- a type by its parts
 pub same_type : (t : FunctionType) (call : Call) → t.parameters ≡ parameters_of call
     → t.results ≡ result_types call → t ≡ call_type_of call
 same_type t call p r =
-    same_parts t.parameters (parameters_of call) t.results (result_types call) p r
+    same_parts p r
 
 -- an import's function has the type of the call
-pub type_there : (types : List FunctionType) (item : ImportItem) (x : ℕ) (signature : FunctionType)
+pub type_there : (types : List FunctionType) {item : ImportItem} {x : ℕ} (signature : FunctionType)
     → item ≡ import.Function x → IsItemOffered (Some signature) types item
     → slice_get types x ≡ Some signature
-type_there types item x signature e h = let P : ImportItem
+type_there types {item} signature e h = let P : ImportItem
     → Type 0 = λ item. IsItemOffered (Some signature) types item in subst P e h
 
-pub offered_at : (types : List FunctionType) (i : Import) (x : ℕ) (call : Call)
+pub offered_at : (types : List FunctionType) (i : Import) {x : ℕ} {call : Call}
     → Some call ≡ imported_call i → i.item ≡ import.Function x
     → slice_get types x ≡ Some (call_type_of call) → IsOffered offer types i
-offered_at types i x call named e at =
+offered_at types i {call} named e at =
     let P : ImportItem → Type 0 = λ item. IsItemOffered (Some (call_type_of call)) types item in
     let Q : Option FunctionType → Type 0 = λ o. IsItemOffered o types i.item in
-    subst Q (sym (offered_as i call named)) (subst P (sym e) at)
+    subst Q (sym (offered_as i named)) (subst P (sym e) at)
 
 pub no_function : (types : List FunctionType) (signature : FunctionType) (item : ImportItem)
     → ((x : ℕ) → item ≡ import.Function x → ⊥) → IsItemOffered (Some signature) types item → ⊥

@@ -52,7 +52,7 @@ pub record IsBodyOf (c : Context) (program : Program) (f : ℕ) (g : Function)
   pub body : HasBody c signature g.code
   pub is : slice_get program.functions f ≡ Some (Own signature g.code.locals body.sequence)
 
-module _ (code : Executable) (functions : List FunctionType) (program : Program)
+module _ {code : Executable} {functions : List FunctionType} {program : Program}
     (is : IsExecutable code functions program) where
   c : Context
   c = module_context code.«module» functions
@@ -64,20 +64,20 @@ module _ (code : Executable) (functions : List FunctionType) (program : Program)
   -- what is no own function is no function of the program's own
   pub not_own : (f : ℕ) → ((g : Function) → IsOwnAt code f g → ⊥) → IsOwn program f → ⊥
   not_own f none own =
-      let h = has_own code functions program is f own in
+      let h = has_own code functions program is own in
       none h.function (h.not_imported, h.function_there)
 
   -- the callee of an own function
   callee_of : (f : ℕ) (g : Function) → IsOwnAt code f g → (callee : Callee)
       → slice_get program.functions f ≡ Some callee → IsNumberedCallee code.«module» f callee
-      → (signature : FunctionType) → signature_of callee ≡ signature
+      → {signature : FunctionType} → signature_of callee ≡ signature
       → (body : Sequence) × (callee ≡ Own signature g.code.locals body) × Spells g.code.body body
-  callee_of f g at (Imported k) e n signature same =
+  callee_of f g at (Imported k) e n same =
       let low = n.0 in
       let high = at.0 in
       let count = calls_count code functions program is in
       absurd (omega (arith, low, high, count))
-  callee_of f g at (Own k declared body) e n signature same =
+  callee_of f g at (Own k declared body) e n {signature} same =
       let count = calls_count code functions program is in
       let number = n.2 in
       let place : f - length code.calls.items ≡ n.0 = omega (arith, count, number) in
@@ -100,10 +100,10 @@ module _ (code : Executable) (functions : List FunctionType) (program : Program)
       let all = functions_counted is.pages code.«module» program is.is_program in
       omega (arith, within, high, count, all)
 
-  signature_there : (f : ℕ) (callee : Callee) (signature : FunctionType)
+  signature_there : (f : ℕ) {callee : Callee} {signature : FunctionType}
       → slice_get program.functions f ≡ Some callee → Some signature ≡ slice_get functions f
       → signature_of callee ≡ signature
-  signature_there f callee signature e k =
+  signature_there f {callee} e k =
       let t = typed_code in
       let there : slice_get functions f ≡ Some (signature_of callee) =
       ap (λ z. slice_get z f) t.functions ∙ (slice_get-map signature_of program.functions f
@@ -111,10 +111,10 @@ module _ (code : Executable) (functions : List FunctionType) (program : Program)
       cc
 
   -- what an own function is
-  pub body_of : (f : ℕ) (g : Function) (signature : FunctionType) → IsOwnAt code f g
+  pub body_of : (f : ℕ) (g : Function) {signature : FunctionType} → IsOwnAt code f g
       → Some signature ≡ slice_get functions f
       → IsBodyOf (module_context code.«module» functions) program f g signature
-  body_of f g signature at k =
+  body_of f g {signature} at k =
       let within = some_callee f g at in
       found (slice_get program.functions f) refl (λ e. none_within within e)
     where
@@ -132,7 +132,7 @@ module _ (code : Executable) (functions : List FunctionType) (program : Program)
       found None e some = absurd (some e)
       found (Some callee) e some =
           let n = functions_numbered is.pages code.«module» program f callee is.is_program e in
-          let b = callee_of f g at callee e n signature (signature_there f callee signature e k) in
+          let b = callee_of f g at callee e n (signature_there f e k) in
           let there : slice_get program.functions f ≡ Some (Own signature g.code.locals b.0) =
           e ∙ ap Some b.1 in
           record {
@@ -145,9 +145,9 @@ module _ (code : Executable) (functions : List FunctionType) (program : Program)
           }
 
   -- a function gives one value at most
-  pub one_result : (f : ℕ) (signature : FunctionType) → Some signature ≡ slice_get functions f
+  pub one_result : (f : ℕ) {signature : FunctionType} → Some signature ≡ slice_get functions f
       → length signature.results ≤ 1
-  one_result f signature k =
+  one_result f {signature} k =
       let ready = is.routines.ready is.pages program functions is.few is.is_program is.types in
       all_at GivesOneAtMost functions f signature ready.functions (sym k)
 
@@ -160,16 +160,34 @@ module _ (code : Executable) (functions : List FunctionType) (program : Program)
 
 -- ---- one function only
 
-module _ (c : Context) (program : Program) (place : ShownFrame) (signature : FunctionType)
-    (declared : List ValueType) (body : Sequence)
+-- the function of a frame's place is the program's own
+pub own_in : {c : Context} {program : Program} {place : ShownFrame} → IsOwnPlace c program place
+    → IsOwn program place.function
+own_in own = record {
+  signature = own.signature;
+  declared = own.declared;
+  body = own.body;
+  is = own.is;
+}
+
+-- the frame fits its function, as the running one or as one that waits
+abbrev RunningIn : Context → ShownFrame → Callee → Type 0
+RunningIn c place (Imported k) = Unit {0}
+RunningIn c place (Own k d b) = FitsRunning (body_context c k d) b place
+
+abbrev WaitingIn : Context → ShownFrame → FunctionType → Callee → Type 0
+WaitingIn c place above (Imported k) = Unit {0}
+WaitingIn c place above (Own k d b) = FitsWaiting (body_context c k d) b place above
+
+module _ {c : Context} (program : Program) (place : ShownFrame) {signature : FunctionType}
+    {declared : List ValueType} {body : Sequence}
     (is : slice_get program.functions place.function ≡ Some (Own signature declared body)) where
   abbrev own_place : IsOwnPlace c program place
   own_place = record {
     signature = signature;
     declared = declared;
     body = body;
-    is =
-        is;
+    is = is;
     same = refl;
   }
 
@@ -177,45 +195,37 @@ module _ (c : Context) (program : Program) (place : ShownFrame) (signature : Fun
       → FitsTop c program place
   top_fits h = (own_place, h)
 
-  abbrev RunningIn : Callee → Type 0
-  RunningIn (Imported k) = Unit {0}
-  RunningIn (Own k d b) = FitsRunning (body_context c k d) b place
-
   pub top_runs : FitsTop c program place → FitsRunning (body_context c signature
       declared) body place
   top_runs h =
       let there = h.0.is in
       let same : Own h.0.signature h.0.declared h.0.body ≡ Own signature declared body = cc in
-      subst RunningIn same h.1
+      subst (RunningIn c place) same h.1
 
-  module _ (above : FunctionType) where
+  module _ {above : FunctionType} where
     pub below_fits : FitsWaiting (body_context c signature declared) body place above
         → FitsBelow c program above place
     below_fits h = (own_place, h)
-
-    abbrev WaitingIn : Callee → Type 0
-    WaitingIn (Imported k) = Unit {0}
-    WaitingIn (Own k d b) = FitsWaiting (body_context c k d) b place above
 
     pub below_waits : FitsBelow c program above place
         → FitsWaiting (body_context c signature declared) body place above
     below_waits h =
         let there = h.0.is in
         let same : Own h.0.signature h.0.declared h.0.body ≡ Own signature declared body = cc in
-        subst WaitingIn same h.1
+        subst (WaitingIn c place above) same h.1
 
 -- ---- what is at a position
 
 module _ (c : Context) (body : Sequence) (p : ℕ) (typed : IsTypedBody c body) where
   -- what remains begins with the opcode there
-  pub first_there : (i : Instruction) (s : Shape) → HasOpcode body p i
+  pub first_there : (i : Instruction) {s : Shape} → HasOpcode body p i
       → body_shape c body p ≡ Some s → IsFirst s.rest i
-  first_there i s at e = by_labels s.labels e
+  first_there i {s} at e = by_labels s.labels e
     where
       by_labels : (labels : List LabelShape) → HasShape c body p labels s.operands s.rest
           → IsFirst s.rest i
       by_labels [] e = let h = no_opcode_behind c body p s.operands s.rest typed e in
-          absurd (none_behind (opcodes_of body) p i h.0 at)
+          absurd (none_behind (opcodes_of body) p h.0 at)
       by_labels (label ∷ labels) e =
           let h = opcodes_first c body p label labels s.operands s.rest typed e in
           let known = h.1 in
@@ -223,9 +233,9 @@ module _ (c : Context) (body : Sequence) (p : ℕ) (typed : IsTypedBody c body) 
           subst (IsFirst s.rest) same h.2
 
   -- where something remains, an opcode is there
-  pub some_there : (s : Shape) → body_shape c body p ≡ Some s → s.rest ≢ Stop
+  pub some_there : {s : Shape} → body_shape c body p ≡ Some s → s.rest ≢ Stop
       → (i : Instruction) × HasOpcode body p i × IsFirst s.rest i
-  some_there s e more = by_labels s.labels e
+  some_there {s} e more = by_labels s.labels e
     where
       by_labels : (labels : List LabelShape) → HasShape c body p labels s.operands s.rest
           → (i : Instruction) × HasOpcode body p i × IsFirst s.rest i
@@ -255,14 +265,14 @@ stops_close rest i a b h e =
     ⊎_elim a b closing
 
 -- the shape that has these types
-shape_with : (o : Option Shape) (types : List ValueType) → Some types ≡ option_map types_in o
+shape_with : (o : Option Shape) {types : List ValueType} → Some types ≡ option_map types_in o
     → (s : Shape) × (o ≡ Some s) × (types_in s ≡ types)
-shape_with None types e = absurd (cc)
-shape_with (Some s) types e = (s, refl, (let same : types_in s ≡ types = cc in same))
+shape_with None e = absurd (cc)
+shape_with (Some s) {types} e = (s, refl, (let same : types_in s ≡ types = cc in same))
 
 -- ---- the running frame
 
-module _ (c : Context) (signature : FunctionType) (g : Function) (b : HasBody c signature g.code)
+module _ {c : Context} {signature : FunctionType} (g : Function) (b : HasBody c signature g.code)
     (place : ShownFrame) where
   abbrev inner : Context
   inner = body_context c signature g.code.locals
@@ -273,7 +283,7 @@ module _ (c : Context) (signature : FunctionType) (g : Function) (b : HasBody c 
   pub runs_more : FitsRunning (body_context c signature g.code.locals) b.sequence place
       → HasMore g.code.body place.position
   runs_more h =
-      let there = some_there inner b.sequence place.position b.typed h.shape h.reached h.more in
+      let there = some_there inner b.sequence place.position b.typed h.reached h.more in
       let open_ones = not_closing h.shape.rest there.0 h.more there.2 in (
         there.0,
         ap (λ z. slice_get z place.position) opcodes_are ∙ there.1,
@@ -287,33 +297,31 @@ module _ (c : Context) (signature : FunctionType) (g : Function) (b : HasBody c 
       let there = ap (option_map types_in) h.reached in
       absurd (cc)
 
-  module _ (types : List ValueType)
-      (found : Some types ≡ types_at (body_context c signature g.code.locals) b.sequence
-      place.position)
-    where
-      pub runs : HasMore g.code.body place.position
-          → AreWordsOf ((signature.parameters ++ g.code.locals) ++ types) place.slots
-          → FitsRunning (body_context c signature g.code.locals) b.sequence place
-      runs more words =
-          let s = shape_with (body_shape inner b.sequence place.position) types found in
-          let at : HasOpcode b.sequence place.position more.0 =
-          ap (λ z. slice_get z place.position) (sym opcodes_are) ∙ more.1 in
-          let first = first_there inner b.sequence place.position b.typed more.0 s.0 at s.1 in
-          record {
-            shape = s.0;
-            reached = s.1;
-            more = stops_close s.0.rest more.0 more.2 more.3 first;
-            words = subst (λ z. AreWordsOf ((signature.parameters ++ g.code.locals)
-                ++ z) place.slots) (sym s.2) words;
-          }
+  module _ {types : List ValueType} (found : Some types ≡ types_at
+      (body_context c signature g.code.locals) b.sequence place.position) where
+    pub runs : HasMore g.code.body place.position
+        → AreWordsOf ((signature.parameters ++ g.code.locals) ++ types) place.slots
+        → FitsRunning (body_context c signature g.code.locals) b.sequence place
+    runs more words =
+        let s = shape_with (body_shape inner b.sequence place.position) found in
+        let at : HasOpcode b.sequence place.position more.0 =
+        ap (λ z. slice_get z place.position) (sym opcodes_are) ∙ more.1 in
+        let first = first_there inner b.sequence place.position b.typed more.0 at s.1 in
+        record {
+          shape = s.0;
+          reached = s.1;
+          more = stops_close s.0.rest more.0 more.2 more.3 first;
+          words = subst (λ z. AreWordsOf ((signature.parameters ++ g.code.locals)
+              ++ z) place.slots) (sym s.2) words;
+        }
 
-      pub runs_words : FitsRunning (body_context c signature g.code.locals) b.sequence place
-          → AreWordsOf ((signature.parameters ++ g.code.locals) ++ types) place.slots
-      runs_words h =
-          let there = ap (option_map types_in) h.reached in
-          let same : types_in h.shape ≡ types = cc in
-          subst (λ z. AreWordsOf ((signature.parameters ++ g.code.locals)
-          ++ z) place.slots) same h.words
+    pub runs_words : FitsRunning (body_context c signature g.code.locals) b.sequence place
+        → AreWordsOf ((signature.parameters ++ g.code.locals) ++ types) place.slots
+    runs_words h =
+        let there = ap (option_map types_in) h.reached in
+        let same : types_in h.shape ≡ types = cc in
+        subst (λ z. AreWordsOf ((signature.parameters ++ g.code.locals)
+        ++ z) place.slots) same h.words
 
 -- ---- a frame that waits
 
@@ -444,7 +452,7 @@ takes_outside c signature declared (instr.Call x) above n h = h
 takes_outside c signature declared (instr.CallIndirect x) above n h = h
 takes_outside c signature declared _ above n h = absurd h
 
-module _ (c : Context) (signature : FunctionType) (g : Function) (b : HasBody c signature g.code)
+module _ {c : Context} {signature : FunctionType} (g : Function) (b : HasBody c signature g.code)
     (place : ShownFrame) (above : FunctionType) where
   abbrev waits_in : Context
   waits_in = body_context c signature g.code.locals
@@ -459,7 +467,7 @@ module _ (c : Context) (signature : FunctionType) (g : Function) (b : HasBody c 
   waits_there h =
       let more : h.shape.rest ≢ Stop = λ e.
       subst (λ z. IsCallOf waits_in z above h.takes h.rest) e h.calls in
-      let there = some_there waits_in b.sequence place.position b.typed h.shape h.reached more in (
+      let there = some_there waits_in b.sequence place.position b.typed h.reached more in (
         there.0,
         ap (λ z. slice_get z place.position) body_is ∙ there.1,
         length h.takes,
@@ -474,87 +482,83 @@ module _ (c : Context) (signature : FunctionType) (g : Function) (b : HasBody c 
       let there = ap (option_map types_in) h.reached in
       absurd (cc)
 
-  module _ (i : Instruction) (at : slice_get g.code.body place.position ≡ Some i) (n : ℕ)
-      (told : CallTakes c i above n) (types : List ValueType)
-      (found : Some types ≡ types_at (body_context c signature g.code.locals) b.sequence
-      place.position)
-    where
-      opcode : HasOpcode b.sequence place.position i
-      opcode = ap (λ z. slice_get z place.position) (sym body_is) ∙ at
+  module _ {i : Instruction} (at : slice_get g.code.body place.position ≡ Some i) (n : ℕ)
+      (told : CallTakes c i above n) {types : List ValueType} (found : Some types ≡ types_at
+      (body_context c signature g.code.locals) b.sequence place.position) where
+    opcode : HasOpcode b.sequence place.position i
+    opcode = ap (λ z. slice_get z place.position) (sym body_is) ∙ at
 
-      takes : CallTakes waits_in i above n
-      takes = takes_inside c signature g.code.locals i above n told
+    takes : CallTakes waits_in i above n
+    takes = takes_inside c signature g.code.locals i above n told
 
-      pub waits : AreWordsOf ((signature.parameters ++ g.code.locals)
-          ++ take (length types - n) types) place.slots
-          → FitsWaiting (body_context c signature g.code.locals) b.sequence place above
-      waits words =
-          let s = shape_with (body_shape waits_in b.sequence place.position) types found in
-          let first = first_there waits_in b.sequence place.position b.typed i s.0 opcode s.1 in
-          let t = reached_shapes_typed waits_in b.sequence place.position s.0 b.typed s.1 in
-          let k = called waits_in t.branches t.out i s.0.rest above n s.0.operands first takes
-          t.typed_rest in
-          let below = types_below s.0.labels in
-          let whole : types ≡ reverse ((k.takes ++ k.types) ++ below) =
-          sym s.2 ∙ ap (λ z. reverse (z ++ below)) k.split in
-          let types_left : take (length types - n) types ≡ reverse (k.types ++ below) =
-          ap (λ z. take (length z - n) z) whole
-          ∙ (ap (λ m. take (length (reverse ((k.takes ++ k.types) ++ below)) - m)
-          (reverse ((k.takes ++ k.types) ++ below))) (sym k.count)
-          ∙ left_below k.takes k.types below) in
-          record {
-            shape = s.0;
-            takes = k.takes;
-            types = k.types;
-            rest = k.after;
-            reached = s.1;
-            calls = k.calls;
-            split = k.split;
-            words = subst (λ z. AreWordsOf ((signature.parameters ++ g.code.locals)
-                ++ z) place.slots) types_left words;
-          }
+    pub waits : AreWordsOf ((signature.parameters ++ g.code.locals)
+        ++ take (length types - n) types) place.slots
+        → FitsWaiting (body_context c signature g.code.locals) b.sequence place above
+    waits words =
+        let s = shape_with (body_shape waits_in b.sequence place.position) found in
+        let first = first_there waits_in b.sequence place.position b.typed i opcode s.1 in
+        let t = reached_shapes_typed waits_in b.sequence place.position s.0 b.typed s.1 in
+        let k = called waits_in t.branches t.out i s.0.rest above n s.0.operands first takes
+        t.typed_rest in
+        let below = types_below s.0.labels in
+        let whole : types ≡ reverse ((k.takes ++ k.types) ++ below) =
+        sym s.2 ∙ ap (λ z. reverse (z ++ below)) k.split in
+        let types_left : take (length types - n) types ≡ reverse (k.types ++ below) =
+        ap (λ z. take (length z - n) z) whole
+        ∙ (ap (λ m. take (length (reverse ((k.takes ++ k.types) ++ below)) - m)
+        (reverse ((k.takes ++ k.types) ++ below))) (sym k.count)
+        ∙ left_below k.takes k.types below) in
+        record {
+          shape = s.0;
+          takes = k.takes;
+          types = k.types;
+          rest = k.after;
+          reached = s.1;
+          calls = k.calls;
+          split = k.split;
+          words = subst (λ z. AreWordsOf ((signature.parameters ++ g.code.locals)
+              ++ z) place.slots) types_left words;
+        }
 
-      -- so many operands there are
-      pub waits_words : FitsWaiting (body_context c signature g.code.locals) b.sequence place above
-          → (n ≤ length types)
-          × AreWordsOf ((signature.parameters ++ g.code.locals) ++ take (length types - n) types)
-          place.slots
-      waits_words h =
-          let there = ap (option_map types_in) h.reached in
-          let same : types_in h.shape ≡ types = cc in
-          let below = types_below h.shape.labels in
-          let whole : types ≡ reverse ((h.takes ++ h.types) ++ below) =
-          sym same ∙ ap (λ z. reverse (z ++ below)) h.split in
-          let first = first_there waits_in b.sequence place.position b.typed i h.shape opcode
-          h.reached
-          in
-          let count : n ≡ length h.takes = one_count waits_in i above n (length h.takes) takes
-          (taken_count waits_in i h.shape.rest h.rest above h.takes first h.calls) in
-          let types_left : reverse (h.types ++ below) ≡ take (length types - n) types =
-          sym (left_below h.takes h.types below)
-          ∙ (ap (λ m. take (length (reverse ((h.takes ++ h.types) ++ below)) - m)
-          (reverse ((h.takes ++ h.types) ++ below))) (sym count)
-          ∙ ap (λ z. take (length z - n) z) (sym whole)) in (
-            omega (arith, count, ap length whole, all_count h.takes h.types below),
-            subst (λ z. AreWordsOf ((signature.parameters ++ g.code.locals)
-                ++ z) place.slots) types_left
-                h.words,
-          )
+    -- so many operands there are
+    pub waits_words : FitsWaiting (body_context c signature g.code.locals) b.sequence place above
+        → (n ≤ length types)
+        × AreWordsOf ((signature.parameters ++ g.code.locals) ++ take (length types - n) types)
+        place.slots
+    waits_words h =
+        let there = ap (option_map types_in) h.reached in
+        let same : types_in h.shape ≡ types = cc in
+        let below = types_below h.shape.labels in
+        let whole : types ≡ reverse ((h.takes ++ h.types) ++ below) =
+        sym same ∙ ap (λ z. reverse (z ++ below)) h.split in
+        let first = first_there waits_in b.sequence place.position b.typed i opcode h.reached in
+        let count : n ≡ length h.takes = one_count waits_in i above n (length h.takes) takes
+        (taken_count waits_in i h.shape.rest h.rest above h.takes first h.calls) in
+        let types_left : reverse (h.types ++ below) ≡ take (length types - n) types =
+        sym (left_below h.takes h.types below)
+        ∙ (ap (λ m. take (length (reverse ((h.takes ++ h.types) ++ below)) - m)
+        (reverse ((h.takes ++ h.types) ++ below))) (sym count)
+        ∙ ap (λ z. take (length z - n) z) (sym whole)) in (
+          omega (arith, count, ap length whole, all_count h.takes h.types below),
+          subst (λ z. AreWordsOf ((signature.parameters ++ g.code.locals)
+              ++ z) place.slots) types_left
+              h.words,
+        )
 
 -- ---- the words that were compared
 
-pub same_words : (ps qs ls ms ts us : List ValueType) (words : List ℕ) (told : Bool)
+pub same_words : {ps qs ls ms ts us : List ValueType} (words : List ℕ) (told : Bool)
     → ps ≡ qs → ls ≡ ms → ts ≡ us → IsTrue told ↔ AreWordsOf ((ps ++ ls) ++ ts) words
     → IsTrue told ↔ AreWordsOf ((qs ++ ms) ++ us) words
-same_words ps qs ls ms ts us words told a b c h =
+same_words {qs} {ls} {ms} {ts} words told a b c h =
     subst (λ z. IsTrue told ↔ AreWordsOf ((qs ++ ms) ++ z) words) c
     (subst (λ z. IsTrue told ↔ AreWordsOf ((qs ++ z) ++ ts) words) b
     (subst (λ z. IsTrue told ↔ AreWordsOf ((z ++ ls) ++ ts) words) a h))
 
 -- where the opcode is no call of such a function, there is none
-pub none_there : (c : Context) (above : FunctionType) (i j : Instruction) (o : Option Instruction)
+pub none_there : (c : Context) (above : FunctionType) {i j : Instruction} {o : Option Instruction}
     → Some i ≡ o → o ≡ Some j → ((n : ℕ) → CallTakes c i above n → ⊥) → (n : ℕ)
     → CallTakes c j above n → ⊥
-none_there c above i j o e k none n h =
+none_there c above {i} {j} e k none n h =
     let same : j ≡ i = cc in
     none n (subst (λ z. CallTakes c z above n) same h)

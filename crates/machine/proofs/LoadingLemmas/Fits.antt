@@ -83,7 +83,7 @@ module _ (c : Context) (program : Program) (s : State) where
 
 -- ---- what is shown
 
-module _ (code : Executable) (s : State) (most : ℕ) (h : IsLoading code s most) where
+module _ {code : Executable} {s : State} {most : ℕ} (h : IsLoading code s most) where
   pub fits_show : FitsProgram (module_context code.«module» h.loaded.functions) h.loaded.program
       (machine_state_of (parts_of_state s))
       → ShowsSome (seen code s most)
@@ -92,7 +92,7 @@ module _ (code : Executable) (s : State) (most : ℕ) (h : IsLoading code s most
       let is_code = k.is_code k.functions k.program k.is in
       let ctx = module_context code.«module» k.functions in
       let d = fits_shown ctx k.program code.table.items (machine_state_of (parts_of_state s))
-      (typed_code code k.functions k.program is_code) (k.table k.functions k.program k.is) fits in
+      (typed_code is_code) (k.table k.functions k.program k.is) fits in
       record {
         program = k.program;
         configuration = d.0;
@@ -151,15 +151,14 @@ module _ (code : Executable) (s : State) (most : ℕ) (h : IsLoading code s most
         program = shown.program;
         is = v.is;
         own = h.own;
-        fits = least_fits code.«module» most v.functions shown.program v.is d.store.memory
-            w.typed.store.memory;
+        fits = least_fits code.«module» most v.functions shown.program v.is w.typed.store.memory;
         reduced = λ memory functions program is_memory is.
             let p = one_program code.«module» most v.functions functions shown.program program
             v.is is in
             let f = one_list code.«module» most v.functions functions shown.program program
             v.is is in
-            let own = reduced_with code s v.functions shown.program d stands memory w.reduced
-            (memory_in code.«module» most v.functions shown.program v.is memory is_memory) in
+            let own = reduced_with stands w.reduced (memory_in code.«module» most v.functions
+            shown.program v.is is_memory) in
             subst (λ q. IsReducedIn code (with_memory_of s memory) functions q) p
             (subst (λ fs. IsReducedIn code (with_memory_of s memory) fs shown.program) f own);
       }

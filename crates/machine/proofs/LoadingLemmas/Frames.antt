@@ -20,9 +20,9 @@ use Rattle.machine.specs.Loading.Checks.{FitsTop, FitsBelow}
 use Rattle.machine.proofs.LoadingLemmas.Words.{front_there}
 
 -- what is so far from the end is so far from the front
-pub from_end : {X : Type 0} (xs : List X) (i j : ℕ) (x : X) → slice_get (reverse xs) i ≡ Some x
+pub from_end : {X : Type 0} (xs : List X) (i j : ℕ) {x : X} → slice_get (reverse xs) i ≡ Some x
     → i + suc j ≡ length xs → slice_get xs j ≡ Some x
-from_end xs i j x e at =
+from_end xs i j {x} e at =
     let here : i < length xs = omega (arith, at) in
     let a = get_or-reverse xs i x here in
     let b = get_or_from_slice_get (reverse xs) i x x e in
@@ -51,10 +51,10 @@ one_signature c program place a b =
 
 module _ (c : Context) (program : Program) (places : List ShownFrame) where
   -- the running frame fits
-  pub begins : (top : ShownFrame) → slice_get places 0 ≡ Some top → FitsTop c program top
+  pub begins : {top : ShownFrame} → slice_get places 0 ≡ Some top → FitsTop c program top
       → SoFar c program places 1 top.function
-  begins top e fits =
-      let whole : places ≡ top ∷ drop 1 places = front_there places 0 top e in
+  begins {top} e fits =
+      let whole : places ≡ top ∷ drop 1 places = front_there places 0 e in
       record {
         place = top;
         is_above = refl;
@@ -67,17 +67,17 @@ module _ (c : Context) (program : Program) (places : List ShownFrame) where
             (one_signature c program top h.0 fits.0) h.2;
       }
 
-  pub no_begin : (top : ShownFrame) → slice_get places 0 ≡ Some top
+  pub no_begin : {top : ShownFrame} → slice_get places 0 ≡ Some top
       → FitFrames c program places → FitsTop c program top
-  no_begin top e all =
+  no_begin {top} e all =
       let h : FitFrames c program (top ∷ drop 1 places) =
-      subst (FitFrames c program) (front_there places 0 top e) all in
+      subst (FitFrames c program) (front_there places 0 e) all in
       (h.0, h.1)
 
-  module _ (number above : ℕ) (so_far : SoFar c program places number above) (q : ShownFrame)
+  module _ {number above : ℕ} (so_far : SoFar c program places number above) {q : ShownFrame}
       (there : slice_get places number ≡ Some q) where
     rest_is : drop number places ≡ q ∷ drop (suc number) places
-    rest_is = front_there places number q there
+    rest_is = front_there places number there
 
     -- one more frame fits
     pub goes_on : FitsBelow c program so_far.own.signature q
@@ -107,9 +107,9 @@ module _ (c : Context) (program : Program) (places : List ShownFrame) where
         subst (FitCallers c program so_far.own.signature) rest_is (so_far.back all) in
         (h.0, h.1)
 
-  pub all_fit : (number above : ℕ) → SoFar c program places number above
+  pub all_fit : {number above : ℕ} → SoFar c program places number above
       → length places ≤ number → FitFrames c program places
-  all_fit number above so_far past =
+  all_fit {number} so_far past =
       so_far.toward (subst (FitCallers c program so_far.own.signature)
       (sym (at_drop_all (λ ys. ys) places number past)) tt)
 
@@ -119,7 +119,7 @@ pub held_count : (frames : List StackFrame) (words : List ℕ) → AreStacked fr
     → slots_held (places_of frames words) ≡ length words
 held_count [] words h = ap length (sym h)
 held_count (frame ∷ frames) words h =
-    let parts = parts_of words h.0 h.1 frame.base h.2 h.3 in
+    let parts = parts_of h.0 h.1 h.2 h.3 in
     let more = held_count frames h.1 h.4 in
     let below : slots_held (places_of frames (drop (length words - frame.base) words))
     ≡ length h.1 = ap (λ z. slots_held (places_of frames z)) parts.back ∙ more in
@@ -140,7 +140,7 @@ pub few_of : (program : Program) (top : StackFrame) (frames : List StackFrame) (
     → length signature.parameters + length declared + top.base ≤ HELD_VALUES)
     → FewHeld program (places_of (top ∷ frames) words)
 few_of program top frames words h few = λ signature declared body is.
-    let parts = parts_of words h.0 h.1 top.base h.2 h.3 in
+    let parts = parts_of h.0 h.1 h.2 h.3 in
     let more = held_count frames h.1 h.4 in
     let below : slots_held (places_of frames (drop (length words - top.base) words))
     ≡ length h.1 = ap (λ z. slots_held (places_of frames z)) parts.back ∙ more in
@@ -154,7 +154,7 @@ pub few_top : (program : Program) (top : StackFrame) (frames : List StackFrame) 
     → slice_get program.functions top.function ≡ Some (Own signature declared body)
     → length signature.parameters + length declared + top.base ≤ HELD_VALUES
 few_top program top frames words h few signature declared body is =
-    let parts = parts_of words h.0 h.1 top.base h.2 h.3 in
+    let parts = parts_of h.0 h.1 h.2 h.3 in
     let more = held_count frames h.1 h.4 in
     let below : slots_held (places_of frames (drop (length words - top.base) words))
     ≡ length h.1 = ap (λ z. slots_held (places_of frames z)) parts.back ∙ more in
@@ -163,14 +163,14 @@ few_top program top frames words h few signature declared body is =
     omega (arith, below, own, base)
 
 -- the same of frames of which this is the first
-module _ (program : Program) (top : StackFrame) (frames : List StackFrame) (words : List ℕ)
+module _ (program : Program) {top : StackFrame} (frames : List StackFrame) (words : List ℕ)
     (e : slice_get frames 0 ≡ Some top) (h : AreStacked frames words) where
   pub few_held : ((signature : FunctionType) (declared : List ValueType) (body : Sequence)
       → slice_get program.functions top.function ≡ Some (Own signature declared body)
       → length signature.parameters + length declared + top.base ≤ HELD_VALUES)
       → FewHeld program (places_of frames words)
   few_held few =
-      let whole = front_there frames 0 top e in
+      let whole = front_there frames 0 e in
       let P : List StackFrame → Type 0 = λ z. FewHeld program (places_of z words) in
       let S : List StackFrame → Type 0 = λ z. AreStacked z words in
       subst P (sym whole) (few_of program top (drop 1 frames) words (subst S whole h) few)
@@ -180,7 +180,7 @@ module _ (program : Program) (top : StackFrame) (frames : List StackFrame) (word
       → slice_get program.functions top.function ≡ Some (Own signature declared body)
       → length signature.parameters + length declared + top.base ≤ HELD_VALUES
   few_there few =
-      let whole = front_there frames 0 top e in
+      let whole = front_there frames 0 e in
       let P : List StackFrame → Type 0 = λ z. FewHeld program (places_of z words) in
       let S : List StackFrame → Type 0 = λ z. AreStacked z words in
       few_top program top (drop 1 frames) words (subst S whole h) (subst P whole few)

@@ -37,24 +37,25 @@ if_err P Q (Err e) f h = f e h
 
 -- ---- an emptied machine
 
-loaded_code : (code : Executable) (s : State) (most : ℕ) → IsMachine code s most
+loaded_code : {code : Executable} {s : State} {most : ℕ} → IsMachine code s most
     → IsLoadedCode code most
-loaded_code code s most machine = record {
+loaded_code machine = record {
   functions = machine.functions;
   program = machine.program;
   is = machine.is;
   is_code = λ functions program is.
-      (reduced_zeroed code s most machine functions program is).stands.is_code;
+      (reduced_zeroed machine is).stands.is_code;
   table = λ functions program is.
-      let k = (reduced_zeroed code s most machine functions program is).stands.stands in
+      let k = (reduced_zeroed machine is).stands.stands in
       subst (AllByRecursion (IsTypedEntry program)) k.same_table k.typed.store.table;
 }
 
-pub loading_of : (code : Executable) (old new : State) (most : ℕ) → IsMachine code old most
+pub loading_of : {code : Executable} {old : State} (new : State) {most : ℕ} → IsMachine code old
+    most
     → new.frames ≡ [] → new.slots ≡ [] → new.memory.limit ≡ most
     → least_of code.«module» * page_size ≤ length new.memory.bytes → IsLoading code new most
-loading_of code old new most machine frames slots limit least = record {
-  loaded = loaded_code code old most machine;
+loading_of new machine frames slots limit least = record {
+  loaded = loaded_code machine;
   own = machine.own;
   stacked = subst (λ (z : List StackFrame). AreStacked z new.slots) (sym frames) slots;
   limit = limit;
@@ -151,7 +152,7 @@ module _ (code : Executable) (old new : State) (most word : ℕ)
 
 -- ---- other bytes in memory
 
-module _ (code : Executable) (s : State) (most least : ℕ) (memory : LinearMemory) (bytes : List ℕ)
+module _ {code : Executable} {s : State} {most least : ℕ} (memory : LinearMemory) (bytes : List ℕ)
     (r : Result (Unit {0}) LoadFault) where
   -- they are enough pages, or memory is as it was
   pub memory_loading : IsLoading code s most → least ≡ least_of code.«module»

@@ -19,36 +19,36 @@ words_count (t ∷ types) (w ∷ words) h = ap suc (words_count types words h.1)
 
 -- ---- one by one
 
-pub word_at : (types : List ValueType) (words : List ℕ) (i : ℕ) (t : ValueType) (w : ℕ)
+pub word_at : (types : List ValueType) (words : List ℕ) (i : ℕ) {t : ValueType} {w : ℕ}
     → AreWordsOf types words → slice_get types i ≡ Some t → slice_get words i ≡ Some w
     → IsOf t (value_of t w)
-word_at [] words i t w h e k = absurd (cc)
-word_at (u ∷ types) [] i t w h e k = absurd h
-word_at (u ∷ types) (v ∷ words) zero t w h e k =
+word_at [] words i h e k = absurd (cc)
+word_at (u ∷ types) [] i h e k = absurd h
+word_at (u ∷ types) (v ∷ words) zero {t} {w} h e k =
     let a : u ≡ t = cc in
     let b : v ≡ w = cc in
     subst (λ z. IsOf z (value_of z w)) a (subst (λ z. IsOf u (value_of u z)) b h.0)
-word_at (u ∷ types) (v ∷ words) (suc i) t w h e k = word_at types words i t w h.1 e k
+word_at (u ∷ types) (v ∷ words) (suc i) h e k = word_at types words i h.1 e k
 
-pub front_there : {X : Type 0} (xs : List X) (i : ℕ) (x : X) → slice_get xs i ≡ Some x
+pub front_there : {X : Type 0} (xs : List X) (i : ℕ) {x : X} → slice_get xs i ≡ Some x
     → drop i xs ≡ x ∷ drop (suc i) xs
-front_there [] i x e = absurd (cc)
-front_there (y ∷ xs) zero x e = let same : y ≡ x = cc in ap (λ z. z ∷ xs) same
-front_there (y ∷ xs) (suc i) x e = front_there xs i x e
+front_there [] i e = absurd (cc)
+front_there (y ∷ xs) zero {x} e = let same : y ≡ x = cc in ap (λ z. z ∷ xs) same
+front_there (y ∷ xs) (suc i) e = front_there xs i e
 
 -- where the words from here on are of their types, all are
 abbrev pub FromHere : List ValueType → List ℕ → ℕ → Type 0
 FromHere types words i = AreWordsOf (drop i types) (drop i words) → AreWordsOf types words
 
-pub one_more : (types : List ValueType) (words : List ℕ) (i : ℕ) (t : ValueType) (w : ℕ)
+pub one_more : (types : List ValueType) (words : List ℕ) (i : ℕ) {t : ValueType} {w : ℕ}
     → slice_get types i ≡ Some t → slice_get words i ≡ Some w → IsOf t (value_of t w)
     → FromHere types words i → FromHere types words (i + 1)
-one_more types words i t w e k h so_far = λ rest.
+one_more types words i {t} {w} e k h so_far = λ rest.
     let next : i + 1 ≡ suc i = omega arith in
     let here : AreWordsOf (t ∷ drop (suc i) types) (w ∷ drop (suc i) words) =
     (h, subst (λ n. AreWordsOf (drop n types) (drop n words)) next rest) in
-    so_far (subst (λ z. AreWordsOf z (drop i words)) (sym (front_there types i t e))
-    (subst (AreWordsOf (t ∷ drop (suc i) types)) (sym (front_there words i w k)) here))
+    so_far (subst (λ z. AreWordsOf z (drop i words)) (sym (front_there types i e)) (subst
+    (AreWordsOf (t ∷ drop (suc i) types)) (sym (front_there words i k)) here))
 
 pub all_here : (types : List ValueType) (words : List ℕ) (i : ℕ) → length types ≤ i
     → length words ≤ i → FromHere types words i → AreWordsOf types words

@@ -7,74 +7,49 @@ use Rattle.machine.proofs.execution.machine_loop.call.Goals as goal
 pub ask-requires : goal.ask-requires
 ask-requires c =
     let r = c.requires.stands in
-    let at = read_at c.as_slice.result.now c.args.code.now.calls.items c.args.function
-    c.in-Some.call.now c.as_slice.ensures.value c.in-Some.ensures.lookup.3.0
+    let at = read_at c.args.function c.as_slice.ensures.value c.in-Some.ensures.lookup.3.0
     c.in-Some.ensures.lookup.1 in
-    arguments_there c.args.code.now c.args.state.now r.functions r.program r.configuration r.stands
-    c.args.function c.args.state.now.slots c.in-Some.call.now 0 []
-    (direct_import c.args.code.now c.args.state.now r.functions r.program r.configuration r.stands
-    c.args.function c.in-Some.call.now c.requires.here at) refl refl
+    arguments_there r.stands 0 [] (direct_import r.stands c.requires.here at) refl refl
 
 pub routine_of-requires : goal.routine_of-requires
 routine_of-requires c =
     let r = c.requires.stands in
-    let at = none_at c.as_slice.result.now c.args.code.now.calls.items c.args.function
-    c.as_slice.ensures.value c.in-None.ensures.lookup.3 in
+    let at = none_at c.args.function c.as_slice.ensures.value c.in-None.ensures.lookup.3 in
     record {
       functions = r.functions;
       program = r.program;
       is_code = r.stands.is_code;
-      own = (direct_own c.args.code.now c.args.state.now r.functions r.program r.configuration
-          r.stands c.args.function c.requires.here at).own;
+      own = (direct_own r.stands c.requires.here at).own;
     }
 
 pub enter_or_trap-requires-clause-parameters : goal.enter_or_trap-requires-clause-parameters
 enter_or_trap-requires-clause-parameters c =
     let r = c.requires.stands in
-    let at = none_at c.as_slice.result.now c.args.code.now.calls.items c.args.function
-    c.as_slice.ensures.value c.in-None.ensures.lookup.3 in
-    enough c.args.code.now c.args.state.now r.functions r.program r.configuration r.stands
-    c.args.function c.args.state.now.slots
-    (direct_own c.args.code.now c.args.state.now r.functions r.program r.configuration r.stands
-    c.args.function c.requires.here at) c.routine_of.result.now c.routine_of.ensures
+    let at = none_at c.args.function c.as_slice.ensures.value c.in-None.ensures.lookup.3 in
+    enough r.stands (direct_own r.stands c.requires.here at) c.routine_of.ensures
 
 pub enter_or_trap-requires-clause-locals : goal.enter_or_trap-requires-clause-locals
 enter_or_trap-requires-clause-locals c =
     let r = c.requires.stands in
-    let at = none_at c.as_slice.result.now c.args.code.now.calls.items c.args.function
-    c.as_slice.ensures.value c.in-None.ensures.lookup.3 in
-    more_locals c.args.code.now c.args.state.now r.functions r.program r.configuration r.stands
-    c.args.function c.args.state.now.slots
-    (direct_own c.args.code.now c.args.state.now r.functions r.program r.configuration r.stands
-    c.args.function c.requires.here at) c.routine_of.result.now c.routine_of.ensures
+    let at = none_at c.args.function c.as_slice.ensures.value c.in-None.ensures.lookup.3 in
+    more_locals r.stands (direct_own r.stands c.requires.here at) c.routine_of.ensures
 
 pub enter_or_trap-requires-clause-few : goal.enter_or_trap-requires-clause-few
 enter_or_trap-requires-clause-few c =
     let r = c.requires.stands in
-    let at = none_at c.as_slice.result.now c.args.code.now.calls.items c.args.function
-    c.as_slice.ensures.value c.in-None.ensures.lookup.3 in
-    few_locals c.args.code.now c.args.state.now r.functions r.program r.configuration r.stands
-    c.args.function c.args.state.now.slots
-    (direct_own c.args.code.now c.args.state.now r.functions r.program r.configuration r.stands
-    c.args.function c.requires.here at) c.routine_of.result.now c.routine_of.ensures
+    let at = none_at c.args.function c.as_slice.ensures.value c.in-None.ensures.lookup.3 in
+    few_locals r.stands (direct_own r.stands c.requires.here at) c.routine_of.ensures
 
 pub returns-in-Some-clause-cycles : goal.returns-in-Some-clause-cycles
 returns-in-Some-clause-cycles c = λ functions program d stands.
-    let at = read_at c.as_slice.result.now c.args.code.now.calls.items c.args.function
-    c.in-Some.call.now c.as_slice.ensures.value c.in-Some.ensures.lookup.3.0
+    let at = read_at c.args.function c.as_slice.ensures.value c.in-Some.ensures.lookup.3.0
     c.in-Some.ensures.lookup.1 in
-    asked c.args.code.now c.args.state.now functions program d stands c.args.function
-    c.args.state.now.slots c.in-Some.call.now 0 c.args.fuel [] c.ask.result c.requires.some at
-    (direct_import c.args.code.now c.args.state.now functions program d stands c.args.function
-    c.in-Some.call.now c.requires.here at) refl refl c.ask.ensures.asks
+    asked stands 0 c.args.fuel [] c.ask.result c.requires.some at
+    (direct_import stands c.requires.here at) refl refl c.ask.ensures.asks
 
 pub returns-in-None-clause-cycles : goal.returns-in-None-clause-cycles
 returns-in-None-clause-cycles c = λ functions program d stands.
-    let at = none_at c.as_slice.result.now c.args.code.now.calls.items c.args.function
-    c.as_slice.ensures.value c.in-None.ensures.lookup.3 in
-    entered c.args.code.now c.args.state.now functions program d stands c.args.function
-    c.args.state.now.slots
-    (direct_own c.args.code.now c.args.state.now functions program d stands c.args.function
-    c.requires.here at) c.routine_of.result.now c.routine_of.ensures
-    c.args.fuel c.args.state.now c.enter_or_trap.new.state c.enter_or_trap.result c.requires.some
-    refl c.enter_or_trap.ensures
+    let at = none_at c.args.function c.as_slice.ensures.value c.in-None.ensures.lookup.3 in
+    entered stands (direct_own stands c.requires.here at) c.routine_of.ensures c.args.fuel
+    c.args.state.now c.enter_or_trap.new.state c.enter_or_trap.result c.requires.some refl
+    c.enter_or_trap.ensures

@@ -6,12 +6,10 @@ loop-more-init c = begins c.args.code.now c.args.state.now c.args.fuel
 
 pub loop-more-preserved : goal.loop-more-preserved
 loop-more-preserved c =
-    goes_on_to c.args.code.now c.args.state.now c.loop-more.state c.cycle.new.state c.args.fuel
-    c.loop-more.fuel_left c.in-On.more c.loop-more.invariant
+    goes_on_to c.cycle.new.state c.in-On.more c.loop-more.invariant
     (rw c.in-On.is at c.cycle.ensures.cycles)
 
 pub returns-in-Waits : goal.returns-in-Waits
 returns-in-Waits c =
-    pauses_now c.args.code.now c.args.state.now c.loop-more.state c.cycle.new.state c.args.fuel
-    c.loop-more.fuel_left c.in-Waits.paused c.loop-more.invariant
+    pauses_now c.cycle.new.state c.in-Waits.paused c.loop-more.invariant
     (rw c.in-Waits.is at c.cycle.ensures.cycles)

@@ -8,13 +8,12 @@ leave-requires c =
     let r = c.requires.stands in
     let f = first_of c.args.state.now.frames c.top-frame.result c.top-frame.ensures in
     over_leaves c.args.code.now c.args.state.now r.functions r.program r.configuration r.stands
-    c.top-frame.result f.0 f.1 c.requires.ends c.routine_of.result.now c.routine_of.ensures
+    c.top-frame.result f.0 f.1 c.requires.ends c.routine_of.ensures
 
 pub returns-clause-exited : goal.returns-clause-exited
 returns-clause-exited c = λ functions program d stands.
     let f = first_of c.args.state.now.frames c.top-frame.result c.top-frame.ensures in
-    over_exited c.args.code.now c.args.state.now functions program d stands c.top-frame.result f.0
-    c.routine_of.result.now f.1 c.routine_of.ensures c.leave.new.state
+    over_exited c.args.code.now c.args.state.now functions program d stands f.1 c.routine_of.ensures
     (c.leave.ensures c.top-frame.result f.0 f.1)
 
 pub returns-clause-less : goal.returns-clause-less

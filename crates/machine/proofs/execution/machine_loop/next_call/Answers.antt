@@ -7,9 +7,8 @@ use Rattle.machine.proofs.execution.machine_loop.next_call.Goals as goal
 pub returns-then-is_empty-clause-cycles : goal.returns-then-is_empty-clause-cycles
 returns-then-is_empty-clause-cycles c = λ functions program d stands.
     let none = none_left c.as_slice.result.now (sym c.if-is_empty.true ∙ c.is_empty.ensures) in
-    returned c.args.code.now c.args.state.now functions program d stands c.args.fuel
-    (has_ended c.args.code.now c.args.state.now functions program d stands c.requires.over
-    (sym c.as_slice.ensures.value ∙ none))
+    returned stands c.args.fuel (has_ended c.args.code.now c.args.state.now functions program d
+    stands c.requires.over (sym c.as_slice.ensures.value ∙ none))
 
 pub routine_of-routine-requires : goal.routine_of-routine-requires
 routine_of-routine-requires c =
@@ -27,10 +26,9 @@ push_zeros-requires c =
     let h = (calls c.args.code.now c.args.state.now r.functions r.program r.configuration r.stands
     c.in-Some.function c.pop.new.self.items c.requires.over c.in-Some.ensures.items) in
     let few = few_declared c.args.code.now c.args.state.now r.functions r.program r.configuration
-    r.stands c.in-Some.function c.pop.new.self.items h in
+    r.stands h in
     let count = host_comes c.args.code.now c.args.state.now r.functions r.program r.configuration
-    r.stands c.in-Some.function c.pop.new.self.items h c.routine_of-routine.result.now
-    c.routine_of-routine.ensures in
+    r.stands h c.routine_of-routine.ensures in
     let none : length c.args.state.now.slots ≡ 0 = ap length h.no_words in
     omega (arith, few, count, none)
 
@@ -38,9 +36,7 @@ pub returns-clause-cycles : goal.returns-clause-cycles
 returns-clause-cycles c = λ functions program d stands.
     let h = calls c.args.code.now c.args.state.now functions program d stands c.in-Some.function
     c.pop.new.self.items c.requires.over c.in-Some.ensures.items in
-    let count = host_comes c.args.code.now c.args.state.now functions program d stands
-    c.in-Some.function c.pop.new.self.items h c.routine_of-routine.result.now
+    let count = host_comes c.args.code.now c.args.state.now functions program d stands h
     c.routine_of-routine.ensures in
-    called_next c.args.code.now c.args.state.now functions program d stands c.args.fuel
-    c.in-Some.function c.pop.new.self.items h c.routine_of-routine.result.now.locals _ count
+    called_next c.args.code.now c.args.state.now functions program d stands c.args.fuel h _ count
     c.push.ensures c.push_zeros.ensures refl refl refl c.requires.over

@@ -5,8 +5,7 @@ use Rattle.machine.proofs.execution.machine_loop.opcode_cycle.Goals as goal
 
 pub halted_cycle-requires-clause-halted : goal.halted_cycle-requires-clause-halted
 halted_cycle-requires-clause-halted c =
-    halts_now c.args.code.now c.args.state.now c.advance-stop.new.state c.args.fuel
-    c.advance-stop.result c.requires.stands c.advance-stop.ensures.advances
+    halts_now c.requires.stands c.advance-stop.ensures.advances
 
 pub returns-clause-cycles : goal.returns-clause-cycles
 returns-clause-cycles c = λ functions program d stands.

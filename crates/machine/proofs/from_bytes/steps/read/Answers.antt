@@ -6,6 +6,5 @@ pub returns-in_err-validate-clause-only : goal.returns-in_err-validate-clause-on
 returns-in_err-validate-clause-only c =
     let p = err_from_is_err_and c.from_residual-in_err-validate.result
     c.from_residual-in_err-validate.ensures.1 in
-    rw (p.1, p.2)
-    (not_valid c.args.bytes.now c.in_ok-decoded.decoded c.in_ok-decoded.ensures.found.0
-    c.in_err-validate.field-0.0 c.in_err-validate.ensures.only)
+    rw (p.1, p.2) (not_valid c.in_ok-decoded.ensures.found.0 c.in_err-validate.field-0.0
+    c.in_err-validate.ensures.only)

@@ -3,5 +3,4 @@ use Rattle.machine.proofs.hosting.starting.begin.Goals as goal
 
 pub returns-clause-begun : goal.returns-clause-begun
 returns-clause-begun c =
-    begun c.args.pages c.args.«module» c.in_ok-instance.instance c.in_ok-prepare.field-0
-    c.requires.pages c.in_ok-instance.ensures.linked c.in_ok-prepare.ensures
+    begun c.requires.pages c.in_ok-instance.ensures.linked c.in_ok-prepare.ensures

@@ -14,7 +14,7 @@ returns-in_default-item c = record {
   offered = tt;
   refused = (
     call_type_of c.in-Some.call,
-    offered_as c.args.import.now c.in-Some.call (sym c.in-Some.is ∙ c.call_of.ensures),
+    offered_as c.args.import.now (sym c.in-Some.is ∙ c.call_of.ensures),
     no_function c.args.types.now (call_type_of c.in-Some.call) c.args.import.now.item
         c.in_default-item.not-Function,
   );
@@ -23,17 +23,15 @@ returns-in_default-item c = record {
 pub returns-in-Some-at-clause-offered : goal.returns-in-Some-at-clause-offered
 returns-in-Some-at-clause-offered c =
     let same = c.has_type.ensures.0 c.if-has_type.true in
-    offered_at c.args.types.now c.args.import.now c.in-Function.index c.in-Some.call
-    (sym c.in-Some.is ∙ c.call_of.ensures) c.in-Function.is (sym c.in-Some-at.ensures
-    ∙ ap Some same)
+    offered_at c.args.types.now c.args.import.now (sym c.in-Some.is ∙ c.call_of.ensures)
+    c.in-Function.is (sym c.in-Some-at.ensures ∙ ap Some same)
 
 pub returns-in_default-at-clause-refused : goal.returns-in_default-at-clause-refused
 returns-in_default-at-clause-refused c = (
   call_type_of c.in-Some.call,
-  offered_as c.args.import.now c.in-Some.call (sym c.in-Some.is ∙ c.call_of.ensures),
+  offered_as c.args.import.now (sym c.in-Some.is ∙ c.call_of.ensures),
   λ h.
-      let there = type_there c.args.types.now c.args.import.now.item c.in-Function.index
-      (call_type_of c.in-Some.call) c.in-Function.is h in
+      let there = type_there c.args.types.now (call_type_of c.in-Some.call) c.in-Function.is h in
       let read : Some c.in-Some-at.function_type.now
       ≡ slice_get c.args.types.now c.in-Function.index = c.in-Some-at.ensures in
       let same : c.in-Some-at.function_type.now ≡ call_type_of c.in-Some.call = cc in
@@ -45,10 +43,9 @@ returns-in_default-at-clause-refused c = (
 pub returns-in_default-at-2-clause-refused : goal.returns-in_default-at-2-clause-refused
 returns-in_default-at-2-clause-refused c = (
   call_type_of c.in-Some.call,
-  offered_as c.args.import.now c.in-Some.call (sym c.in-Some.is ∙ c.call_of.ensures),
+  offered_as c.args.import.now (sym c.in-Some.is ∙ c.call_of.ensures),
   λ h.
-      let there = type_there c.args.types.now c.args.import.now.item c.in-Function.index
-      (call_type_of c.in-Some.call) c.in-Function.is h in
+      let there = type_there c.args.types.now (call_type_of c.in-Some.call) c.in-Function.is h in
       let read : None ≡ slice_get c.args.types.now c.in-Function.index =
       ap option_copied (sym c.in_default-at.is) ∙ c.at.ensures in
       cc,

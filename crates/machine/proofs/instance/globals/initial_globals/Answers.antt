@@ -10,9 +10,9 @@ use Rattle.machine.proofs.instance.globals.initial_globals.Goals as goal
 pub unwrap-requires : goal.unwrap-requires
 unwrap-requires c =
     let P : Option Value → Type 0 = IsSome in
-    subst P (sym (c.initial_value.ensures ∙ ap (constant_of []) c.as_slice.ensures))
-    (initial_at c.args.globals.now c.requires.0 c.loop-global.global-index c.global-item.result
-    c.loop-global-test.true c.global-item.is c.requires.1)
+    subst P (sym (c.initial_value.ensures ∙ ap (constant_of []) c.as_slice.ensures)) (initial_at
+    c.args.globals.now c.requires.0 c.loop-global.global-index c.loop-global-test.true
+    c.global-item.is c.requires.1)
 
 pub returns : goal.returns
 returns c =

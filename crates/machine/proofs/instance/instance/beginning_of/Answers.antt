@@ -63,9 +63,8 @@ returns-clause-linked c =
       globals = c.in_ok-globals.globals;
       table = c.in_ok-table.table;
     } in
-    linked_by c.args.pages m (instance_of m b) refl c.in_ok-entry.ensures.prepared
-    (rw c.as_slice-constants.ensures at c.in_ok-globals.ensures)
-    (rw (
+    linked_by (instance_of m b) refl c.in_ok-entry.ensures.prepared
+    (rw c.as_slice-constants.ensures at c.in_ok-globals.ensures) (rw (
       c.as_slice-constants.ensures,
       c.as_slice-elements.ensures,
       c.as_slice-2.ensures,
@@ -82,26 +81,22 @@ pub returns-in_err-calls-clause-refused : goal.returns-in_err-calls-clause-refus
 returns-in_err-calls-clause-refused c =
     let p = err_from_is_err_and c.from_residual-in_err-calls.result
     c.from_residual-in_err-calls.ensures.1 in
-    rw (p.1, p.2) (could_be_linked c.args.pages c.args.module.now c.in_ok-entry.entry
-    c.in_ok-entry.ensures.prepared)
+    rw (p.1, p.2) (could_be_linked c.in_ok-entry.ensures.prepared)
 
 pub returns-in_err-globals-clause-refused : goal.returns-in_err-globals-clause-refused
 returns-in_err-globals-clause-refused c =
     let p = err_from_is_err_and c.from_residual-in_err-globals.result
     c.from_residual-in_err-globals.ensures.1 in
-    rw (p.1, p.2) (could_be_linked c.args.pages c.args.module.now c.in_ok-entry.entry
-    c.in_ok-entry.ensures.prepared)
+    rw (p.1, p.2) (could_be_linked c.in_ok-entry.ensures.prepared)
 
 pub returns-in_err-table-clause-refused : goal.returns-in_err-table-clause-refused
 returns-in_err-table-clause-refused c =
     let p = err_from_is_err_and c.from_residual-in_err-table.result
     c.from_residual-in_err-table.ensures.1 in
-    rw (p.1, p.2) (could_be_linked c.args.pages c.args.module.now c.in_ok-entry.entry
-    c.in_ok-entry.ensures.prepared)
+    rw (p.1, p.2) (could_be_linked c.in_ok-entry.ensures.prepared)
 
 pub returns-in_err-memory-clause-refused : goal.returns-in_err-memory-clause-refused
 returns-in_err-memory-clause-refused c =
     let p = err_from_is_err_and c.from_residual-in_err-memory.result
     c.from_residual-in_err-memory.ensures.1 in
-    rw (p.1, p.2) (could_be_linked c.args.pages c.args.module.now c.in_ok-entry.entry
-    c.in_ok-entry.ensures.prepared)
+    rw (p.1, p.2) (could_be_linked c.in_ok-entry.ensures.prepared)

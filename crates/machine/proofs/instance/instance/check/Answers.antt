@@ -24,7 +24,7 @@ returns-in_err-check_imports-clause-refused c =
     let refused : AreImportsRefused m.types m.imports e =
     subst I c.as_slice-2.ensures
     (subst T c.as_slice.ensures c.in_err-check_imports.ensures.refused) in
-    rw (p.1, p.2) (imports_refused c.args.pages m e (
+    rw (p.1, p.2) (imports_refused c.args.pages e (
       c.in-Some.entry,
       c.in-Some.ensures.found,
     ) (c.exports_memory.ensures.0 c.if-not-exports_memory.false)
@@ -40,7 +40,7 @@ returns-in_err-check_imports-clause-known c =
     let refused : AreImportsRefused m.types m.imports e =
     subst I c.as_slice-2.ensures
     (subst T c.as_slice.ensures c.in_err-check_imports.ensures.refused) in
-    rw (p.1, p.2) (imports_refused c.args.pages m e (
+    rw (p.1, p.2) (imports_refused c.args.pages e (
       c.in-Some.entry,
       c.in-Some.ensures.found,
     ) (c.exports_memory.ensures.0 c.if-not-exports_memory.false)

@@ -14,9 +14,9 @@ returns-then-not-is_inside c = λ values filled initial n. (
       let all = some_of _ some in
       let e = c.element-item.result in
       let inside =
-      of_all (IsElementInside values c.args.size) c.args.elements.now
-      c.loop-element.element-index e c.loop-element-test.true c.element-item.is
-      (inside_from_table values c.args.elements.now filled all.0 c.args.size n all.1) in
+      of_all (IsElementInside values c.args.size) c.args.elements.now c.loop-element.element-index e
+      c.loop-element-test.true c.element-item.is
+      (inside_from_table values c.args.elements.now filled n all.1) in
       let O : List Instruction → Type 0 = λ o. IsInside values o (length e.functions) c.args.size in
       let N : ℕ → Type 0 = λ count. IsInside values c.as_slice.result.now count c.args.size in
       let yes_it_is =
@@ -28,8 +28,8 @@ returns-then-not-is_inside c = λ values filled initial n. (
 
 pub returns : goal.returns
 returns c = λ values filled initial n. (
-  λ t. table_from_inside values c.args.elements.now filled c.args.size n
-      (passed (IsElementInside values c.args.size) c.args.elements.now c.loop-element.element-index
+  λ t. table_from_inside values c.args.elements.now filled n (passed
+      (IsElementInside values c.args.size) c.args.elements.now c.loop-element.element-index
       c.loop-element-test.false (c.loop-element.invariant values initial)),
   λ some. refl,
 )

@@ -34,8 +34,8 @@ returns-then-are_elements_inside c =
     (ap (λ ms. length (empty_memory ms)) (sym c.as_slice-2.ensures)
     ∙ (ap length c.first_pages.ensures.empty
     ∙ length-replicate (c.first_pages.result * 65536) 0))) in
-    begins_by m c.requires.valid c.requires.offered c.are_elements_inside.result
-    c.is_data_inside.result elements segments c.if-are_elements_inside.true
+    begins_by c.requires.valid c.requires.offered c.is_data_inside.result elements segments
+    c.if-are_elements_inside.true
 
 pub returns-else-are_elements_inside : goal.returns-else-are_elements_inside
 returns-else-are_elements_inside c =
@@ -49,5 +49,4 @@ returns-else-are_elements_inside c =
     subst E c.as_slice-3.ensures (c.are_elements_inside.ensures values (empty_table m.tables)
     (subst G (sym c.as_slice-globals.ensures) initial) (ap (λ ts. length (empty_table ts))
     (sym c.as_slice.ensures) ∙ c.table_size-entries.ensures)) in
-    begins_nowhere m c.requires.offered c.are_elements_inside.result elements
-    c.if-are_elements_inside.false
+    begins_nowhere m c.requires.offered elements c.if-are_elements_inside.false

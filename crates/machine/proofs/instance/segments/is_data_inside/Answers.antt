@@ -14,9 +14,9 @@ returns-then-not-is_inside c = λ values filled initial n. (
       let all = some_of _ some in
       let e = c.segment-item.result in
       let inside =
-      of_all (IsDataInside values c.args.size) c.args.segments.now c.loop-segment.segment-index
-      e c.loop-segment-test.true c.segment-item.is
-      (inside_from_memory values c.args.segments.now filled all.0 c.args.size n all.1) in
+      of_all (IsDataInside values c.args.size) c.args.segments.now c.loop-segment.segment-index e
+      c.loop-segment-test.true c.segment-item.is
+      (inside_from_memory values c.args.segments.now filled n all.1) in
       let O : List Instruction → Type 0 = λ o. IsInside values o (length e.bytes) c.args.size in
       let N : ℕ → Type 0 = λ count. IsInside values c.as_slice.result.now count c.args.size in
       let yes_it_is =
@@ -28,8 +28,8 @@ returns-then-not-is_inside c = λ values filled initial n. (
 
 pub returns : goal.returns
 returns c = λ values filled initial n. (
-  λ t. memory_from_inside values c.args.segments.now filled c.args.size n
-      (passed (IsDataInside values c.args.size) c.args.segments.now c.loop-segment.segment-index
+  λ t. memory_from_inside values c.args.segments.now filled n (passed
+      (IsDataInside values c.args.size) c.args.segments.now c.loop-segment.segment-index
       c.loop-segment-test.false (c.loop-segment.invariant values initial)),
   λ some. refl,
 )

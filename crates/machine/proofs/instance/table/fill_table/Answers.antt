@@ -9,7 +9,7 @@ loop-element-preserved c = λ values filled initial fills.
     let table = c.loop-element.table in
     let from = c.unwrap-from.result in
     let functions = c.as_slice-in-loop-element.result.now in
-    let f = element_next values c.args.elements.now c.loop-element.element-index e table filled
+    let f = element_next values c.args.elements.now c.loop-element.element-index table
     c.loop-element-test.true c.element-item.is
     (c.loop-element.invariant values filled initial fills) in
     let at : offset_of values e.offset ≡ Some from = ap (offset_of values) (sym c.as_slice.ensures)

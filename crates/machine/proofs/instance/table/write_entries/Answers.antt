@@ -9,5 +9,5 @@ loop-i-preserved c =
     let functions = c.args.functions.now in
     let f = get_or functions i 0 in
     let within : c.args.from + i < length c.loop-i.table = omega arith in
-    put_next c.loop-i.table functions i c.args.from f c.loop-i-test.true
+    put_next c.loop-i.table functions i c.args.from c.loop-i-test.true
     (get_or_default functions i 0 f c.loop-i-test.true) within ∙ c.loop-i.invariant

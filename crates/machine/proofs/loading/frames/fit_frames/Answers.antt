@@ -21,9 +21,9 @@ returns-then-not-runs c = λ functions program looks. (
       let len = c.len-count.ensures.len in
       let some = c.if-count-eq0.false in
       let size : (c.len-count.result - 1) + 1 ≡ length places = grind (arith, nat_tests) in
-      let there = from_end places (c.len-count.result - 1) 0 top c.lent_frame_at-top.ensures size in
+      let there = from_end places (c.len-count.result - 1) 0 c.lent_frame_at-top.ensures size in
       let yes = (c.in_ok-runs.ensures functions program looks).1
-      (no_begin ctx program places top there fits) in
+      (no_begin ctx program places there fits) in
       let none = c.if-not-runs.true in
       cc,
 )
@@ -37,9 +37,9 @@ loop-number-init c = λ functions program looks.
     let len = c.len-count.ensures.len in
     let some = c.if-count-eq0.false in
     let size : (c.len-count.result - 1) + 1 ≡ length places = grind (arith, nat_tests) in
-    let there = from_end places (c.len-count.result - 1) 0 top c.lent_frame_at-top.ensures size in
-    begins ctx program places top there
-    ((c.in_ok-runs.ensures functions program looks).0 c.if-not-runs.false)
+    let there = from_end places (c.len-count.result - 1) 0 c.lent_frame_at-top.ensures size in
+    begins ctx program places there ((c.in_ok-runs.ensures functions program looks).0
+    c.if-not-runs.false)
 
 pub returns-in_default : goal.returns-in_default
 returns-in_default c = λ functions program looks. (
@@ -49,7 +49,7 @@ returns-in_default c = λ functions program looks. (
       let so_far = c.loop-number.invariant functions program looks in
       let none = c.in_default.ensures ctx looks.looked_up in
       let own = so_far.own in
-      let some = own_signature c.args.code.now functions program looks.is_code so_far.place.function
+      let some = own_signature looks.is_code so_far.place.function
       (record {
         signature = own.signature;
         declared = own.declared;
@@ -74,12 +74,12 @@ returns-then-not-waits c = λ functions program looks. (
       let within = c.loop-number-test.true in
       let size : (c.len-count.result - 1 - n) + suc n ≡ length places =
       omega (arith, count, len, within) in
-      let there = from_end places (c.len-count.result - 1 - n) n place c.lent_frame_at-place.ensures
-      size in
+      let there = from_end places (c.len-count.result - 1 - n) n c.lent_frame_at-place.ensures size
+      in
       let so_far = c.loop-number.invariant functions program looks in
       let own = so_far.own in
       let known = c.in-Some.ensures ctx looks.looked_up in
-      let some = own_signature c.args.code.now functions program looks.is_code so_far.place.function
+      let some = own_signature looks.is_code so_far.place.function
       (record {
         signature = own.signature;
         declared = own.declared;
@@ -89,9 +89,9 @@ returns-then-not-waits c = λ functions program looks. (
       }) in
       let at = so_far.is_above in
       let signature : own.signature ≡ c.in-Some.called.now = cc in
-      let yes = (c.in_ok-waits.ensures functions program looks).1
-      (subst (λ k. FitsBelow ctx program k place) signature
-      (stops ctx program places n c.loop-number.above so_far place there fits)) in
+      let yes = (c.in_ok-waits.ensures functions program looks).1 (subst
+      (λ k. FitsBelow ctx program k place) signature (stops ctx program places so_far there fits))
+      in
       let none = c.if-not-waits.true in
       cc,
 )
@@ -107,17 +107,15 @@ loop-number-preserved c = λ functions program looks.
     let within = c.loop-number-test.true in
     let size : (c.len-count.result - 1 - n) + suc n ≡ length places =
     omega (arith, count, len, within) in
-    let there = from_end places (c.len-count.result - 1 - n) n place c.lent_frame_at-place.ensures
-    size in
+    let there = from_end places (c.len-count.result - 1 - n) n c.lent_frame_at-place.ensures size in
     let so_far = c.loop-number.invariant functions program looks in
     let own = so_far.own in
     let known = c.in-Some.ensures ctx looks.looked_up in
-    let some = own_signature c.args.code.now functions program looks.is_code so_far.place.function
+    let some = own_signature looks.is_code so_far.place.function
     (record { signature = own.signature; declared = own.declared; body = own.body; is = own.is }) in
     let at = so_far.is_above in
     let signature : c.in-Some.called.now ≡ own.signature = cc in
-    goes_on ctx program places n c.loop-number.above so_far place there
-    (subst (λ k. FitsBelow ctx program k place) signature
+    goes_on ctx program places so_far there (subst (λ k. FitsBelow ctx program k place) signature
     ((c.in_ok-waits.ensures functions program looks).0 c.if-not-waits.false))
 
 pub returns : goal.returns
@@ -127,6 +125,6 @@ returns c = λ functions program looks.
     let count = places_count c.args.frames.now c.args.slots.now in
     let len = c.len-count.ensures.len in
     let past = c.loop-number-test.false in
-    let all = all_fit ctx program places c.loop-number.number c.loop-number.above
-    (c.loop-number.invariant functions program looks) (omega (arith, count, len, past)) in
+    let all = all_fit ctx program places (c.loop-number.invariant functions program looks)
+    (omega (arith, count, len, past)) in
     (λ _. all, λ _. refl)

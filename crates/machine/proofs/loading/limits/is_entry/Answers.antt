@@ -9,7 +9,7 @@ use Rattle.machine.proofs.loading.limits.is_entry.Goals as goal
 pub returns-in_default : goal.returns-in_default
 returns-in_default c = λ functions program looks. (
   λ t. absurd (is_false t),
-  λ entry. absurd (not_own c.args.code.now functions program looks.is_code c.args.function
+  λ entry. absurd (not_own looks.is_code c.args.function
       (λ g at. let e = (c.in_default.ensures g).1 at in absurd (cc))
       (record { signature = entry.0; declared = entry.1; body = entry.2; is = entry.3 })),
 )
@@ -20,7 +20,7 @@ returns-in_default-function_type c = λ functions program looks. (
   λ entry.
       let ctx = module_context c.args.code.now.«module» functions in
       let none = c.in_default-function_type.ensures ctx looks.looked_up in
-      let some = own_signature c.args.code.now functions program looks.is_code c.args.function
+      let some = own_signature looks.is_code c.args.function
       (record { signature = entry.0; declared = entry.1; body = entry.2; is = entry.3 }) in
       absurd (cc),
 )
@@ -31,7 +31,7 @@ returns c = λ functions program looks.
     let g = c.in-Some.field-0.now in
     let signature = c.in-Some-function_type.function_type.now in
     let k = c.in-Some-function_type.ensures ctx looks.looked_up in
-    let b = body_of c.args.code.now functions program looks.is_code c.args.function g signature
+    let b = body_of looks.is_code c.args.function g
     ((c.in-Some.ensures g).0 refl) k in
     let none = empty_iff c.as_slice.result.now c.is_empty.result c.is_empty.ensures in (
       λ t. (signature, g.code.locals, b.body.sequence, b.is, sym c.as_slice.ensures ∙ none.0 t),

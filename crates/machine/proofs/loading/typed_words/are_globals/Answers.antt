@@ -38,7 +38,7 @@ returns-then-not-is_of c = (
       let item = sym c.in-Some.ensures in
       let a = slice_get-map value_type_of types n ∙ ap (option_map value_type_of) item in
       let b = slice_get-get_or words n 0 (omega (arith, counted, mapped, within)) in
-      let yes = c.is_of.ensures.1 (word_at (map value_type_of types) words n _ _ h a b) in
+      let yes = c.is_of.ensures.1 (word_at (map value_type_of types) words n h a b) in
       let none = c.if-not-is_of.true in
       cc,
 )
@@ -54,7 +54,7 @@ loop-place-preserved c =
     let item = sym c.in-Some.ensures in
     let a = slice_get-map value_type_of types n ∙ ap (option_map value_type_of) item in
     let b = slice_get-get_or words n 0 (omega (arith, same, within)) in
-    one_more (map value_type_of types) words n _ _ a b (c.is_of.ensures.0 c.if-not-is_of.false)
+    one_more (map value_type_of types) words n a b (c.is_of.ensures.0 c.if-not-is_of.false)
     c.loop-place.invariant
 
 pub returns : goal.returns

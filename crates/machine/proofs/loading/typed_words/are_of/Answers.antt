@@ -26,7 +26,7 @@ returns-then-not-is_of c = (
       let within = c.loop-place-test.true in
       let a = slice_get-get_or types n I32 within in
       let b = slice_get-get_or words n 0 (omega (arith, same, within)) in
-      let yes = c.is_of.ensures.1 (word_at types words n _ _ h a b) in
+      let yes = c.is_of.ensures.1 (word_at types words n h a b) in
       let none = c.if-not-is_of.true in
       cc,
 )
@@ -41,7 +41,7 @@ loop-place-preserved c =
     let within = c.loop-place-test.true in
     let a = slice_get-get_or types n I32 within in
     let b = slice_get-get_or words n 0 (omega (arith, same, within)) in
-    one_more types words n _ _ a b (c.is_of.ensures.0 c.if-not-is_of.false) c.loop-place.invariant
+    one_more types words n a b (c.is_of.ensures.0 c.if-not-is_of.false) c.loop-place.invariant
 
 pub returns : goal.returns
 returns c =

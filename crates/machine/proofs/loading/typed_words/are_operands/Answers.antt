@@ -40,7 +40,7 @@ returns-then-not-is_of c = (
       let within = c.loop-place-test.true in
       let a = taken_at types c.args.count n within ∙ sym c.in-Some.ensures in
       let b = slice_get-get_or words n 0 (omega (arith, counted, taken, within)) in
-      let yes = c.is_of.ensures.1 (word_at (take c.args.count types) words n _ _ h a b) in
+      let yes = c.is_of.ensures.1 (word_at (take c.args.count types) words n h a b) in
       let none = c.if-not-is_of.true in
       cc,
 )
@@ -55,7 +55,7 @@ loop-place-preserved c =
     let within = c.loop-place-test.true in
     let a = taken_at types c.args.count n within ∙ sym c.in-Some.ensures in
     let b = slice_get-get_or words n 0 (omega (arith, same, within)) in
-    one_more (take c.args.count types) words n _ _ a b (c.is_of.ensures.0 c.if-not-is_of.false)
+    one_more (take c.args.count types) words n a b (c.is_of.ensures.0 c.if-not-is_of.false)
     c.loop-place.invariant
 
 pub returns : goal.returns

@@ -7,7 +7,7 @@ use Rattle.machine.proofs.running_machine.Machine.frame.Goals as goal
 
 pub lent_frame_at-requires-clause-stacked : goal.lent_frame_at-requires-clause-stacked
 lent_frame_at-requires-clause-stacked c =
-    stacked c.self.inside.code c.self.inside.state c.self.inside.most_pages c.self.invariant
+    stacked c.self.invariant
 
 pub lent_frame_at-requires-clause-inside : goal.lent_frame_at-requires-clause-inside
 lent_frame_at-requires-clause-inside c =

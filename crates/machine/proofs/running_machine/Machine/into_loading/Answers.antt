@@ -8,20 +8,17 @@ use Rattle.machine.proofs.running_machine.Machine.into_loading.Goals as goal
 
 pub invariant_of-result : goal.invariant_of-result
 invariant_of-result c =
-    let held = still_holds c.self.inside.code c.self.inside.state c.clear.new.state
-    c.self.inside.most_pages c.clear.ensures (subst HoldsMemory (sym c.self.view_is) c.requires) in
-    loading_of c.self.inside.code c.self.inside.state (record {
+    let held = still_holds c.self.inside.code c.self.inside.most_pages c.clear.ensures
+    (subst HoldsMemory (sym c.self.view_is) c.requires) in
+    loading_of (record {
       frames = c.clear.new.state.frames;
       slots = c.clear.new.state.slots;
       globals = c.clear-2.new.self;
       memory = c.clear.new.state.memory;
       later = c.clear.new.state.later;
-    }) c.self.inside.most_pages c.self.invariant c.clear.ensures.frames c.clear.ensures.slots
-    held.limit held.least
+    }) c.self.invariant c.clear.ensures.frames c.clear.ensures.slots held.limit held.least
 
 pub returns-clause-valid : goal.returns-clause-valid
 returns-clause-valid c =
     let P : MachineValue → Type 0 = λ v. IsValid v.guest in
-    subst P c.self.view_is
-    (valid_module c.self.inside.code c.self.inside.state c.self.inside.most_pages
-    c.self.invariant)
+    subst P c.self.view_is (valid_module c.self.invariant)

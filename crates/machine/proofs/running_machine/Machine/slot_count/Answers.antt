@@ -9,5 +9,5 @@ pub returns-clause-count : goal.returns-clause-count
 returns-clause-count c =
     let s = c.self.inside.state in
     let P : MachineValue → Type 0 = λ v. c.len.result ≡ slots_held v.state.frames in
-    subst P c.self.view_is (c.len.ensures.len ∙ sym (held_count s.frames s.slots
-    (stacked c.self.inside.code s c.self.inside.most_pages c.self.invariant)))
+    subst P c.self.view_is (c.len.ensures.len ∙ sym
+    (held_count s.frames s.slots (stacked c.self.invariant)))

@@ -13,9 +13,7 @@ returns-then-told-clause-shows c =
     (sym k.is.is_program.least_pages) h.least in
     let told = c.in_ok-told.ensures k.functions k.program (k.is_code k.functions k.program k.is)
     (h.limit ∙ sym k.is.most) enough in
-    subst ShowsSome c.self.view_is
-    (fits_show c.self.inside.code c.self.inside.state c.self.inside.most_pages h
-    (told.0 c.if-told.true))
+    subst ShowsSome c.self.view_is (fits_show h (told.0 c.if-told.true))
 
 pub returns-else-told-clause-refused : goal.returns-else-told-clause-refused
 returns-else-told-clause-refused c = λ shown.
@@ -26,7 +24,6 @@ returns-else-told-clause-refused c = λ shown.
     (sym k.is.is_program.least_pages) h.least in
     let told = c.in_ok-told.ensures k.functions k.program (k.is_code k.functions k.program k.is)
     (h.limit ∙ sym k.is.most) enough in
-    let yes = told.1 (shown_fit c.self.inside.code c.self.inside.state c.self.inside.most_pages h
-    (subst ShowsSome (sym c.self.view_is) shown)) in
+    let yes = told.1 (shown_fit h (subst ShowsSome (sym c.self.view_is) shown)) in
     let none = c.if-told.false in
     absurd (cc)

@@ -5,5 +5,4 @@ use Rattle.machine.proofs.loading.loading.Loading.finish.Goals as goal
 
 pub invariant_of-result : goal.invariant_of-result
 invariant_of-result c =
-    machine_made c.self.inside.code c.self.inside.state c.self.inside.most_pages c.self.invariant
-    (subst ShowsSome (sym c.self.view_is) c.in-Ok.ensures.shows)
+    machine_made c.self.invariant (subst ShowsSome (sym c.self.view_is) c.in-Ok.ensures.shows)

@@ -25,7 +25,6 @@ returns-clause-refused c =
 
 pub invariant_of-self : goal.invariant_of-self
 invariant_of-self c =
-    memory_loading c.self.inside.code c.self.inside.state c.self.inside.most_pages
-    c.first_pages-least.result c.set_bytes.new.memory c.args.bytes.now c.set_bytes.result
-    c.self.invariant (least_is c) c.set_bytes.ensures.bytes c.set_bytes.ensures.limit
-    c.set_bytes.ensures.enough c.set_bytes.ensures.kept
+    memory_loading c.set_bytes.new.memory c.args.bytes.now c.set_bytes.result c.self.invariant
+    (least_is c) c.set_bytes.ensures.bytes c.set_bytes.ensures.limit c.set_bytes.ensures.enough
+    c.set_bytes.ensures.kept
