@@ -66,13 +66,7 @@ traps = trap.Unreachable ∷ trap.Unreachable ∷ trap.DivideByZero ∷ trap.Int
 
 at_its_number : (why : Trap) → slice_get traps (trap_number why) ≡ Some why
 at_its_number trap.Unreachable = refl
-at_its_number trap.DivideByZero = refl
-at_its_number trap.IntegerOverflow = refl
-at_its_number trap.MemoryOutOfBounds = refl
-at_its_number trap.UndefinedElement = refl
-at_its_number trap.UninitializedElement = refl
-at_its_number trap.IndirectCallTypeMismatch = refl
-at_its_number trap.StackExhausted = refl
+at_its_number _ = refl
 
 same_trap : (a b : Trap) → trap_number a ≡ trap_number b → a ≡ b
 same_trap a b e = let same : Some a ≡ Some b = sym (at_its_number a) ∙ ap (slice_get traps) e

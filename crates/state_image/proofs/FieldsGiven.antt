@@ -26,7 +26,6 @@ use Rattle.state_image.proofs.Fields.{Tells, cut, byte_field, number_field, coun
 use Rattle.state_image.proofs.Counts.{SameCounts, same_counts, SamePhase, same_phase}
 use Rattle.state_image.proofs.Counts.{SameStreams, same_streams}
 use Rattle.state_image.proofs.Machines.{same_memory}
-use Rattle.state_image.proofs.ReadLemmas.{gives}
 use Rattle.state_image.proofs.FrontReads.{from_target_type, from_node, from_offset, from_flags}
 use Rattle.state_image.proofs.FrontReads.{from_base, from_inheriting, content_in}
 
@@ -190,16 +189,12 @@ ended_as (read.Trapped why) = Some (Trapped why)
 
 later_as : ReadPhase → List ℕ
 later_as read.Starting = 0 ∷ []
-later_as read.Running = []
-later_as (read.Exited code) = []
-later_as (read.Trapped why) = []
+later_as _ = []
 
 phase_as : (p : ReadPhase) → read_phase (ended_as p) (later_as p) ≡ p
 unfolding ended_as later_as
 phase_as read.Starting = refl
-phase_as read.Running = refl
-phase_as (read.Exited code) = refl
-phase_as (read.Trapped why) = refl
+phase_as _ = refl
 
 with_read_end : ReadEnd → Saved → Saved
 with_read_end e s = record s {

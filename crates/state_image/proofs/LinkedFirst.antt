@@ -12,12 +12,7 @@ use Rattle.state_image.specs.restoring.Processes.{fault_of_link}
 -- a fault of linking that is told as no image denies that the module can be linked
 denies : (P : Type 0) (f : LinkFault) → fault_of_link f ≡ fault.NotAnImage → LinkDenies P f → P → ⊥
 denies P link.Memory e h p = absurd cc
-denies P link.NoStart e h p = h p
-denies P link.NoMemory e h p = h p
-denies P link.UnknownImport e h p = h p
-denies P link.ImportType e h p = h p
-denies P link.InitRange e h p = h p
-denies P link.TooManyPages e h p = h p
+denies P _ e h p = h p
 
 pub not_linked : {X : Type 0} (P : Type 0) (r : Result X RestoreFault) (f : LinkFault)
     → IsErrAnd r (λ y. y ≡ fault_of_link f) → r ≡ Err fault.NotAnImage → LinkDenies P f → P → ⊥

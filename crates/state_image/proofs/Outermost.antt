@@ -223,11 +223,7 @@ module _ (b : EntryPoints) where
   exited_well later f ls [] vs Stop frames t e h =
       let same : returned vs frames ≡ t = cc in
       subst (IsCalledThread later) same (returned_over later vs f frames h)
-  exited_well later f ls labels vs (Plain i rest) frames t e h = absurd (cc)
-  exited_well later f ls labels vs (InBlock b first rest) frames t e h = absurd (cc)
-  exited_well later f ls labels vs (InLoop b first rest) frames t e h = absurd (cc)
-  exited_well later f ls labels vs (InIf b first rest) frames t e h = absurd (cc)
-  exited_well later f ls labels vs (InIfElse b first second rest) frames t e h = absurd (cc)
+  exited_well later f ls labels vs _ frames t e h = absurd (cc)
 
   with_thread : (store : Store) (later : List ℕ) (o : Option Thread) (d : Configuration)
       → option_map (λ (thread : Thread).

@@ -42,13 +42,7 @@ use Rattle.state_image.proofs.Shown.{saves_shown}
 
 pub trap_small : (why : Trap) → trap_number why < 2 ^ 32
 trap_small trap.Unreachable = omega arith
-trap_small trap.DivideByZero = omega arith
-trap_small trap.IntegerOverflow = omega arith
-trap_small trap.MemoryOutOfBounds = omega arith
-trap_small trap.UndefinedElement = omega arith
-trap_small trap.UninitializedElement = omega arith
-trap_small trap.IndirectCallTypeMismatch = omega arith
-trap_small trap.StackExhausted = omega arith
+trap_small _ = omega arith
 
 pub code_small : (o : Option Ending) → IsSmallEnding o → ending_code o < 2 ^ 32
 code_small None h = omega arith
@@ -149,11 +143,7 @@ reached_is_well_typed bytes m config functions kept n p table s accepted few tex
       process = p;
       shown = subst (λ (t : List (Option ℕ)). SavedShowsProcess c program t s p) same_table shown;
       host = (reached_have_wasi_states m config kept n p accepted.valid texts reached).host;
-      configured = record {
-        room = as_before.room;
-        arguments = as_before.arguments;
-        environment = as_before.environment;
-      };
+      configured = search (as_before);
       outermost =
           subst (λ (later : List ℕ). IsOutermost (entry_points b) later s.machine.frames)
           (sym shown.machine.later)

@@ -28,11 +28,7 @@ restored_shows_reached bytes m config functions kept n p table s v accepted few 
       function_types = types;
       shown = subst (λ (t : List (Option ℕ)). SavedShowsProcess (module_context m functions)
           reached.guest.program t s p) same_table shown;
-      configured = record {
-        room = as_before.room;
-        arguments = as_before.arguments;
-        environment = as_before.environment;
-      };
+      configured = search (as_before);
     } in (
       same,
       restored.shows reached.guest p

@@ -204,17 +204,10 @@ module _ (linked : MachineValue) (config : Settings)
         p.configuration.thread shown.shown.machine.frames over.returned)
 
     pub shows_process : IsAlive v.ended (saved_of v) → ShowsProcess v guest p
-    shows_process alive = record {
-      calls = subst (λ (z : Module). AreCalls z.imports guest.calls) (sym same.guest)
-          shown.begins.calls;
-      configuration = shows_in;
-      host = shows_host;
-      steps = shown.shown.steps;
-      answers = shown.shown.answers;
-      requests = shown.shown.requests;
-      ended = shown.shown.ended;
-      closed = not_ended alive;
-    }
+    shows_process alive =
+        let calls = subst (λ (z : Module). AreCalls z.imports guest.calls) (sym same.guest)
+        shown.begins.calls in
+        search (calls, shows_in, shows_host, shown.shown, not_ended alive)
 
   -- ---- a well-typed process
 
@@ -315,14 +308,7 @@ module _ (linked : MachineValue) (config : Settings)
         v.machine.state.later v.machine.state.frames in
         let Q : Module → Type 0 = λ z. IsOutermost (record { start = z.start; entry = n })
         v.machine.state.later v.machine.state.frames in
-        record {
-          outermost = subst Q (sym from.same.guest) (subst P entries x.outermost);
-          alive = x.alive;
-          globals = x.bounds.globals;
-          places = x.bounds.places;
-          unread = x.unread;
-          next = x.next;
-        }
+        search (subst Q (sym from.same.guest) (subst P entries x.outermost), x.bounds)
 
     -- ---- it is well typed where it is accepted
 
@@ -419,38 +405,11 @@ module _ (linked : MachineValue) (config : Settings)
     process_shown : SavedShowsProcess (module_context m functions) a_guest.program
         is_start.begins.store.table (saved_of v) a_process
     unfolding a_process
-    process_shown = record {
-      version = refl;
-      machine = machine_shown;
-      files = refl;
-      descriptors = refl;
-      unread = refl;
-      input_ended = refl;
-      last_monotonic = refl;
-      first = refl;
-      second = refl;
-      steps = refl;
-      answers = refl;
-      requests = refl;
-      lines = count_lines;
-      ended = refl;
-    }
+    process_shown = search (machine_shown, count_lines)
 
     is_host : IsWasiState a_process.host
     unfolding a_process
-    is_host = record {
-      files = from.host.files;
-      within = from.host.within;
-      places = from.host.places;
-      descriptors = from.host.descriptors;
-      streams = from.host.streams;
-      root = from.host.root;
-      unread = from.host.unread;
-      last_monotonic = from.host.last_monotonic;
-      first = from.host.first;
-      second = from.host.second;
-      open_nodes = from.host.open_nodes;
-    }
+    is_host = search (from.host)
 
     has_numbers : IsProcess v → HasLineNumbers a_process.host
     unfolding a_process
@@ -460,11 +419,7 @@ module _ (linked : MachineValue) (config : Settings)
 
     is_configured : IsConfigured config a_process.host
     unfolding a_process
-    is_configured = record {
-      room = from.configured.room;
-      arguments = from.configured.arguments;
-      environment = from.configured.environment;
-    }
+    is_configured = search (from.configured)
 
     is_outermost : MayBeAccepted v.machine.guest entry (saved_of v)
         → IsOutermost (record { start = m.start; entry = is_start.entry })
@@ -476,13 +431,13 @@ module _ (linked : MachineValue) (config : Settings)
 
     is_within_bounds : MayBeAccepted v.machine.guest entry (saved_of v)
         → IsWithinBounds (saved_of v)
-    is_within_bounds may = record {
-      code = from.progress.code;
-      globals = may.globals;
-      places = may.places;
-      slots = from.slots;
-      memory = memory_within v.machine (subst IsValid (sym from.same.guest) valid) from.shows;
-    }
+    is_within_bounds may =
+        search (
+          from.progress,
+          may,
+          from.slots,
+          memory_within v.machine (subst IsValid (sym from.same.guest) valid) from.shows,
+        )
 
     well_typed : IsProcess v → MayBeAccepted v.machine.guest entry (saved_of v)
         → IsWellTyped m config (saved_of v)

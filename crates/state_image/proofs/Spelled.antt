@@ -163,36 +163,8 @@ descriptor fs d h =
 -- ---- the whole
 
 mark : (v : Version) → Spelled (process_image_mark v)
-mark One = record {
-  each = (
-    omega arith,
-    (
-      omega arith,
-      (
-        omega arith,
-        (
-          omega arith,
-          (omega arith, (omega arith, (omega arith, (omega arith, tt)))),
-        ),
-      ),
-    ),
-  );
-}
-mark Two = record {
-  each = (
-    omega arith,
-    (
-      omega arith,
-      (
-        omega arith,
-        (
-          omega arith,
-          (omega arith, (omega arith, (omega arith, (omega arith, tt)))),
-        ),
-      ),
-    ),
-  );
-}
+mark One = record { each = omega arith }
+mark Two = record { each = omega arith }
 
 same_bytes : (a b : List ℕ) → a ≡ b → AllByRecursion IsByte b → Spelled a
 same_bytes a b e h = record { each = subst (AllByRecursion IsByte) (sym e) h }

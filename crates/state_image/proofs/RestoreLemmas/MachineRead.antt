@@ -74,9 +74,7 @@ never_refused (Err f) h e =
 -- in no other phase is a call to come
 pub none_to_come : (p : ReadPhase) (m : Module) → p ≢ read.Starting → AreToCome m p []
 none_to_come read.Starting m other = absurd (other refl)
-none_to_come read.Running m other = refl
-none_to_come (read.Exited code) m other = refl
-none_to_come (read.Trapped why) m other = refl
+none_to_come _ m other = refl
 
 pub none_put : (p : ReadPhase) (v : MachineValue) → p ≢ read.Starting → PutsCalls p v v
 none_put p v other = record { calls = []; are = none_to_come p v.guest other; is = refl }
@@ -106,9 +104,7 @@ one_to_come read.Starting m later others valid h k =
     (entry_once m.exports (codes "_start") (export.Function h.0) (export.Function k.0) valid.names
     h.1.exported k.1.exported) in
     h.2 ∙ ap (λ (f : ℕ). f ∷ []) entries ∙ sym k.2
-one_to_come read.Running m later others valid h k = h ∙ sym k
-one_to_come (read.Exited code) m later others valid h k = h ∙ sym k
-one_to_come (read.Trapped why) m later others valid h k = h ∙ sym k
+one_to_come _ m later others valid h k = h ∙ sym k
 
 -- ---- the whole
 

@@ -39,12 +39,7 @@ all_restorable fs is next (None ∷ ds) h k = (tt, all_restorable fs is next ds 
 all_restorable fs is next (Some d ∷ ds) h k = (
   record {
     target = target_within fs is next d.target h.0.there k.0;
-    bounded = record {
-      offset = h.0.offset;
-      flags = h.0.flags;
-      base = h.0.base;
-      inheriting = h.0.inheriting;
-    };
+    bounded = search (h.0);
   },
   all_restorable fs is next ds h.1 k.1,
 )
@@ -132,19 +127,7 @@ host_with files descriptors unread input_ended last_monotonic first second lines
 
 -- lines that were emitted count for nothing
 without_lines : (h : WasiState) → IsWasiState h → IsWasiState (record h { lines = [] })
-without_lines h is = record {
-  files = is.files;
-  within = is.within;
-  places = is.places;
-  descriptors = is.descriptors;
-  streams = is.streams;
-  root = is.root;
-  unread = is.unread;
-  last_monotonic = is.last_monotonic;
-  first = is.first;
-  second = is.second;
-  open_nodes = is.open_nodes;
-}
+without_lines h is = search
 
 -- a host of these bytes, of which this was told, is that of the parts
 pub host_of_parts : (config : Settings) (before : ProcessProgress) (p : WasiStateParts)
