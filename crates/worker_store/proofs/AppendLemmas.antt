@@ -18,11 +18,6 @@ use Rattle.worker_store.specs.rules.Faults.{fault_of_journal}
 abbrev pub refusal : JournalFault → Result (Unit {0}) JournalFault
 refusal fault = Err fault
 
--- it is out of memory
-abbrev WantsMemory : Result (Unit {0}) JournalFault → Type 0
-WantsMemory (Err journal.Memory) = Unit {0}
-WantsMemory other = ⊥
-
 module _ (store : WorkerStore) (r : Record) where
   -- the record fits, if memory is all that it fails for
   fits_but : ((refusal journal.Memory ≡ refusal journal.Failed)
@@ -39,13 +34,13 @@ module _ (store : WorkerStore) (r : Record) where
   fits_but failed too_long full =
       let works : store.journal.has_failed ≡ false =
       false_from_ne_true store.journal.has_failed
-      (λ is. subst WantsMemory (failed.1 is) tt) in
+      (λ is. let e = failed.1 is in cc) in
       let short : length (payload_of r.answer) ≤ text_limit store.journal.version =
-      ⊎_elim (λ long. absurd (subst WantsMemory (too_long.1 (works, long)) tt)) (λ le. le)
+      ⊎_elim (λ long. absurd (let e = too_long.1 (works, long) in cc)) (λ le. le)
       (cases_lt (text_limit store.journal.version) (length (payload_of r.answer))) in
       let room : length (record_bytes store.journal.version r)
       ≤ room_of store.geometry store.journal =
-      ⊎_elim (λ more. absurd (subst WantsMemory (full.1 (works, short, more)) tt)) (λ le. le)
+      ⊎_elim (λ more. absurd (let e = full.1 (works, short, more) in cc)) (λ le. le)
       (cases_lt (room_of store.geometry store.journal)
       (length (record_bytes store.journal.version r))) in
       (short, room)

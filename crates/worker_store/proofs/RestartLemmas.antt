@@ -17,6 +17,7 @@ pub mod Abreast
 pub mod LastQuestions
 pub mod Refusing
 pub mod RefusingUpgrades
+pub mod Events
 pub mod Honesty
 pub mod HonestUpgrades
 pub mod RefusingBatches

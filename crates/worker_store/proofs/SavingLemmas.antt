@@ -6,8 +6,10 @@ use Rattle.wasi_abi.specs.declared.version.Version.{Version}
 use Rattle.wasi_abi.specs.rules.Versions.{version_number}
 use Rattle.process.specs.rules.Values.{ProcessValue}
 use Rattle.state_image.specs.rules.Saving.{saved_of}
-use Rattle.sector_disk.specs.rules.Medium.{Medium, CountsUpTo}
+use Rattle.sector_disk.specs.rules.DiskImage.{DiskImage}
+use Rattle.sector_disk.specs.rules.Medium.{Medium, LeavesOnly, Passes, CountsUpTo}
 use Rattle.sector_disk.proofs.CountLemmas.{counts_more}
+use Rattle.sector_disk.proofs.Moments.{weaker}
 use Rattle.disk_layout.specs.declared.geometry.Geometry.{Geometry}
 use Rattle.disk_layout.specs.rules.Places.{area_place}
 use Rattle.snapshot.specs.declared.snapshots.Snapshots.{Snapshots}
@@ -16,6 +18,12 @@ use Rattle.snapshot.specs.rules.Calls.{PerformsStoresAndHead}
 use Rattle.snapshot.specs.rules.Images.{NewImage, WritesImage}
 use Rattle.snapshot.specs.rules.Snapshots.{BeginsImage}
 use Rattle.snapshot.proofs.StoreCalls.{stores, BeginsStoresAndHead, none_stored, no_head}
+
+-- time and room go on
+pub goes : {old new : Medium} {P : DiskImage → Type 0} → LeavesOnly old new P
+    → Passes old new (λ image. Unit {0})
+goes {old} {new} {P} leaves =
+    weaker old new P (λ image. Unit {0}) leaves.passes (λ image at. tt)
 
 -- stores that were begun, where an error is answered
 pub made_no_head : {T E : Type 0} (writing : Writing) (at n g : ℕ) (r : Result T E)

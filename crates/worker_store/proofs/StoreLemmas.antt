@@ -40,6 +40,27 @@ use Rattle.worker_store.specs.rules.Faults.{fault_of_journal}
 use Rattle.worker_store.specs.declared.fault.StoreFault.{StoreFault}
 use Rattle.worker_store.specs.declared.fault.StoreFault.TheVariants.{Full, Disk}
 
+-- ---- commits
+
+-- what a commit of this process, as this generation, leaves of a disk at any moment
+abbrev Committing : Medium → Medium → Geometry → ℕ → Saved → Type 0
+Committing old new geometry generation saved = LeavesOnly old new
+    (After (Commits geometry generation (version_number saved.version) (process_image saved))
+    old.crash_images)
+
+-- and in the end
+abbrev Committed : Medium → Medium → Geometry → ℕ → Saved → Type 0
+Committed old new geometry generation saved = Follows
+    (Replaces geometry generation (version_number saved.version) (process_image saved))
+    old.crash_images new.crash_images
+
+-- what is said of these is said of what is the same
+moved : (P : Geometry → ℕ → Saved → Type 0) {g h : Geometry} {n k : ℕ} {s t : Saved} → g ≡ h
+    → n ≡ k → s ≡ t → P g n s → P h k t
+moved P {g} {h} {n} {k} {s} {t} place number same held =
+    subst (λ (x : Geometry). P x k t) place
+    (subst (λ (x : ℕ). P g x t) number (subst (λ (x : Saved). P g n x) same held))
+
 -- ---- records
 
 module _ {D : Type 0} (medium : D → Medium) where
@@ -170,15 +191,7 @@ module _ {D : Type 0} (medium : D → Medium) where
         ∙ sym is_next.generation in
         commit_at_any_moment medium m config point next records last old new journaled.at_savepoint
         is_next
-        (subst (λ (g : Geometry). LeavesOnly (medium old) (medium new)
-        (After (Commits g next.generation (version_number next.saved.version)
-        (process_image next.saved)) (medium old).crash_images)) is.geometry
-        (subst (λ k. LeavesOnly (medium old) (medium new)
-        (After (Commits before.geometry k (version_number next.saved.version)
-        (process_image next.saved)) (medium old).crash_images)) same
-        (subst (λ s. LeavesOnly (medium old) (medium new)
-        (After (Commits before.geometry n (version_number s.version) (process_image s))
-        (medium old).crash_images)) (sym saved) leaves)))
+        (moved (Committing (medium old) (medium new)) is.geometry same (sym saved) leaves)
 
     pub commit_stores : (after : WorkerStore)
         → after.journal ≡ state (saved_of process).version n 0 [] false
@@ -200,15 +213,7 @@ module _ {D : Type 0} (medium : D → Medium) where
         ap (λ w. geometry_of config (length w)) (sym is_next.wasm) in
         let begins = commit_in_the_end medium m config point next records last old new
         journaled.at_savepoint is_next
-        (subst (λ (g : Geometry).
-        Follows (Replaces g next.generation (version_number next.saved.version)
-        (process_image next.saved)) (medium old).crash_images (medium new).crash_images) is.geometry
-        (subst (λ k. Follows (Replaces before.geometry k (version_number next.saved.version)
-        (process_image next.saved))
-        (medium old).crash_images (medium new).crash_images) numbered
-        (subst (λ s. Follows (Replaces before.geometry n (version_number s.version)
-        (process_image s)) (medium old).crash_images (medium new).crash_images)
-        (sym saved) done))) in
+        (moved (Committed (medium old) (medium new)) is.geometry numbered (sym saved) done) in
         let room = is.sectors in
         let where_it_is = same ∙ is.geometry in
         begun_stored m config next after new n numbered early (where_it_is ∙ place)
@@ -224,16 +229,8 @@ module _ {D : Type 0} (medium : D → Medium) where
         (medium old).crash_images) → LeavesBeforeOrNext geometry g process (medium old) (medium new)
     reopening_leaves leaves m config next kept n again all =
         commit_keeps_at_any_moment medium m config next kept n old new all
-        (subst (λ (p : Geometry). LeavesOnly (medium old) (medium new)
-        (After (Commits p next.generation (version_number next.saved.version)
-        (process_image next.saved)) (medium old).crash_images)) again.placed
-        (subst (λ k. LeavesOnly (medium old) (medium new)
-        (After (Commits geometry k (version_number next.saved.version)
-        (process_image next.saved)) (medium old).crash_images))
-        (sym again.generation)
-        (subst (λ s. LeavesOnly (medium old) (medium new)
-        (After (Commits geometry g (version_number s.version) (process_image s))
-        (medium old).crash_images)) (sym again.saved) leaves)))
+        (moved (Committing (medium old) (medium new)) again.placed (sym again.generation)
+        (sym again.saved) leaves)
 
     pub reopening_leaves_point : LeavesOnly (medium old) (medium new)
         (After (Commits geometry g (version_number (saved_of process).version)
@@ -243,16 +240,8 @@ module _ {D : Type 0} (medium : D → Medium) where
         let placed : geometry ≡ places point =
         again.placed ∙ ap (λ w. geometry_of config (length w)) comes.wasm in
         commit_at_any_moment medium m config point next records last old new all comes
-        (subst (λ (p : Geometry). LeavesOnly (medium old) (medium new)
-        (After (Commits p next.generation (version_number next.saved.version)
-        (process_image next.saved)) (medium old).crash_images)) placed
-        (subst (λ k. LeavesOnly (medium old) (medium new)
-        (After (Commits geometry k (version_number next.saved.version)
-        (process_image next.saved)) (medium old).crash_images))
-        (sym again.generation)
-        (subst (λ s. LeavesOnly (medium old) (medium new)
-        (After (Commits geometry g (version_number s.version) (process_image s))
-        (medium old).crash_images)) (sym again.saved) leaves)))
+        (moved (Committing (medium old) (medium new)) placed (sym again.generation)
+        (sym again.saved) leaves)
 
     pub reopening_stores : (store : WorkerStore)
         → store.journal ≡ state (saved_of process).version g 0 [] false
@@ -266,14 +255,8 @@ module _ {D : Type 0} (medium : D → Medium) where
     reopening_stores store e same sectors done all_synced early m config next
         kept n again all =
         let begins = commit_keeps_in_the_end medium m config next kept n old new all
-        (subst (λ (p : Geometry).
-        Follows (Replaces p next.generation (version_number next.saved.version)
-        (process_image next.saved)) (medium old).crash_images
-        (medium new).crash_images) again.placed (subst (λ k. Follows
-        (Replaces geometry k (version_number next.saved.version) (process_image next.saved))
-        (medium old).crash_images (medium new).crash_images) (sym again.generation)
-        (subst (λ s. Follows (Replaces geometry g (version_number s.version) (process_image s))
-        (medium old).crash_images (medium new).crash_images) (sym again.saved) done))) in
+        (moved (Committed (medium old) (medium new)) again.placed (sym again.generation)
+        (sym again.saved) done) in
         begun_stored m config next store new g (sym again.generation) early
         (same ∙ again.placed)
         (e ∙ ap (λ (s : Saved). state s.version g 0 [] false) (sym again.saved))

@@ -1,12 +1,12 @@
 -- How a worker's call ends.
 use Rattle.std.proofs.Common.{◌≡◌, ◌≢◌, ℕ, suc, ◌+◌, ◌≤◌, ◌^◌, List, ◌∷◌, ◌++◌, length, take, refl}
-use Rattle.std.proofs.Common.{sym, ap, ◌∙◌, subst, arith, inl, inr, Option, ◌<◌, Some, None}
+use Rattle.std.proofs.Common.{sym, ap, ◌∙◌, subst, arith, inl, inr, Option, Some}
 use Rattle.std.proofs.Math.Seq.{take-length}
 use Rattle.wasm_syntax.specs.declared.module.Module.{Module}
 use Rattle.wasi_abi.specs.declared.numbers.TheConstants.{NUMBERS_END}
 use Rattle.wasi_abi.specs.declared.answer.Answer.{Answer}
 use Rattle.wasi_abi.specs.rules.Configs.{Settings}
-use Rattle.process_rules.specs.Processes.{Ending, ProcessState, Guest, IsStart}
+use Rattle.process_rules.specs.Processes.{ProcessState, Guest, IsStart}
 use Rattle.process_rules.specs.Runs.{Kept, Runs, Next, On, Wants, Nowhere, next_of, Over as Ends}
 use Rattle.process_rules.proofs.Growing.{runs_count}
 use Rattle.process_rules.proofs.Quiet.{runs_join}
@@ -16,7 +16,7 @@ use Rattle.worker_store.specs.restart_theorem.Lives.{Act, Slice, Batch, Checkpoi
 use Rattle.worker_store.specs.restart_theorem.Lives.{Waits, Over, Done, Ended, Reply, Fails, Cause}
 use Rattle.worker_store.specs.restart_theorem.Lives.{OfDisk, OfSource, OfAnswer, OfOutlet, OfMemory}
 use Rattle.worker_store.specs.restart_theorem.Lives.{OfBounds, OfJournal, OfLines, kept_by_end}
-use Rattle.worker_store.specs.restart_theorem.Courses.{Stage, Open, NoneThere, MayFail}
+use Rattle.worker_store.specs.restart_theorem.Courses.{Stage, NoneThere, MayFail}
 use Rattle.worker_store.specs.restart_theorem.Courses.{IsNextAct, IsInBatch, HasLastAsked}
 use Rattle.worker_store.specs.restart_theorem.Promises.{Promise, after, IsAt, IsAtBound}
 use Rattle.worker_store.specs.restart_theorem.Promises.{HasLastLines, IsCaughtUp, IsOneOf, IsReply}
@@ -43,57 +43,20 @@ keeps_all (Batch fuel most) shown kept stepping = refl
 keeps_all Checkpoint shown kept stepping = absurd stepping
 keeps_all Upgrade shown kept stepping = absurd stepping
 
-spent_reply : (config : Settings) (kept : List Kept) (stage : Stage) (held : ℕ) (shown : Saved)
-    (act : Act) → TakesSteps act → stage.phase ≡ Open → shown.steps ≡ stage.step + fuel_of act
-    → shown.ended ≡ None → IsCaughtUp kept stage held shown
-    → IsReply config kept stage held shown act Spent
-spent_reply config kept stage held shown (Slice fuel) stepping opened all running caught =
-    (opened, all, running, caught)
-spent_reply config kept stage held shown (Batch fuel most) stepping opened all running caught =
-    (opened, all, running, caught)
-spent_reply config kept stage held shown Checkpoint stepping opened all running caught =
-    absurd stepping
-spent_reply config kept stage held shown Upgrade stepping opened all running caught =
-    absurd stepping
-
-over_reply : (config : Settings) (kept : List Kept) (stage : Stage) (held : ℕ) (shown : Saved)
-    (act : Act) (why : Ending) → TakesSteps act → stage.phase ≡ Open
-    → shown.steps ≤ stage.step + fuel_of act → shown.ended ≡ Some why
-    → IsCaughtUp kept stage held shown → IsReply config kept stage held shown act (Over why)
-over_reply config kept stage held shown (Slice fuel) why stepping opened some is caught =
-    (opened, some, is, caught)
-over_reply config kept stage held shown (Batch fuel most) why stepping opened some is caught =
-    (opened, some, is, caught)
-over_reply config kept stage held shown Checkpoint why stepping opened some is caught =
-    absurd stepping
-over_reply config kept stage held shown Upgrade why stepping opened some is caught =
-    absurd stepping
-
-waits_reply : (config : Settings) (kept : List Kept) (stage : Stage) (held : ℕ) (shown : Saved)
-    (act : Act) → TakesSteps act → stage.phase ≡ NoneThere shown.steps
-    → shown.steps < stage.step + fuel_of act → shown.ended ≡ None
-    → IsCaughtUp kept stage held shown → IsReply config kept stage held shown act Waits
-waits_reply config kept stage held shown (Slice fuel) stepping none room running caught =
-    (none, room, running, caught)
-waits_reply config kept stage held shown (Batch fuel most) stepping none room running caught =
-    (none, room, running, caught)
-waits_reply config kept stage held shown Checkpoint stepping none room running caught =
-    absurd stepping
-waits_reply config kept stage held shown Upgrade stepping none room running caught =
-    absurd stepping
-
-failure_reply : (config : Settings) (kept : List Kept) (stage : Stage) (held : ℕ) (shown : Saved)
-    (act : Act) (cause : Cause) → TakesSteps act → MayFail stage.phase cause
-    → shown.steps ≤ stage.step + fuel_of act → IsOneOf stage.line shown.lines
-    → IsReply config kept stage held shown act (Fails cause)
-failure_reply config kept stage held shown (Slice fuel) cause stepping may some told =
-    (may, some, told)
-failure_reply config kept stage held shown (Batch fuel most) cause stepping may some told =
-    (batch_fails stage.phase cause may, some, told)
-failure_reply config kept stage held shown Checkpoint cause stepping may some told =
-    absurd stepping
-failure_reply config kept stage held shown Upgrade cause stepping may some told =
-    absurd stepping
+-- what a slice of as many steps may answer, that may each such act
+as_slices_do : (config : Settings) (kept : List Kept) (stage : Stage) (held : ℕ) (shown : Saved)
+    (act : Act) (reply : Reply) → TakesSteps act
+    → IsReply config kept stage held shown (Slice (fuel_of act)) reply
+    → IsReply config kept stage held shown act reply
+as_slices_do config kept stage held shown (Slice fuel) reply stepping says = says
+as_slices_do config kept stage held shown (Batch fuel most) Spent stepping says = says
+as_slices_do config kept stage held shown (Batch fuel most) Waits stepping says = says
+as_slices_do config kept stage held shown (Batch fuel most) (Over why) stepping says = says
+as_slices_do config kept stage held shown (Batch fuel most) Done stepping says = says
+as_slices_do config kept stage held shown (Batch fuel most) (Fails cause) stepping says =
+    (batch_fails stage.phase cause says.0, says.1, says.2)
+as_slices_do config kept stage held shown Checkpoint reply stepping says = absurd stepping
+as_slices_do config kept stage held shown Upgrade reply stepping says = absurd stepping
 
 module _ (m : Module) (config : Settings) (guest : Guest) where
   -- the process, shown whole
@@ -154,9 +117,12 @@ module _ (m : Module) (config : Settings) (guest : Guest) where
       let at = over.way.in_slice in
       let steps : shown.steps ≡ p.steps = over.saved.shows.steps in
       ending promise stage act Spent (length promise.kept) p shown at over.saved
-      (spent_reply config promise.kept stage (length promise.kept) shown act at.takes_steps
-      over.way.is_open (omega (arith, steps, all)) (over.saved.shows.ended ∙ running)
-      (caught_up promise stage p shown over.way.line over.saved))
+      (as_slices_do config promise.kept stage (length promise.kept) shown act Spent at.takes_steps (
+        over.way.is_open,
+        omega (arith, steps, all),
+        over.saved.shows.ended ∙ running,
+        caught_up promise stage p shown over.way.line over.saved,
+      ))
       (λ kept runs. tt)
 
   pub ended_slices_end : EndedSlicesEnd m config guest
@@ -165,9 +131,13 @@ module _ (m : Module) (config : Settings) (guest : Guest) where
       let steps : shown.steps ≡ p.steps = over.saved.shows.steps in
       let b = at.in_time in
       ending promise stage act (Over why) (length promise.kept) p shown at over.saved
-      (over_reply config promise.kept stage (length promise.kept) shown act why at.takes_steps
-      over.way.is_open (omega (arith, b, steps)) (over.saved.shows.ended ∙ is)
-      (caught_up promise stage p shown over.way.line over.saved))
+      (as_slices_do config promise.kept stage (length promise.kept) shown act (Over why)
+      at.takes_steps (
+        over.way.is_open,
+        omega (arith, b, steps),
+        over.saved.shows.ended ∙ is,
+        caught_up promise stage p shown over.way.line over.saved,
+      ))
       (λ kept runs. tt)
 
   pub waiting_slices_end : WaitingSlicesEnd m config guest
@@ -175,9 +145,12 @@ module _ (m : Module) (config : Settings) (guest : Guest) where
       let at = broken.in_slice in
       let steps : shown.steps ≡ p.steps = saved.shows.steps in
       ending promise stage act Waits (length promise.kept) p shown at saved
-      (waits_reply config promise.kept stage (length promise.kept) shown act at.takes_steps
-      (broken.is ∙ ap (λ n. NoneThere n) (sym steps)) (omega (arith, room, steps))
-      (saved.shows.ended ∙ running) (caught_up promise stage p shown line saved))
+      (as_slices_do config promise.kept stage (length promise.kept) shown act Waits at.takes_steps (
+        broken.is ∙ ap (λ n. NoneThere n) (sym steps),
+        omega (arith, room, steps),
+        saved.shows.ended ∙ running,
+        caught_up promise stage p shown line saved,
+      ))
       (λ kept runs. tt)
 
   -- ---- errors
@@ -225,9 +198,11 @@ module _ (m : Module) (config : Settings) (guest : Guest) where
       let steps : shown.steps ≡ p.steps = saved.shows.steps in
       let b = at.in_time in
       ending promise stage act (Fails cause) held p shown at saved
-      (failure_reply config promise.kept stage held shown act cause at.takes_steps
-      (subst (λ z. MayFail z cause) (sym broken.is) may) (omega (arith, b, steps))
-      (subst (λ (n : ℕ). IsOneOf stage.line n) (sym saved.shows.lines) broken.told))
+      (as_slices_do config promise.kept stage held shown act (Fails cause) at.takes_steps (
+        subst (λ z. MayFail z cause) (sym broken.is) may,
+        omega (arith, b, steps),
+        subst (λ (n : ℕ). IsOneOf stage.line n) (sym saved.shows.lines) broken.told,
+      ))
       (λ kept runs. at_bound promise kept p shown at.start at.begins runs saved cause bound)
 
   -- what takes steps in a batch is one

@@ -2,7 +2,8 @@
 use Rattle.std.proofs.Common.{◌≡◌, ◌⊎◌, ℕ, zero, suc, ◌+◌, ◌<◌, ◌≤◌, List, [], ◌∷◌, ◌++◌, length}
 use Rattle.std.proofs.Common.{take, drop, refl, sym, ap}
 use Rattle.std.proofs.Common.{◌∙◌, subst, inl, inr, ⊎_elim, arith, length-append, length-take}
-use Rattle.std.specs.Prelude.{map}
+use Rattle.std.specs.Prelude.{map, max}
+use Rattle.std.proofs.Math.Nat.{le_of_eq, le_trans}
 use Rattle.std.proofs.lemmas.Bool.{cases_lt}
 use Rattle.std.proofs.lemmas.List.{append-nil, length-take-le, take_all, take-take}
 use Rattle.wasm_syntax.specs.declared.module.Module.{Module}
@@ -38,6 +39,7 @@ use Rattle.worker_store.specs.laws.Carried.{OpeningIsHeld, PointIsAt, PointOpens
 use Rattle.worker_store.specs.laws.Carried.{BarrierCarries, BarrierCarriesOn, CommitCarries}
 use Rattle.worker_store.specs.laws.Carried.{SavepointCarries, CreationCarries, BeginsCarried}
 use Rattle.worker_store.specs.laws.Acts.{keeping_more}
+use Rattle.worker_store.specs.laws.Telling.{AddsLines}
 use Rattle.worker_store.proofs.LawLemmas.Acts.{saving_ends_alike}
 use Rattle.worker_store.proofs.LawLemmas.Points.{by_point, steps_of}
 use Rattle.worker_store.proofs.LawLemmas.Fronts.{front_kept, length_of_map}
@@ -102,29 +104,89 @@ holds_less m config kept less more held steps no_more holds =
       up_to = holds.up_to;
       answers = omega (arith, answers, few_answers);
       steps_held = omega (arith, counted, few_steps);
-      lines = λ i below. holds.lines i (not_above i less.begun more.begun below no_more.begun);
-      syncs = λ k a below behind.
-          holds.syncs k a (not_above k less.synced more.synced below no_more.synced) behind;
+      lines = λ i below. holds.lines i (le_trans below no_more.begun);
+      syncs = λ k a below behind. holds.syncs k a (le_trans below no_more.synced) behind;
     }
-  where
-    not_above : (i less more : ℕ) → i ≤ less → less ≤ more → i ≤ more
-    not_above i less more below le = omega (arith, below, le)
 
 pub less_is_held : LessIsHeld
-less_is_held m config less more now disk no_more holds =
-    let few : less.passed ≤ more.passed = no_more.passed in
+less_is_held m config less more now disk no_more holds = record {
+  created = holds.created;
+  held = holds.held;
+  steps = holds.steps;
+  stands = holds.stands;
+  holds = holds_less m config now.kept less more holds.held holds.steps no_more holds.holds;
+  snapshot_heard = holds.snapshot_heard;
+  snapshot_passed = le_trans no_more.passed holds.snapshot_passed;
+}
+
+-- a line stays behind as many answers of a front that has them
+line_of_front : (m : Module) (config : Settings) (kept : List Kept) (i a n : ℕ) → a ≤ n
+    → n ≤ length kept → AnswersBehindLine m config kept i a
+    → AnswersBehindLine m config (take n kept) i a
+line_of_front m config kept i a n few within behind = record {
+  within = let long = length-take-le n kept within in omega (arith, few, long);
+  steps = behind.steps;
+  process = behind.process;
+  reached = subst (λ l. Reaches m config l behind.steps behind.process)
+      (sym (take-take a n kept few)) behind.reached;
+  up_to = up_to_front a n behind.steps kept behind.up_to;
+  emitted = behind.emitted;
+}
+
+-- so what is held is held by as many answers of a front
+pub held_of_front : (m : Module) (config : Settings) (promise : Promise) (kept : List Kept)
+    (n held steps : ℕ) → n ≤ length kept → held ≡ n → HoldsAll m config kept promise held steps
+    → HoldsAll m config (take n kept) promise held steps
+held_of_front m config promise kept n held steps within same holds =
+    let long : length (take n kept) ≡ n = length-take-le n kept within in
     record {
-      created = holds.created;
-      held = holds.held;
-      steps = holds.steps;
-      stands = holds.stands;
-      holds = holds_less m config now.kept less more holds.held holds.steps no_more holds.holds;
-      snapshot_heard = holds.snapshot_heard;
-      snapshot_passed = below _ _ _ few holds.snapshot_passed;
+      within = omega (arith, same, long);
+      up_to = up_to_front held n steps kept holds.up_to;
+      answers = holds.answers;
+      steps_held = holds.steps_held;
+      lines = λ i below.
+          let line = holds.lines i below in
+          let few : line.0 ≤ n = le_trans line.1 (le_of_eq same) in
+          (line.0, line.1, line_of_front m config kept i line.0 n few within line.2);
+      syncs = λ k a below behind.
+          let whole = behind.within in
+          omega (arith, whole, long, same);
     }
-  where
-    below : (a b c : ℕ) → a ≤ b → b ≤ c → a ≤ c
-    below a b c x y = omega (arith, x, y)
+
+-- a number up to the larger of two, and past the second, is up to the first
+pub up_to_first : {n a b : ℕ} → n ≤ max a b → b < n → n ≤ a
+up_to_first below late = omega (arith, below, late)
+
+-- Lines are told. What a savepoint holds it holds still, where it has the answers behind them.
+pub retold : (m : Module) (config : Settings) (promise promise' : Promise)
+    (point : Savepoint m config) (records : List Record) (last : ProcessState) (lines : ℕ)
+    → IsHeldAt promise point records last → AddsLines promise lines promise'
+    → ((i : ℕ) → i ≤ lines
+    → (a : ℕ) × (a ≤ count_at point records) × AnswersBehindLine m config promise.kept i a)
+    → IsHeldAt promise' point records last
+retold m config promise promise' point records last lines held adds behind =
+    let all = held.holds in
+    record {
+      created = adds.created ∙ held.created;
+      front = ap (λ (l : List Kept). take (count_at point records) l) adds.kept ∙ held.front;
+      recorded = held.recorded;
+      holds = subst (λ (l : List Kept).
+          HoldsAll m config l promise' (count_at point records) last.steps) (sym adds.kept)
+          (record {
+            within = all.within;
+            up_to = all.up_to;
+            answers = le_trans (le_of_eq adds.answers) all.answers;
+            steps_held = le_trans (le_of_eq adds.steps) all.steps_held;
+            lines = λ i below. ⊎_elim
+                (λ (late : promise.begun < i).
+                behind i (up_to_first (le_trans below adds.begun) late))
+                (λ (early : i ≤ promise.begun). all.lines i early)
+                (cases_lt promise.begun i);
+            syncs = λ k a below sync. all.syncs k a (le_trans below (le_of_eq adds.synced)) sync;
+          });
+      heard = le_trans held.heard adds.heard;
+      passed = le_trans (le_of_eq adds.passed) held.passed;
+    }
 
 -- ---- an image
 
@@ -401,15 +463,13 @@ checkpoint_is_held m config promise point held all =
         answers = omega (arith, answers);
         steps_held = omega (arith, counted, same);
         lines = holds.lines;
-        syncs = λ k a below behind. few a (length promise.kept) (length point.front)
-            behind.within long;
+        syncs = λ k a below behind.
+            let within = behind.within in
+            omega (arith, within, long);
       };
       heard = held.heard;
       passed = omega (arith, passed);
     }
-  where
-    few : (a n k : ℕ) → a ≤ n → k ≡ n → a ≤ k + 0
-    few a n k below e = omega (arith, below, e)
 
 pub saved_is_held : SavedIsHeld
 saved_is_held m config promise act more point saves held all =
@@ -419,12 +479,12 @@ saved_is_held m config promise act more point saves held all =
 
 pub opening_is_held : OpeningIsHeld
 opening_is_held m config promise point held =
-    let holds = held.holds in
     let n : ℕ = length point.front in
-    let kept : List Kept = take n promise.kept in
-    let bound : n + 0 ≤ length promise.kept = holds.within in
+    let bound : n + 0 ≤ length promise.kept = held.holds.within in
     let within : n ≤ length promise.kept = omega (arith, bound) in
-    let long : length kept ≡ n = length-take-le n promise.kept within in
+    let holds = held_of_front m config promise promise.kept n (n + 0) point.process.steps within
+    (plus_none n) held.holds in
+    let long : length (take n promise.kept) ≡ n = length-take-le n promise.kept within in
     let answers : promise.answers ≤ n + 0 = holds.answers in
     let counted : promise.steps ≤ point.process.steps = holds.steps_held in
     let same : point.saved.steps ≡ point.process.steps = point.shown.steps in
@@ -434,41 +494,17 @@ opening_is_held m config promise point held =
       front = take-take (n + 0) n promise.kept (omega arith) ∙ held.front;
       recorded = held.recorded;
       holds = record {
-        within = omega (arith, long);
-        up_to = up_to_front (n + 0) n point.process.steps promise.kept holds.up_to;
+        within = holds.within;
+        up_to = holds.up_to;
         answers = omega (arith, answers);
         steps_held = omega (arith, counted, same);
-        lines = λ i below.
-            let line = holds.lines i below in
-            (line.0, line.1, shorter i line.0 (at_most line.0 n line.1) long line.2);
-        syncs = λ k a below behind. few a (length kept) n behind.within long;
+        lines = holds.lines;
+        syncs = λ k a below behind.
+            let whole = behind.within in
+            omega (arith, whole, long);
       };
       heard = held.heard;
       passed = omega (arith, passed);
-    }
-  where
-    few : (a n k : ℕ) → a ≤ n → n ≡ k → a ≤ k + 0
-    few a n k below e = omega (arith, below, e)
-
-    at_most : (a n : ℕ) → a ≤ n + 0 → a ≤ n
-    at_most a n below = omega (arith, below)
-
-    enough : (a n k : ℕ) → a ≤ n → k ≡ n → a ≤ k
-    enough a n k below e = omega (arith, below, e)
-
-    shorter : (i a : ℕ) → a ≤ length point.front
-        → length (take (length point.front) promise.kept) ≡ length point.front
-        → AnswersBehindLine m config promise.kept i a
-        → AnswersBehindLine m config (take (length point.front) promise.kept) i a
-    shorter i a few long behind = record {
-      within = enough a (length point.front) (length (take (length point.front) promise.kept)) few
-          long;
-      steps = behind.steps;
-      process = behind.process;
-      reached = subst (λ l. Reaches m config l behind.steps behind.process)
-          (sym (take-take a (length point.front) promise.kept few)) behind.reached;
-      up_to = up_to_front a (length point.front) behind.steps promise.kept behind.up_to;
-      emitted = behind.emitted;
     }
 
 -- ---- a process

@@ -3,6 +3,7 @@ use Rattle.std.proofs.Common.{◌≡◌, ℕ, zero, suc, ◌+◌, ◌-◌, ◌<�
 use Rattle.std.proofs.Common.{length, take, drop, Some, None, Ok, refl, sym, ap, ◌∙◌, subst}
 use Rattle.std.proofs.Common.{⊎_elim, arith, length-append, length-take, append_assoc}
 use Rattle.std.specs.Prelude.{map, max, slice_get, Option}
+use Rattle.std.proofs.Math.Nat.{le_of_eq, le_trans}
 use Rattle.std.proofs.lemmas.Bool.{cases_lt}
 use Rattle.std.proofs.lemmas.List.{append-nil, take_all, take-append-le, map-append}
 use Rattle.std.proofs.lemmas.List.{length-take-le, take-append-drop}
@@ -36,10 +37,10 @@ use Rattle.worker_store.proofs.RestartLemmas.Fronts.{none_widens, up_to_behind, 
 use Rattle.worker_store.specs.rules.Carried.{answers_at, count_at, IsCarried, SyncsAreHeld}
 use Rattle.worker_store.specs.rules.Savepoints.{Savepoint}
 use Rattle.worker_store.specs.laws.Raised.{AllSyncsAreHeld, QuietSyncsAreHeld, AnsweredSyncsAreHeld}
-use Rattle.worker_store.specs.laws.Raised.{ToldCarries, AskedCarries, EndedCarries, AppendCarries}
+use Rattle.worker_store.specs.laws.Raised.{AskedCarries, EndedCarries, AppendCarries}
 use Rattle.worker_store.specs.laws.Raised.{AnswerIsOnRecord, CarriedIsReached, MovedSyncsAreHeld}
 use Rattle.worker_store.proofs.LawLemmas.Acts.{same_rest}
-use Rattle.worker_store.proofs.LawLemmas.Carrying.{answers_count, within_of}
+use Rattle.worker_store.proofs.LawLemmas.Carrying.{answers_count, within_of, up_to_first}
 
 -- ---- what is kept next
 
@@ -154,7 +155,22 @@ one_at_step m config kept a b n p q valid longer left right up up' =
           (up_to_before (drop b kept) (suc n) n (omega arith) up'));
     }
 
--- Those that take more come no earlier,
+-- Fronts that take more are led to from those that take less.
+leads_to_more : (m : Module) (config : Settings) (kept : List Kept) (a b n k : ℕ)
+    (p q : ProcessState) → IsValid m → length (take a kept) < length (take b kept)
+    → (left : Reaches m config (take a kept) n p) → Reaches m config (take b kept) k q
+    → IsNarrowTo (drop a kept) n → IsNarrowTo (drop b kept) k
+    → LeadsOn left.guest p q (take a kept) (take b kept)
+leads_to_more m config kept a b n k p q valid less left right up up' =
+    ⊎_elim
+    (λ (on : LeadsOn left.guest p q (take a kept) (take b kept)). on)
+    (λ (on : LeadsOn left.guest q p (take b kept) (take a kept)).
+    let long : length (take a kept) ≡ length (take b kept) + length on.kept =
+    ap (λ l. length l) (sym on.front) ∙ length-append (take b kept) on.kept in
+    absurd (omega (arith, long, less)))
+    (fronts_lead_on m config kept a b n k p q valid left right up up')
+
+-- So they come no earlier,
 pub no_earlier : (m : Module) (config : Settings) (kept : List Kept) (a b n k : ℕ)
     (p q : ProcessState) → IsValid m → length (take a kept) < length (take b kept)
     → Reaches m config (take a kept) n p → Reaches m config (take b kept) k q
@@ -162,16 +178,10 @@ pub no_earlier : (m : Module) (config : Settings) (kept : List Kept) (a b n k : 
 no_earlier m config kept a b n k p q valid less left right up up' =
     let first : p.steps ≡ n = reached_counts m config (take a kept) n p left in
     let second : q.steps ≡ k = reached_counts m config (take b kept) k q right in
-    ⊎_elim
-    (λ (on : LeadsOn left.guest p q (take a kept) (take b kept)).
+    let on = leads_to_more m config kept a b n k p q valid less left right up up' in
     let counted : q.steps ≡ p.steps + on.steps =
     runs_count left.guest p q on.kept on.steps on.runs in
-    omega (arith, first, second, counted))
-    (λ (on : LeadsOn left.guest q p (take b kept) (take a kept)).
-    let long : length (take a kept) ≡ length (take b kept) + length on.kept =
-    ap (λ l. length l) (sym on.front) ∙ length-append (take b kept) on.kept in
-    absurd (omega (arith, long, less)))
-    (fronts_lead_on m config kept a b n k p q valid left right up up')
+    omega (arith, first, second, counted)
 
 -- and later, where nothing widens there.
 later_step : (m : Module) (config : Settings) (kept : List Kept) (a b n k : ℕ)
@@ -181,8 +191,8 @@ later_step : (m : Module) (config : Settings) (kept : List Kept) (a b n k : ℕ)
 later_step m config kept a b n k p q valid less left right up up' =
     let first : p.steps ≡ n = reached_counts m config (take a kept) n p left in
     let second : q.steps ≡ k = reached_counts m config (take b kept) k q right in
-    ⊎_elim
-    (λ (on : LeadsOn left.guest p q (take a kept) (take b kept)).
+    let on = leads_to_more m config kept a b n k p q valid less left right
+    (up_to_before (drop a kept) (suc n) n (omega arith) up) up' in
     let counted : q.steps ≡ p.steps + on.steps =
     runs_count left.guest p q on.kept on.steps on.runs in
     let long : length (take b kept) ≡ length (take a kept) + length on.kept =
@@ -197,13 +207,7 @@ later_step m config kept a b n k p q valid less left right up up' =
     ap (λ l. length l) (no_run left.guest p q on.kept on.steps (omega (arith, none_left)) up_there
     on.runs).nothing in
     absurd (omega (arith, nothing, long, less)))
-    (cases_lt 0 on.steps))
-    (λ (on : LeadsOn left.guest q p (take b kept) (take a kept)).
-    let long : length (take a kept) ≡ length (take b kept) + length on.kept =
-    ap (λ l. length l) (sym on.front) ∙ length-append (take b kept) on.kept in
-    absurd (omega (arith, long, less)))
-    (fronts_lead_on m config kept a b n k p q valid left right
-    (up_to_before (drop a kept) (suc n) n (omega arith) up) up')
+    (cases_lt 0 on.steps)
 
 -- ---- syncs
 
@@ -261,10 +265,7 @@ pub all_syncs_are_held : AllSyncsAreHeld
 all_syncs_are_held m config promise point records steps on_record k a below behind =
     let long : length promise.kept ≡ count_at point records =
     ap (λ l. length l) on_record ∙ answers_count point records in
-    few a (length promise.kept) (count_at point records) behind.within long
-  where
-    few : (a n k : ℕ) → a ≤ n → n ≡ k → a ≤ k
-    few a n k within e = omega (arith, within, e)
+    le_trans behind.within (le_of_eq long)
 
 pub quiet_syncs_are_held : QuietSyncsAreHeld
 quiet_syncs_are_held m config kept held n p q valid reached quiet syncs k a below behind =
@@ -402,8 +403,9 @@ pub line_of_more : (m : Module) (config : Settings) (kept more_kept : List Kept)
     → (behind : AnswersBehindLine m config kept i a) → IsNarrowTo more_kept behind.steps
     → AnswersBehindLine m config (kept ++ more_kept) i a
 line_of_more m config kept more_kept i a behind up = record {
-  within = longer a (length kept) (length (kept ++ more_kept)) (length more_kept) behind.within
-      (length-append kept more_kept);
+  within = let long = length-append kept more_kept in
+      let within = behind.within in
+      omega (arith, within, long);
   steps = behind.steps;
   process = behind.process;
   reached = subst (λ l. Reaches m config l behind.steps behind.process)
@@ -411,9 +413,6 @@ line_of_more m config kept more_kept i a behind up = record {
   up_to = up_to_behind a behind.steps kept more_kept behind.within behind.up_to up;
   emitted = behind.emitted;
 }
-  where
-    longer : (a n k l : ℕ) → a ≤ n → k ≡ n + l → a ≤ k
-    longer a n k l within e = omega (arith, within, e)
 
 -- fronts that are as long as some list stay where more are kept
 pub front_of_more : (n : ℕ) (kept more_kept answers : List Kept) → take n kept ≡ answers
@@ -421,58 +420,6 @@ pub front_of_more : (n : ℕ) (kept more_kept answers : List Kept) → take n ke
 front_of_more n kept more_kept answers e within = take-append-le n kept more_kept within ∙ e
 
 module _ {D : Type 0} (medium : D → Medium) where
-  pub told_carries : ToldCarries medium
-  told_carries m config promise point journal records pending last now p n r is_taken disk is
-      on_record reached told =
-      let held = is.held in
-      let holds = held.holds in
-      let long : length promise.kept ≡ count_at point records =
-      ap (λ l. length l) on_record ∙ answers_count point records in
-      let heard : point.saved.lines ≤ promise.heard = held.heard in
-      record {
-        journaled = is.journaled;
-        held = record {
-          created = held.created;
-          front = held.front;
-          recorded = held.recorded;
-          holds = record {
-            within = holds.within;
-            up_to = holds.up_to;
-            answers = holds.answers;
-            steps_held = holds.steps_held;
-            lines = λ i below. ⊎_elim
-                (λ (late : promise.begun < i). (
-                  length promise.kept,
-                  at_most _ _ long,
-                  record {
-                    within = omega arith;
-                    steps = n;
-                    process = p;
-                    reached = subst (λ l. Reaches m config l n p)
-                        (sym (take_all (length promise.kept) promise.kept (omega arith))) reached;
-                    up_to = up_to_end promise.kept n;
-                    emitted = not_above i r.number promise.begun (length p.host.lines) below late
-                        told;
-                  },
-                ))
-                (λ (early : i ≤ promise.begun). holds.lines i early)
-                (cases_lt promise.begun i);
-            syncs = holds.syncs;
-          };
-          heard = omega (arith, heard);
-          passed = held.passed;
-        };
-        answers = is.answers;
-        up_to = is.up_to;
-      }
-    where
-      at_most : (a b : ℕ) → a ≡ b → a ≤ b
-      at_most a b e = omega (arith, e)
-
-      not_above : (i number begun lines : ℕ) → i ≤ max number begun → begun < i
-          → number ≤ lines → i ≤ lines
-      not_above i number begun lines below late told = omega (arith, below, late, told)
-
   pub asked_carries : AskedCarries medium
   asked_carries m config promise point journal records pending last now steps question
       said fits disk is later syncs =
@@ -506,8 +453,8 @@ module _ {D : Type 0} (medium : D → Medium) where
                   line_of_more m config promise.kept more_kept i line.0 line.2
                       (said_widens_none said fits line.2.steps),
                 );
-            syncs = λ k a below behind. syncs k a (at_most k steps promise.synced below later)
-                behind;
+            syncs = λ k a below behind.
+                syncs k a (omega (arith, below, later)) behind;
           };
           heard = held.heard;
           passed = held.passed;
@@ -517,9 +464,6 @@ module _ {D : Type 0} (medium : D → Medium) where
         up_to = up_to_behind (count_at point (records ++ pending)) now.steps promise.kept more_kept
             all is.up_to (said_widens_none said fits now.steps);
       }
-    where
-      at_most : (k steps synced : ℕ) → k ≤ max steps synced → synced ≤ steps → k ≤ steps
-      at_most k steps synced below later = omega (arith, below, later)
 
   -- where none is kept besides
   ended_as_kept : (m : Module) (config : Settings) (promise : Promise) (point : Savepoint m config)
@@ -553,8 +497,7 @@ module _ {D : Type 0} (medium : D → Medium) where
             lines = holds.lines;
             syncs = λ k a below behind. ⊎_elim
                 (λ (late : promise.synced < k).
-                syncs k a (not_above k (synced_by reply shown.steps) promise.synced below late)
-                behind)
+                syncs k a (up_to_first below late) behind)
                 (λ (early : k ≤ promise.synced). holds.syncs k a early behind)
                 (cases_lt promise.synced k);
           };
@@ -569,9 +512,6 @@ module _ {D : Type 0} (medium : D → Medium) where
       none_saved : (saved before bound : ℕ) → saved ≡ 0 → before ≤ bound
           → max saved before ≤ bound
       none_saved saved before bound e below = omega (arith, e, below)
-
-      not_above : (k by synced : ℕ) → k ≤ max by synced → synced < k → k ≤ by
-      not_above k by synced below late = omega (arith, below, late)
 
   pub ended_carries : EndedCarries medium
   ended_carries m config promise point journal records pending last now act reply n shown disk is
@@ -593,13 +533,10 @@ module _ {D : Type 0} (medium : D → Medium) where
       record {
         journaled = goes;
         held = is.held;
-        answers = take_all (count_at point all) promise.kept (at_most _ _ long) ∙ on_record;
+        answers = take_all (count_at point all) promise.kept (le_of_eq long) ∙ on_record;
         up_to = subst (λ n. IsNarrowTo (drop n promise.kept) next.steps) long
             (up_to_end promise.kept next.steps);
       }
-    where
-      at_most : (a b : ℕ) → a ≡ b → a ≤ b
-      at_most a b e = omega (arith, e)
 
   pub carried_is_reached : CarriedIsReached medium
   carried_is_reached m config promise point journal records pending last now p n disk is on_record

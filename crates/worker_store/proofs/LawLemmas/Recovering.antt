@@ -1,14 +1,13 @@
 -- A worker that is recovered, and opens.
-use Rattle.std.proofs.Common.{◌≡◌, ◌⊎◌, ℕ, ◌+◌, ◌<◌, ◌≤◌, max, List, [], length, take, drop, refl}
+use Rattle.std.proofs.Common.{◌≡◌, ◌⊎◌, ℕ, ◌+◌, ◌≤◌, List, [], length, take, drop, refl}
 use Rattle.std.proofs.Common.{sym, ap, ◌∙◌, subst, inr, ⊎_elim, arith}
 use Rattle.std.specs.Prelude.{map}
-use Rattle.std.proofs.lemmas.Bool.{cases_lt}
-use Rattle.std.proofs.lemmas.List.{append-nil, length-take-le, take-take}
+use Rattle.std.proofs.lemmas.List.{append-nil, take-take}
 use Rattle.wasm_syntax.specs.declared.module.Module.{Module}
 use Rattle.wasi_abi.specs.rules.Configs.{Settings}
 use Rattle.process_rules.specs.Processes.{ProcessState, Guest}
 use Rattle.process_rules.specs.Runs.{Kept, Runs, Reaches}
-use Rattle.process_rules.specs.Behind.{AnswersBehindLine, IsNarrowTo}
+use Rattle.process_rules.specs.Behind.{IsNarrowTo}
 use Rattle.process_rules.proofs.Quiet.{runs_join}
 use Rattle.state_image.specs.rules.ProcessImage.{Saved}
 use Rattle.sector_disk.specs.rules.DiskImage.{DiskImage}
@@ -17,9 +16,9 @@ use Rattle.sector_disk.proofs.Moments.{leaves_weaker}
 use Rattle.disk_layout.specs.rules.Journal.{Record}
 use Rattle.record_replay.specs.rules.Records.{Recorded, given_in}
 use Rattle.record_replay.proofs.Recordings.{recorded_runs}
-use Rattle.worker_store.proofs.RestartLemmas.Fronts.{reached_counts, up_to_front}
+use Rattle.worker_store.proofs.RestartLemmas.Fronts.{reached_counts}
 use Rattle.worker_store.specs.restart_theorem.Lives.{Opened}
-use Rattle.worker_store.specs.restart_theorem.Promises.{Promise, after, HoldsAll}
+use Rattle.worker_store.specs.restart_theorem.Promises.{Promise, after}
 use Rattle.worker_store.specs.restart_theorem.Holds.{HoldsPromise, DiskImageHolds}
 use Rattle.worker_store.specs.rules.Savepoints.{Savepoint, IsAtSavepoint, BeginsAtPoint}
 use Rattle.worker_store.specs.laws.Savepoints.{StandsBySaved}
@@ -27,7 +26,8 @@ use Rattle.worker_store.specs.rules.Carried.{answers_at, count_at, IsHeldAt}
 use Rattle.worker_store.specs.laws.Recovered.{RetoldIsHeld, RecoveryOpens}
 use Rattle.worker_store.proofs.LawLemmas.Points.{by_point}
 use Rattle.worker_store.proofs.LawLemmas.Carrying.{held_at_holds_promise, less_is_held}
-use Rattle.worker_store.proofs.LawLemmas.Carrying.{next_is_held, opening_is_held, answers_count}
+use Rattle.worker_store.proofs.LawLemmas.Carrying.{held_of_front, retold, next_is_held}
+use Rattle.worker_store.proofs.LawLemmas.Carrying.{opening_is_held, answers_count}
 
 -- ---- lines
 
@@ -55,104 +55,25 @@ recorded_is_reached m config point records last kept recorded same =
 
 pub retold_is_held : RetoldIsHeld
 retold_is_held m config promise promise' point records last held adds =
-    let all = held.holds in
-    let n : ℕ = count_at point records in
-    let answers : promise.answers ≤ n = all.answers in
-    let counted : promise.steps ≤ last.steps = all.steps_held in
-    let few_answers : promise'.answers ≡ promise.answers = adds.answers in
-    let few_steps : promise'.steps ≡ promise.steps = adds.steps in
-    let none_passed : promise'.passed ≡ promise.passed = adds.passed in
-    let passed : promise.passed ≤ point.saved.lines = held.passed in
-    let heard : point.saved.lines ≤ promise.heard = held.heard in
-    let more_heard : promise.heard ≤ promise'.heard = adds.heard in
-    record {
-      created = adds.created ∙ held.created;
-      front = ap (λ (l : List Kept). take (count_at point records) l) adds.kept ∙ held.front;
-      recorded = held.recorded;
-      holds = subst (λ (l : List Kept).
-          HoldsAll m config l promise' (count_at point records) last.steps) (sym adds.kept)
-          (record {
-            within = all.within;
-            up_to = all.up_to;
-            answers = omega (arith, answers, few_answers);
-            steps_held = omega (arith, counted, few_steps);
-            lines = λ i below. ⊎_elim
-                (λ (late : promise.begun < i). later i (told i promise'.begun
-                (length last.host.lines) promise.begun below adds.begun late))
-                (λ (early : i ≤ promise.begun). all.lines i early)
-                (cases_lt promise.begun i);
-            syncs = λ k a below behind.
-                all.syncs k a (same_below k promise'.synced promise.synced below adds.synced)
-                behind;
-          });
-      heard = omega (arith, heard, more_heard);
-      passed = omega (arith, passed, none_passed);
-    }
-  where
-    told : (i begun line before : ℕ) → i ≤ begun → begun ≤ max line before → before < i → i ≤ line
-    told i begun line before below most late = omega (arith, below, most, late)
-
-    same_below : (k a b : ℕ) → k ≤ a → a ≡ b → k ≤ b
-    same_below k a b below e = omega (arith, below, e)
-
-    later : (i : ℕ) → i ≤ length last.host.lines
-        → (a : ℕ) × (a ≤ count_at point records) × AnswersBehindLine m config promise.kept i a
-    later i few =
-        let reached = recorded_is_reached m config point records last
-        (take (count_at point records) promise.kept) held.recorded held.front in (
-          count_at point records,
-          omega arith,
-          record {
-            within = held.holds.within;
-            steps = reached.0;
-            process = last;
-            reached = reached.1;
-            up_to = subst (λ n. IsNarrowTo (drop (count_at point records) promise.kept) n)
-                (reached_counts m config (take (count_at point records) promise.kept) reached.0 last
-                reached.1) held.holds.up_to;
-            emitted = few;
-          },
-        )
+    let reached = recorded_is_reached m config point records last
+    (take (count_at point records) promise.kept) held.recorded held.front in
+    retold m config promise promise' point records last (length last.host.lines) held adds
+    (λ i few. (
+      count_at point records,
+      omega arith,
+      record {
+        within = held.holds.within;
+        steps = reached.0;
+        process = last;
+        reached = reached.1;
+        up_to = subst (λ n. IsNarrowTo (drop (count_at point records) promise.kept) n)
+            (reached_counts m config (take (count_at point records) promise.kept) reached.0 last
+            reached.1) held.holds.up_to;
+        emitted = few;
+      },
+    ))
 
 -- ---- the opening
-
--- what is held is held by as many answers as the opening keeps
-held_of_front : (m : Module) (config : Settings) (promise : Promise) (kept : List Kept)
-    (n held steps : ℕ) → n ≤ length kept → held ≡ n → HoldsAll m config kept promise held steps
-    → HoldsAll m config (take n kept) promise held steps
-held_of_front m config promise kept n held steps within same holds =
-    let long : length (take n kept) ≡ n = length-take-le n kept within in
-    record {
-      within = omega (arith, same, long);
-      up_to = up_to_front held n steps kept holds.up_to;
-      answers = holds.answers;
-      steps_held = holds.steps_held;
-      lines = λ i below.
-          let line = holds.lines i below in
-          (line.0, line.1, shorter i line.0 (enough line.0 held n line.1 same) long line.2);
-      syncs = λ k a below behind. few a (length (take n kept)) n held behind.within long same;
-    }
-  where
-    enough : (a held n : ℕ) → a ≤ held → held ≡ n → a ≤ n
-    enough a held n below e = omega (arith, below, e)
-
-    few : (a l n held : ℕ) → a ≤ l → l ≡ n → held ≡ n → a ≤ held
-    few a l n held below e f = omega (arith, below, e, f)
-
-    within_of : (a n l : ℕ) → a ≤ n → l ≡ n → a ≤ l
-    within_of a n l below e = omega (arith, below, e)
-
-    shorter : (i a : ℕ) → a ≤ n → length (take n kept) ≡ n → AnswersBehindLine m config kept i a
-        → AnswersBehindLine m config (take n kept) i a
-    shorter i a few long behind = record {
-      within = within_of a n (length (take n kept)) few long;
-      steps = behind.steps;
-      process = behind.process;
-      reached = subst (λ l. Reaches m config l behind.steps behind.process)
-          (sym (take-take a n kept few)) behind.reached;
-      up_to = up_to_front a n behind.steps kept behind.up_to;
-      emitted = behind.emitted;
-    }
 
 -- What is there holds what was promised, of the answers that the opening keeps.
 front_opened : (m : Module) (config : Settings) (promise : Promise) (point : Savepoint m config)

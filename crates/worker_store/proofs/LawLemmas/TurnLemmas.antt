@@ -1,13 +1,12 @@
 -- Parts of a call, one after another: what they make of what was promised, and of the disk.
-use Rattle.std.proofs.Common.{◌≡◌, ℕ, ◌+◌, ◌<◌, ◌≤◌, Bool, true, false, List, ◌++◌, length, take}
+use Rattle.std.proofs.Common.{◌≡◌, ℕ, ◌+◌, ◌<◌, ◌≤◌, true, false, List, ◌++◌, length, take}
 use Rattle.std.proofs.Common.{drop, ◌⊎◌, refl, sym, ap, ◌∙◌, subst, inl, inr, ⊎_elim, arith}
 use Rattle.std.proofs.Common.{length-append}
-use Rattle.std.specs.Prelude.{max}
+use Rattle.std.proofs.Math.Nat.{le_of_eq, le_trans}
 use Rattle.std.proofs.lemmas.Bool.{cases_lt}
 use Rattle.std.proofs.lemmas.List.{take_all, take-append-le, length-take-le}
 use Rattle.wasm_syntax.specs.declared.module.Module.{Module}
 use Rattle.wasm_rules.specs.Validity.{IsValid}
-use Rattle.wasi_abi.specs.declared.answer.Question.{Question}
 use Rattle.wasi_abi.specs.rules.Configs.{Settings}
 use Rattle.process_rules.specs.Processes.{ProcessState}
 use Rattle.process_rules.specs.Runs.{Kept, Reaches}
@@ -17,8 +16,7 @@ use Rattle.sector_disk.specs.rules.Medium.{Medium, LeavesOnly}
 use Rattle.sector_disk.proofs.Moments.{started, leaves_only}
 use Rattle.record_replay.specs.rules.Calls.{Exchange}
 use Rattle.worker_store.specs.restart_theorem.Stands.{StandsFor}
-use Rattle.worker_store.specs.restart_theorem.Lives.{SourceSaid, Release, Event, Told, Asked, Ended}
-use Rattle.worker_store.specs.restart_theorem.Lives.{kept_of_said}
+use Rattle.worker_store.specs.restart_theorem.Lives.{Event, Told, Asked, Ended, kept_of_said}
 use Rattle.worker_store.specs.restart_theorem.Courses.{Stage, next_stage, stage_after}
 use Rattle.worker_store.specs.restart_theorem.Promises.{Promise, after, promised, HoldsAll}
 use Rattle.worker_store.specs.restart_theorem.Holds.{HoldsPromise, IsUnopened, DiskImageHolds}
@@ -28,11 +26,12 @@ use Rattle.worker_store.specs.restart_theorem.Exchanges.{was_taken, release_of, 
 use Rattle.worker_store.specs.restart_theorem.Exchanges.{told, asked}
 use Rattle.worker_store.specs.rules.Carried.{answers_at, count_at, SyncsAreHeld}
 use Rattle.worker_store.specs.laws.Carried.{PromisesNoMore}
-use Rattle.worker_store.specs.laws.Raised.{MoreCarries}
+use Rattle.worker_store.specs.laws.Raised.{ToldCarries, MoreCarries}
 use Rattle.worker_store.specs.laws.Turns.{ToldStillHolds, AskedStillHolds}
 use Rattle.worker_store.specs.laws.Turns.{EndedStillHolds, LeavesBegun, PartsLeaveBegun, GoesOnFrom}
 use Rattle.worker_store.specs.laws.Turns.{TurnsJoin, TurnsCarry, RestsGoOn, LinesCarry}
-use Rattle.worker_store.proofs.LawLemmas.Carrying.{less_is_held, answers_count, within_of}
+use Rattle.worker_store.proofs.LawLemmas.Carrying.{less_is_held, answers_count, within_of, retold}
+use Rattle.worker_store.proofs.LawLemmas.Telling.{adds_none, adds_more}
 use Rattle.worker_store.proofs.LawLemmas.Raising.{no_earlier, behind_front, line_of_more}
 use Rattle.worker_store.proofs.LawLemmas.Raising.{up_to_rest, up_to_before, up_to_end}
 use Rattle.worker_store.proofs.LawLemmas.Raising.{front_of_more}
@@ -57,7 +56,7 @@ holds_still m config first then now image holds created more same all =
     let here : IsStood m config (take holds.held then.kept) holds.steps now.heard first.passed
     image = record {
       stands = holds.stands;
-      heard_is = above holds.stands.saved.lines then.heard now.heard holds.snapshot_heard more;
+      heard_is = le_trans holds.snapshot_heard more;
       passed_is = holds.snapshot_passed;
     } in
     let there = subst (λ l. IsStood m config l holds.steps now.heard first.passed image) same here
@@ -71,9 +70,6 @@ holds_still m config first then now image holds created more same all =
       snapshot_heard = there.heard_is;
       snapshot_passed = there.passed_is;
     }
-  where
-    above : (a b c : ℕ) → a ≤ b → b ≤ c → a ≤ c
-    above a b c x y = omega (arith, x, y)
 
 -- what has no worker has none
 still : (m : Module) (config : Settings) (first then now : Promise) (image : DiskImage)
@@ -213,14 +209,11 @@ module _ (m : Module) (config : Settings) (kept more_kept : List Kept) (n : ℕ)
         lines = λ i below. line_stays i held first.begun below may (holds.lines i below);
         syncs = λ k b below behind. ⊎_elim
             (λ (all : length kept < b).
-            absurd (not_behind k b (up_to k first.synced below early) all behind))
+            absurd (not_behind k b (le_trans below early) all behind))
             (λ (few : b ≤ length kept).
             holds.syncs k b below (behind_front m config kept more_kept k b few behind))
             (cases_lt (length kept) b);
       }
-    where
-      up_to : (k synced : ℕ) → k ≤ synced → synced ≤ n → k ≤ n
-      up_to k synced below early = omega (arith, below, early)
 
 module _ {D : Type 0} (medium : D → Medium) where
   pub more_carries : MoreCarries medium
@@ -280,90 +273,73 @@ asked_still_holds m config promise p question said fits valid reached synced fir
 
 -- ---- what parts leave alone
 
+no_more_join : (a b c : Promise) → PromisesNoMore a b → PromisesNoMore b c → PromisesNoMore a c
+no_more_join a b c x y = record {
+  answers = le_trans x.answers y.answers;
+  steps = le_trans x.steps y.steps;
+  passed = le_trans x.passed y.passed;
+  begun = le_trans x.begun y.begun;
+  synced = le_trans x.synced y.synced;
+}
+
+pub same_no_more : (promise : Promise) → PromisesNoMore promise promise
+same_no_more promise = record {
+  answers = omega arith;
+  steps = omega arith;
+  passed = omega arith;
+  begun = omega arith;
+  synced = omega arith;
+}
+
 begun_join : (first between last : Promise) (stage inside stage' : Stage)
     → LeavesBegun first between stage inside → LeavesBegun between last inside stage'
     → LeavesBegun first last stage stage'
-begun_join first between last stage inside stage' a b =
-    let x = a.no_more in
-    let y = b.no_more in
-    record {
-      opened = b.opened ∙ a.opened;
-      step = b.step ∙ a.step;
-      acts = b.acts ∙ a.acts;
-      no_more = record {
-        answers = omega (arith, x.answers, y.answers);
-        steps = omega (arith, x.steps, y.steps);
-        passed = omega (arith, x.passed, y.passed);
-        begun = omega (arith, x.begun, y.begun);
-        synced = omega (arith, x.synced, y.synced);
-      };
-      events = omega (arith, a.events, b.events);
-    }
-
-told_begun : (promise : Promise) (stage : Stage) (r : Release) (is_taken : Bool)
-    → LeavesBegun promise (after promise (Told r is_taken)) stage
-    (next_stage stage (Told r is_taken))
-told_begun promise stage r is_taken = record {
-  opened = refl;
-  step = refl;
-  acts = refl;
-  no_more = record {
-    answers = omega arith;
-    steps = omega arith;
-    passed = omega arith;
-    begun = omega arith;
-    synced = omega arith;
-  };
-  events = omega arith;
+begun_join first between last stage inside stage' a b = record {
+  opened = b.opened ∙ a.opened;
+  step = b.step ∙ a.step;
+  acts = b.acts ∙ a.acts;
+  no_more = no_more_join first between last a.no_more b.no_more;
+  events = le_trans a.events b.events;
 }
 
-asked_begun : (promise : Promise) (stage : Stage) (steps : ℕ) (question : Question)
-    (said : SourceSaid) (fits : Bool)
-    → LeavesBegun promise (after promise (Asked steps question said fits)) stage
-    (next_stage stage (Asked steps question said fits))
-asked_begun promise stage steps question said fits = record {
-  opened = refl;
-  step = refl;
-  acts = refl;
+-- where as much is begun and promised, and more may have been asked and told
+only_more : {first last : Promise} {stage stage' : Stage} → last.has_opened ≡ first.has_opened
+    → stage'.step ≡ stage.step → stage'.acts ≡ stage.acts → last.answers ≡ first.answers
+    → last.steps ≡ first.steps → last.passed ≡ first.passed → first.begun ≤ last.begun
+    → first.synced ≤ last.synced → first.events ≤ last.events
+    → LeavesBegun first last stage stage'
+only_more opened step acts answers steps passed begun synced events = record {
+  opened = opened;
+  step = step;
+  acts = acts;
   no_more = record {
-    answers = omega arith;
-    steps = omega arith;
-    passed = omega arith;
-    begun = omega arith;
-    synced = omega arith;
+    answers = omega (arith, answers);
+    steps = omega (arith, steps);
+    passed = omega (arith, passed);
+    begun = begun;
+    synced = synced;
   };
-  events = omega arith;
+  events = events;
 }
 
 begun_of : (promise : Promise) (stage : Stage) (exchanges : List Exchange) (events : List Event)
     → AreEvents exchanges events
     → LeavesBegun promise (promised promise events) stage (stage_after stage events)
-begun_of promise stage exchanges events none = record {
-  opened = refl;
-  step = refl;
-  acts = refl;
-  no_more = record {
-    answers = omega arith;
-    steps = omega arith;
-    passed = omega arith;
-    begun = omega arith;
-    synced = omega arith;
-  };
-  events = omega arith;
-}
+begun_of promise stage exchanges events none =
+    only_more refl refl refl refl refl refl (omega arith) (omega arith) (omega arith)
 begun_of promise stage exchanges events (told {begun = begun} {exchanges = rest} {events = others}
     are) =
     let e : Event = Told (release_of begun) (was_taken begun.said) in
     begun_join promise (after promise e) (promised (after promise e) others) stage
     (next_stage stage e) (stage_after (next_stage stage e) others)
-    (told_begun promise stage (release_of begun) (was_taken begun.said))
+    (only_more refl refl refl refl refl refl (omega arith) (omega arith) (omega arith))
     (begun_of (after promise e) (next_stage stage e) rest others are)
 begun_of promise stage exchanges events (asked {ask = ask} {steps = steps} {fits = fits}
     {exchanges = rest} {events = others} are) =
     let e : Event = Asked steps ask.question ask.said fits in
     begun_join promise (after promise e) (promised (after promise e) others) stage
     (next_stage stage e) (stage_after (next_stage stage e) others)
-    (asked_begun promise stage steps ask.question ask.said fits)
+    (only_more refl refl refl refl refl refl (omega arith) (omega arith) (omega arith))
     (begun_of (after promise e) (next_stage stage e) rest others are)
 
 pub parts_leave_begun : PartsLeaveBegun
@@ -391,24 +367,6 @@ lowered m config less more now image opened no_more held =
     (λ (holds : HoldsPromise m config more now image).
     inr (less_is_held m config less more now image no_more holds))
     held
-
-no_more_join : (a b c : Promise) → PromisesNoMore a b → PromisesNoMore b c → PromisesNoMore a c
-no_more_join a b c x y = record {
-  answers = omega (arith, x.answers, y.answers);
-  steps = omega (arith, x.steps, y.steps);
-  passed = omega (arith, x.passed, y.passed);
-  begun = omega (arith, x.begun, y.begun);
-  synced = omega (arith, x.synced, y.synced);
-}
-
-pub same_no_more : (promise : Promise) → PromisesNoMore promise promise
-same_no_more promise = record {
-  answers = omega arith;
-  steps = omega arith;
-  passed = omega arith;
-  begun = omega arith;
-  synced = omega arith;
-}
 
 module _ (m : Module) (config : Settings) (first between last : Promise) (old inside new : Medium)
     (a : GoesOnFrom m config first between old inside)
@@ -447,12 +405,9 @@ module _ (m : Module) (config : Settings) (first between last : Promise) (old in
               (λ now. inr (from_first image now))
               (x.nothing_else t image le past))
               (λ now. inr (from_second image now))
-              (y.nothing_else t image (up_to t le x.later) crashed);
+              (y.nothing_else t image (le_trans le x.later) crashed);
         };
       }
-    where
-      up_to : (t : ℕ) → t ≤ old.moment → old.moment ≤ inside.moment → t ≤ inside.moment
-      up_to t le later = omega (arith, le, later)
 
 module _ {D : Type 0} (medium : D → Medium) where
   pub turns_join : TurnsJoin medium
@@ -488,20 +443,14 @@ module _ {D : Type 0} (medium : D → Medium) where
   pub lines_carry : LinesCarry medium
   lines_carry m config promise promise' point journal records pending last now p n disk is
       on_record reached adds =
-      let held = is.held in
-      let holds = held.holds in
       let long : length promise.kept ≡ count_at point records =
       ap (λ l. length l) on_record ∙ answers_count point records in
-      let here : HoldsAll m config promise.kept promise' (count_at point records) last.steps =
       record {
-        within = holds.within;
-        up_to = holds.up_to;
-        answers = no_later _ _ _ adds.answers holds.answers;
-        steps_held = no_later _ _ _ adds.steps holds.steps_held;
-        lines = λ i below. ⊎_elim
-            (λ (late : promise.begun < i). (
+        journaled = is.journaled;
+        held = retold m config promise promise' point records last (length p.host.lines) is.held
+            adds (λ i few. (
               length promise.kept,
-              at_most _ _ long,
+              le_of_eq long,
               record {
                 within = omega arith;
                 steps = n;
@@ -509,44 +458,19 @@ module _ {D : Type 0} (medium : D → Medium) where
                 reached = subst (λ l. Reaches m config l n p)
                     (sym (take_all (length promise.kept) promise.kept (omega arith))) reached;
                 up_to = up_to_end promise.kept n;
-                emitted = not_above i promise'.begun promise.begun (length p.host.lines) below
-                    late adds.begun;
+                emitted = few;
               },
-            ))
-            (λ (early : i ≤ promise.begun). holds.lines i early)
-            (cases_lt promise.begun i);
-        syncs = λ k a below behind.
-            holds.syncs k a (same_bound k _ _ below adds.synced) behind;
-      } in
-      record {
-        journaled = is.journaled;
-        held = record {
-          created = adds.created ∙ held.created;
-          front = ap (λ l. take (count_at point records) l) adds.kept ∙ held.front;
-          recorded = held.recorded;
-          holds = subst (λ l. HoldsAll m config l promise' (count_at point records) last.steps)
-              (sym adds.kept) here;
-          heard = below_more _ _ _ held.heard adds.heard;
-          passed = no_later _ _ _ adds.passed held.passed;
-        };
+            ));
         answers = ap (λ l. take (count_at point (records ++ pending)) l) adds.kept ∙ is.answers;
         up_to = subst (λ (l : List Kept).
             IsNarrowTo (drop (count_at point (records ++ pending)) l) now.steps) (sym adds.kept)
             is.up_to;
       }
-    where
-      at_most : (a b : ℕ) → a ≡ b → a ≤ b
-      at_most a b e = omega (arith, e)
 
-      no_later : (a b c : ℕ) → a ≡ b → b ≤ c → a ≤ c
-      no_later a b c e x = omega (arith, e, x)
-
-      below_more : (a b c : ℕ) → a ≤ b → b ≤ c → a ≤ c
-      below_more a b c x y = omega (arith, x, y)
-
-      same_bound : (k a b : ℕ) → k ≤ a → a ≡ b → k ≤ b
-      same_bound k a b below e = omega (arith, below, e)
-
-      not_above : (i now begun lines : ℕ) → i ≤ now → begun < i → now ≤ max lines begun
-          → i ≤ lines
-      not_above i now begun lines below late few = omega (arith, below, late, few)
+  pub told_carries : ToldCarries medium
+  told_carries m config promise point journal records pending last now p n r is_taken disk is
+      on_record reached few =
+      let then : Promise = after promise (Told r is_taken) in
+      let lines : ℕ = length p.host.lines in
+      lines_carry m config promise then point journal records pending last now p n disk is on_record
+      reached (adds_more promise then r is_taken lines few (adds_none then lines))

@@ -117,32 +117,42 @@ module _ (m : Module) (config : Settings) (guest : Guest) where
       (subst (λ z. IsWithinSlice z stage.step steps) (sym is)
       (within_act act acts stage.step steps stepping begun in_time))
 
+  -- the next line is told, where it is its time
+  telling : (promise : Promise) (stage : Stage) (act : Act) (told : ℕ) (p : ProcessState)
+      (line : Line) → IsInItsSlice m config guest promise stage act (length promise.kept) p
+      → IsToldIn stage.phase stage.acts stage.step p.steps → stage.line ≡ Some told
+      → told ≤ promise.heard → promise.passed ≤ told → slice_get p.host.lines told ≡ Some line
+      → IsTelling m config promise stage (record { number = told + 1; line = line })
+      (first_taken stage.takes)
+  telling promise stage act told p line at in_time last heard passed is = record {
+    is_line = record {
+      answers = length promise.kept;
+      steps = p.steps;
+      process = p;
+      reached = record {
+        guest = guest;
+        start = at.start;
+        begins = at.begins;
+        runs = at.runs;
+      };
+      up_to = up_to_end promise.kept p.steps;
+      place = told;
+      counted = refl;
+      is = is;
+    };
+    in_time = in_time;
+    follows = subst (λ z. ComesAfter z (told + 1)) (sym last) refl;
+    none_skipped = omega (arith, heard);
+    not_passed = omega (arith, passed);
+    heard = refl;
+  }
+
   pub lines_are_told : LinesAreTold m config guest
   lines_are_told promise stage act told p line way is =
       let at = way.in_slice in
-      record {
-        is_line = record {
-          answers = length promise.kept;
-          steps = p.steps;
-          process = p;
-          reached = record {
-            guest = guest;
-            start = at.start;
-            begins = at.begins;
-            runs = at.runs;
-          };
-          up_to = up_to_end promise.kept p.steps;
-          place = told;
-          counted = refl;
-          is = is;
-        };
-        in_time = told_in stage act at.acts p.steps way.is_open at.slice at.takes_steps at.begun
-            at.in_time;
-        follows = subst (λ z. ComesAfter z (told + 1)) (sym way.line) refl;
-        none_skipped = (let h = way.heard in omega (arith, h));
-        not_passed = (let h = way.passed in omega (arith, h));
-        heard = refl;
-      }
+      telling promise stage act told p line at
+      (told_in stage act at.acts p.steps way.is_open at.slice at.takes_steps at.begun at.in_time)
+      way.line way.heard way.passed is
 
   -- where a slice has come to, of another promise that has the same front of answers
   still_in : (promise promise' : Promise) (stage stage' : Stage) (act : Act) (held : ℕ)
@@ -162,14 +172,21 @@ module _ (m : Module) (config : Settings) (guest : Guest) where
     in_time = (let b = at.in_time in omega (arith, b, first));
   }
 
+  -- behind a line
+  still_told : (promise : Promise) (stage : Stage) (act : Act) (p : ProcessState) (r : Release)
+      (is_taken : Bool) → IsInItsSlice m config guest promise stage act (length promise.kept) p
+      → IsInItsSlice m config guest (after promise (Told r is_taken))
+      (next_stage stage (Told r is_taken)) act (length promise.kept) p
+  still_told promise stage act p r is_taken at =
+      still_in promise (after promise (Told r is_taken)) stage (next_stage stage (Told r is_taken))
+      act (length promise.kept) p refl at.within refl refl at
+
   pub taken_lines_go_on : TakenLinesGoOn m config guest
   taken_lines_go_on promise stage act told p line way is =
       let r : Release = record { number = told + 1; line = line } in
       let inside : told < length p.host.lines = slice_get_within p.host.lines told line is in
       record {
-        in_slice = still_in promise (after promise (Told r true)) stage
-            (next_stage stage (Told r true)) act (length promise.kept) p refl
-            way.in_slice.within refl refl way.in_slice;
+        in_slice = still_told promise stage act p r true way.in_slice;
         is_open = way.is_open;
         line = refl;
         emitted = omega (arith, inside);
@@ -179,9 +196,7 @@ module _ (m : Module) (config : Settings) (guest : Guest) where
 
   pub refused_lines_break : RefusedLinesBreak m config guest
   refused_lines_break promise stage act told p r way among = record {
-    in_slice = still_in promise (after promise (Told r false)) stage
-        (next_stage stage (Told r false)) act (length promise.kept) p refl
-        way.in_slice.within refl refl way.in_slice;
+    in_slice = still_told promise stage act p r false way.in_slice;
     is = ap phase_refused way.is_open;
     told = among;
   }
@@ -360,30 +375,11 @@ module _ (m : Module) (config : Settings) (guest : Guest) where
       (first_taken stage.takes)
   left_lines_are_told promise stage act told p line left is =
       let at = left.in_slice in
-      record {
-        is_line = record {
-          answers = length promise.kept;
-          steps = p.steps;
-          process = p;
-          reached = record {
-            guest = guest;
-            start = at.start;
-            begins = at.begins;
-            runs = at.runs;
-          };
-          up_to = up_to_end promise.kept p.steps;
-          place = told;
-          counted = refl;
-          is = is;
-        };
-        in_time = told_late stage.phase stage.acts stage.step p.steps left.asked left.batch
-            (subst (λ (l : List Act). IsWithinSlice l stage.step p.steps) (sym at.slice)
-            (within_act act at.acts stage.step p.steps at.takes_steps at.begun at.in_time));
-        follows = subst (λ z. ComesAfter z (told + 1)) (sym left.line) refl;
-        none_skipped = (let h = left.heard in omega (arith, h));
-        not_passed = (let h = left.passed in omega (arith, h));
-        heard = refl;
-      }
+      telling promise stage act told p line at
+      (told_late stage.phase stage.acts stage.step p.steps left.asked left.batch
+      (subst (λ (l : List Act). IsWithinSlice l stage.step p.steps) (sym at.slice)
+      (within_act act at.acts stage.step p.steps at.takes_steps at.begun at.in_time)))
+      left.line left.heard left.passed is
 
   pub taken_lines_are_left : (promise : Promise) (stage : Stage) (act : Act) (told : ℕ)
       (p : ProcessState) (line : Line) → HasLinesLeft m config guest promise stage act told p
@@ -395,9 +391,7 @@ module _ (m : Module) (config : Settings) (guest : Guest) where
       let r : Release = record { number = told + 1; line = line } in
       let inside : told < length p.host.lines = slice_get_within p.host.lines told line is in
       record {
-        in_slice = still_in promise (after promise (Told r true)) stage
-            (next_stage stage (Told r true)) act (length promise.kept) p refl
-            left.in_slice.within refl refl left.in_slice;
+        in_slice = still_told promise stage act p r true left.in_slice;
         batch = left.batch;
         asked = left.asked;
         line = refl;
@@ -420,9 +414,7 @@ module _ (m : Module) (config : Settings) (guest : Guest) where
       → IsBroken m config guest (after promise (Told r false)) (next_stage stage (Told r false)) act
       (standstill (length promise.kept) p (Broken OfOutlet))
   refused_lines_break_off promise stage act told p r left among = record {
-    in_slice = still_in promise (after promise (Told r false)) stage
-        (next_stage stage (Told r false)) act (length promise.kept) p refl
-        left.in_slice.within refl refl left.in_slice;
+    in_slice = still_told promise stage act p r false left.in_slice;
     is = refused_late stage.phase left.asked;
     told = among;
   }

@@ -1,5 +1,5 @@
 -- A life that is abreast of earlier ones stays so. A process that asks takes no step by itself.
-use Rattle.std.proofs.Common.{◌≡◌, ◌<◌, ⊎_elim, ℕ, ◌+◌, Bool, true, ◌||◌, List, [], ◌∷◌, ◌++◌}
+use Rattle.std.proofs.Common.{ap, ◌≡◌, ◌<◌, ⊎_elim, ℕ, ◌+◌, Bool, true, ◌||◌, List, [], ◌∷◌, ◌++◌}
 use Rattle.std.proofs.Common.{Option, Some, None, is_some, refl, subst, arith}
 use Rattle.wasm_syntax.specs.declared.module.Module.{Module}
 use Rattle.wasm_rules.specs.Validity.{IsValid}
@@ -67,16 +67,21 @@ wants_no_step guest p q question wants moves =
     leads_nowhere : (next : Next) → next ≡ Wants question → LeadsTo guest next None p q → ⊥
     leads_nowhere next is leads = rw is at leads
 
--- without answers it stays where it is
-stays_there : (guest : Guest) (p q : ProcessState) (kept : List Kept) (n : ℕ)
-    (question : Question) → Runs guest p kept n q → kept ≡ []
-    → next_of guest p None ≡ Wants question → q.steps ≡ p.steps
-stays_there guest p q kept n question none e wants = refl
-stays_there guest p q kept n question (step {q = next} moves rest) e wants =
-    absurd (wants_no_step guest p next question wants moves)
-stays_there guest p q kept n question (takes moves rest) e wants = absurd (cc)
-stays_there guest p q kept n question (widen at rest) e wants = absurd (cc)
-stays_there guest p q kept n question (succeed at sum rest) e wants = absurd (cc)
+-- Without answers a process that can't move stays where it is,
+pub stays_put : (guest : Guest) (p q : ProcessState) (kept : List Kept) (n : ℕ)
+    → Runs guest p kept n q → kept ≡ []
+    → ((next : ProcessState) → Moves guest p None next → ⊥) → q ≡ p
+stays_put guest p q kept n none e still = refl
+stays_put guest p q kept n (step {q = next} moves rest) e still = absurd (still next moves)
+stays_put guest p q kept n (takes moves rest) e still = absurd (cc)
+stays_put guest p q kept n (widen at rest) e still = absurd (cc)
+stays_put guest p q kept n (succeed at sum rest) e still = absurd (cc)
+
+-- as one that asks.
+pub stays_asking : (guest : Guest) (p q : ProcessState) (question : Question) (kept : List Kept)
+    (n : ℕ) → Runs guest p kept n q → kept ≡ [] → next_of guest p None ≡ Wants question → q ≡ p
+stays_asking guest p q question kept n runs e wants = stays_put guest p q kept n runs e
+    (λ next moves. wants_no_step guest p next question wants moves)
 
 -- so where it asks before any answer, no other process is reached later without one
 none_later : (m : Module) (config : Settings) (n k : ℕ) (p q : ProcessState)
@@ -87,7 +92,8 @@ none_later m config n k p q question valid reached wants other late =
     let there : q.steps ≡ k = reached_counts m config [] k q other in
     ⊎_elim
     (λ (on : LeadsOn reached.guest p q [] []).
-    let same = stays_there reached.guest p q on.kept on.steps question on.runs on.front wants in
+    let same : q.steps ≡ p.steps = ap (λ (z : ProcessState). z.steps)
+    (stays_asking reached.guest p q question on.kept on.steps on.runs on.front wants) in
     omega (arith, here, there, same, late))
     (λ (on : LeadsOn reached.guest q p [] []).
     let count = runs_count reached.guest q p on.kept on.steps on.runs in

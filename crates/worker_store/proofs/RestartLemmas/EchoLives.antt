@@ -1,21 +1,21 @@
 -- What is no life of `echo`.
 use Rattle.std.proofs.Common.{◌≡◌, inl, inr, ℕ, zero, suc, ◌+◌, ◌≤◌, List, [], length}
-use Rattle.std.proofs.Common.{None, refl, sym, ap, ◌∙◌, subst, arith, length-append}
+use Rattle.std.proofs.Common.{None, sym, ap, ◌∙◌, subst, arith, length-append}
 use Rattle.std.proofs.lemmas.Option.{slice_get_within}
 use Rattle.wasm_syntax.specs.laws.Examples.{echo}
 use Rattle.wasi_abi.specs.rules.Configs.{Settings}
 use Rattle.wasi_abi.specs.declared.answer.Question.{Question}
 use Rattle.wasi_abi.specs.declared.answer.Question.TheVariants as questions
 use Rattle.wasi_calls_rules.specs.WasiStates.{Line}
-use Rattle.process_rules.specs.Processes.{ProcessState, Guest}
-use Rattle.process_rules.specs.Runs.{Kept, Wants, Runs, Reaches, next_of, LeadsTo, none, step}
-use Rattle.process_rules.specs.Runs.{take, widen, succeed}
+use Rattle.process_rules.specs.Processes.{ProcessState}
+use Rattle.process_rules.specs.Runs.{Kept, Wants, Runs, Reaches, next_of}
 use Rattle.process_rules.specs.Behind.{AnswersBehindLine, IsLine}
 use Rattle.process_rules.proofs.EchoValid.{echo_is_valid}
 use Rattle.process_rules.proofs.EchoHolds.{EchoAsks, echo_asks}
 use Rattle.process_rules.proofs.Growing.{runs_emit}
 use Rattle.process_rules.proofs.OneStart.{start_once}
 use Rattle.worker_store.specs.restart_theorem.laws.WholeLives.{EchoRefusals}
+use Rattle.worker_store.proofs.RestartLemmas.Abreast.{stays_asking}
 use Rattle.worker_store.proofs.RestartLemmas.Fronts.{OneLeadsOn, fronts_lead_on, front_of_none}
 
 abbrev reaches_asking : (config : Settings) → Reaches echo config [] 5 (echo_asks config).asking
@@ -28,20 +28,7 @@ reaches_asking config = let asks = echo_asks config in record {
 
 -- ---- what is no life
 
--- A process that wants an answer takes no step without one.
-stays_asking : (guest : Guest) (p q : ProcessState) (question : Question) (kept : List Kept) (n : ℕ)
-    → Runs guest p kept n q → kept ≡ [] → next_of guest p None ≡ Wants question → q ≡ p
-stays_asking guest p q question kept n (none {p = p'}) e asks = refl
-stays_asking guest p q question kept n (step {p = p'} {q = q'} m rest) e asks =
-    let stopped : LeadsTo guest (next_of guest p' None) None p' q' = m.leads in
-    absurd (rw asks at stopped)
-stays_asking guest p q question kept n (take {p = p'} m rest) e asks =
-    absurd (let none_taken = e in cc)
-stays_asking guest p q question kept n (widen at rest) e asks = absurd (let none_taken = e in cc)
-stays_asking guest p q question kept n (succeed at sum rest) e asks =
-    absurd (let none_taken = e in cc)
-
--- so before its first answer `echo` tells nothing
+-- Before its first answer `echo` tells nothing,
 no_line_unasked : (config : Settings) (n : ℕ) (p : ProcessState) → Reaches echo config [] n p
     → length p.host.lines ≡ 0
 no_line_unasked config n p reached = go

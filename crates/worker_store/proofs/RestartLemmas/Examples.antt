@@ -1,67 +1,7 @@
 -- The examples of lives and promises hold.
-use Rattle.std.proofs.Common.{◌≡◌, ◌≤◌, ◌<◌, ℕ, zero, suc, Option, None, Some, refl, sym, subst}
-use Rattle.std.proofs.Common.{arith}
+use Rattle.std.proofs.Common.{◌≡◌, ◌≤◌, ◌<◌, ℕ, zero, suc, Option, None, Some, refl, subst, arith}
 use Rattle.wasi_abi.specs.rules.Configs.{Settings}
-use Rattle.worker_store.specs.restart_theorem.Lives.{Cause, OfDisk, OfOutlet}
-use Rattle.worker_store.specs.restart_theorem.Courses.{Phase, Shut, Open}
-use Rattle.worker_store.specs.restart_theorem.laws.Examples.{LivesExamples, PromiseExamples}
 use Rattle.worker_store.specs.restart_theorem.laws.Examples.{CourseExamples, ReplyExamples}
-
-pub lives_examples : LivesExamples
-lives_examples = record {
-  kept = refl;
-  told = refl;
-  lost = refl;
-  first_two = refl;
-  misfit = refl;
-  none_there = refl;
-  widened = refl;
-  widened_once = refl;
-  widened_in_vain = refl;
-  not_widened = refl;
-  saved_alone = refl;
-  narrow_again = refl;
-}
-
-pub promise_examples : PromiseExamples
-promise_examples = record {
-  after_a_question = refl;
-  after_a_slice = refl;
-  after_a_failed_slice = refl;
-  after_a_failed_checkpoint = refl;
-  after_a_checkpoint = refl;
-  after_an_upgrade = refl;
-  after_a_failed_upgrade = refl;
-  after_another_slice = refl;
-  after_opening = refl;
-  after_opening_further = refl;
-  after_no_step = refl;
-  after_less = refl;
-  after_fewer_steps = refl;
-  after_fewer_lines = refl;
-  after_telling = refl;
-  after_a_refusal = refl;
-}
-
-abbrev IsShut : Phase → Type 0
-IsShut Shut = Unit {0}
-IsShut _ = ⊥
-
-abbrev IsOpened : Phase → Type 0
-IsOpened Open = Unit {0}
-IsOpened _ = ⊥
-
-abbrev IsOfDisk : Cause → Type 0
-IsOfDisk OfDisk = Unit {0}
-IsOfDisk _ = ⊥
-
-abbrev IsOfOutlet : Cause → Type 0
-IsOfOutlet OfOutlet = Unit {0}
-IsOfOutlet _ = ⊥
-
-abbrev IsNothing : {X : Type 0} → Option X → Type 0
-IsNothing None = Unit {0}
-IsNothing (Some x) = ⊥
 
 abbrev IsNumberZero : Option ℕ → Type 0
 IsNumberZero None = ⊥
@@ -96,13 +36,13 @@ course_examples = record {
   failed_by_no_fault = λ h. h.1;
   failed_by_memory = (tt, tt, omega arith);
   shut_by_a_source = λ h. h.0;
-  shut_by_nothing = λ h. subst IsShut h.0 tt;
+  shut_by_nothing = λ h. (let e = h.0 in cc);
   unheard = (tt, tt, omega arith);
   unheard_told_as_memory = λ h. h.0;
   closed = (refl, tt, omega arith);
-  closed_told_as_a_disk = λ h. subst IsOfDisk h.0 tt;
+  closed_told_as_a_disk = λ h. (let e = h.0 in cc);
   cut_in_a_call = (tt, omega arith);
-  cut_told_as_memory = λ h. subst IsOfDisk (sym h.0) tt;
+  cut_told_as_memory = λ h. (let e = h.0 in cc);
 }
 
 pub reply_examples : (config : Settings) → ReplyExamples config
@@ -111,16 +51,16 @@ reply_examples config = record {
   spent_too_early = λ h. (let odd : 19 ≡ 20 = h.1 in omega (arith, odd));
   spent_with_a_line_untold = λ h. subst IsNumberZero h.3.all_told tt;
   waits = (refl, omega arith, refl, record { all_taken = refl; all_told = refl });
-  waits_unasked = λ h. subst IsOpened h.0 tt;
+  waits_unasked = λ h. (let e = h.0 in cc);
   batch_waits = (refl, omega arith, refl, record { all_taken = refl; all_told = refl });
   batch_waits_with_a_line_untold = λ h. subst IsNumberZero h.3.all_told tt;
   over = (refl, omega arith, refl, record { all_taken = refl; all_told = refl });
-  over_while_it_runs = λ h. subst IsNothing h.2 tt;
+  over_while_it_runs = λ h. (let e = h.2 in cc);
   saved = (refl, refl, record { all_taken = refl; all_told = refl });
   saved_a_step_on = λ h. (let odd : 1 ≡ 0 = h.1 in omega (arith, odd));
   slice_that_is_done = λ h. h;
   disk_fails = (tt, omega arith, omega arith);
   outlet_refuses = (refl, omega arith, omega arith);
   outlet_blamed = λ h. h.0;
-  refusal_told_as_memory = λ h. subst IsOfOutlet (sym h.0) tt;
+  refusal_told_as_memory = λ h. (let e = h.0 in cc);
 }

@@ -1,6 +1,6 @@
 -- The lives of `hello` go on, and what is no life of it.
 use Rattle.std.proofs.Common.{◌≡◌, inl, inr, ℕ, ◌+◌, ◌≤◌, ◌^◌, true, List, [], ◌∷◌, length}
-use Rattle.std.proofs.Common.{Option, Some, None, refl, sym, ap, ◌∙◌, subst, arith, length-append}
+use Rattle.std.proofs.Common.{Some, None, refl, sym, ap, ◌∙◌, subst, arith, length-append}
 use Rattle.std.specs.Prelude.{slice_get, codes, take as firsts}
 use Rattle.std.proofs.lemmas.Option.{slice_get_within, same_Some}
 use Rattle.wasm_syntax.specs.laws.Examples.{hello}
@@ -10,29 +10,30 @@ use Rattle.wasi_abi.specs.declared.answer.Question.{Question}
 use Rattle.wasi_calls_rules.specs.WasiStates.{Line}
 use Rattle.wasi_calls_rules.specs.declared.output_stream.OutputStream.TheVariants.{Stdout, Stderr}
 use Rattle.process_rules.specs.Processes.{ProcessState, Guest, Exited}
-use Rattle.process_rules.specs.Runs.{Kept, Wants, Runs, Reaches, next_of, LeadsTo, none, step, take}
-use Rattle.process_rules.specs.Runs.{widen, succeed}
-use Rattle.process_rules.specs.Behind.{IsNarrowTo, AnswersBehindLine, IsLine}
+use Rattle.process_rules.specs.Runs.{Kept, Wants, Runs, Reaches, next_of}
+use Rattle.process_rules.specs.Behind.{IsLine}
 use Rattle.process_rules.specs.laws.Examples.{hello_end}
 use Rattle.process_rules.proofs.ExamplesValid.{hello_is_valid}
 use Rattle.process_rules.proofs.ExamplesHold.{hello_ends}
 use Rattle.process_rules.proofs.Quiet.{none_counted}
 use Rattle.process_rules.proofs.Growing.{runs_emit}
-use Rattle.worker_store.specs.restart_theorem.Lives.{Act, Slice, Checkpoint, Inputs, Over, Event}
-use Rattle.worker_store.specs.restart_theorem.Lives.{Told, Opened}
-use Rattle.worker_store.specs.restart_theorem.Lives.{Ended, Beginning, Recovers, Creates}
-use Rattle.worker_store.specs.restart_theorem.Courses.{Stage, Open, at_first, at_beginning}
-use Rattle.worker_store.specs.restart_theorem.Courses.{next_stage, IsNextAct}
-use Rattle.worker_store.specs.restart_theorem.Promises.{Promise, nothing_yet, after, promised_by}
-use Rattle.worker_store.specs.restart_theorem.Promises.{HoldsAll, IsKept, IsLived}
+use Rattle.worker_store.specs.restart_theorem.Lives.{Act, Slice, Checkpoint, Inputs, Over, Done}
+use Rattle.worker_store.specs.restart_theorem.Lives.{Event, Told, Opened, Ended, Beginning}
+use Rattle.worker_store.specs.restart_theorem.Lives.{Recovers}
+use Rattle.worker_store.specs.restart_theorem.Courses.{Stage, Shut, at_beginning, stage_after}
+use Rattle.worker_store.specs.restart_theorem.Promises.{Promise, nothing_yet, promised, promised_by}
+use Rattle.worker_store.specs.restart_theorem.Promises.{IsKept, AreKept, IsLived}
 use Rattle.worker_store.specs.restart_theorem.laws.Refused.{in_peace, creation_begun}
+use Rattle.worker_store.specs.restart_theorem.laws.Honest.{HasLine}
 use Rattle.worker_store.specs.restart_theorem.laws.WholeLives.{hi_told, hello_first, hello_last}
 use Rattle.worker_store.specs.restart_theorem.laws.WholeLives.{cut_inputs, cut_life, last_inputs}
 use Rattle.worker_store.specs.restart_theorem.laws.WholeLives.{last_life, ended_inputs, ended_life}
 use Rattle.worker_store.specs.restart_theorem.laws.WholeLives.{HelloLives}
+use Rattle.worker_store.proofs.RestartLemmas.Abreast.{stays_put, stays_asking}
 use Rattle.worker_store.proofs.RestartLemmas.Fronts.{OneLeadsOn, fronts_lead_on, one_line}
 use Rattle.worker_store.proofs.RestartLemmas.Fronts.{front_of_none, none_widens}
-use Rattle.worker_store.proofs.RestartLemmas.Honesty.{never}
+use Rattle.worker_store.proofs.RestartLemmas.Events.{never, all_held, opens_at, line_of, tells}
+use Rattle.worker_store.proofs.RestartLemmas.Events.{ends}
 use Rattle.worker_store.proofs.RestartLemmas.HelloShown.{at_first_step, at_last_step}
 
 -- ---- the process at the end
@@ -57,43 +58,24 @@ hello_at_end config =
       no_other = ends.comes.no_other;
     }
 
-hi_is_line : (config : Settings) → IsLine hello config [] 1 hi_told.line
-hi_is_line config =
-    let end = hello_at_end config in
-    record {
-      answers = 0;
-      steps = 8;
-      process = end.process;
-      reached = end.reached;
-      up_to = tt;
-      place = 0;
-      counted = refl;
-      is = ap (λ (z : List Line). slice_get z 0) end.lines;
-    }
-
-hi_behind : (config : Settings) (i : ℕ) → i ≤ 1 → AnswersBehindLine hello config [] i 0
-hi_behind config i h =
-    let end = hello_at_end config in
-    let n : length end.process.host.lines ≡ 1 = ap length end.lines in
-    record {
-      within = omega arith;
-      steps = 8;
-      process = end.process;
-      reached = end.reached;
-      up_to = tt;
-      emitted = omega (arith, n, h);
-    }
+-- its line, by its last step
+abbrev pub hello_line : (config : Settings) → HasLine hello config [] 0 0 8 hi_told.line
+hello_line config = let end = hello_at_end config in record {
+  steps = 8;
+  late = omega arith;
+  early = omega arith;
+  process = end.process;
+  reached = end.reached;
+  is = ap (λ (z : List Line). slice_get z 0) end.lines;
+}
 
 -- ---- what is no life
 
 -- after the end there is nothing
 end_stays : (guest : Guest) (p q : ProcessState) (kept : List Kept) (n : ℕ) → Runs guest p kept n q
     → kept ≡ [] → p.ended ≡ Some (Exited 7) → q ≡ p
-end_stays guest p q kept n (none {p = p'}) e over = refl
-end_stays guest p q kept n (step {p = p'} m rest) e over = absurd (let running = m.running in cc)
-end_stays guest p q kept n (take {p = p'} m rest) e over = absurd (let running = m.running in cc)
-end_stays guest p q kept n (widen at rest) e over = absurd (let nothing = e in cc)
-end_stays guest p q kept n (succeed at sum rest) e over = absurd (let nothing = e in cc)
+end_stays guest p q kept n runs e over =
+    stays_put guest p q kept n runs e (λ next moves. (let running = moves.running in cc))
 
 wants_nothing : (guest : Guest) (p : ProcessState) (question : Question) → IsEnded p.configuration
     → next_of guest p None ≡ Wants question → ⊥
@@ -107,14 +89,9 @@ wants_nothing guest p question rests wants =
 wants_none : (guest : Guest) (p q : ProcessState) (question : Question) (kept : List Kept) (n : ℕ)
     → Runs guest p kept n q → kept ≡ [] → IsEnded q.configuration
     → next_of guest p None ≡ Wants question → ⊥
-wants_none guest p q question kept n (none {p = p'}) e rests wants =
-    wants_nothing guest p' question rests wants
-wants_none guest p q question kept n (step {p = p'} {q = q'} m rest) e rests wants =
-    let stopped : LeadsTo guest (next_of guest p' None) None p' q' = m.leads in
-    (rw wants at stopped)
-wants_none guest p q question kept n (take {p = p'} m rest) e rests wants = cc
-wants_none guest p q question kept n (widen at rest) e rests wants = cc
-wants_none guest p q question kept n (succeed at sum rest) e rests wants = cc
+wants_none guest p q question kept n runs e rests wants =
+    wants_nothing guest p question (subst (λ (z : ProcessState). IsEnded z.configuration)
+    (stays_asking guest p q question kept n runs e wants) rests) wants
 
 asks_nothing : (config : Settings) (n : ℕ) (p : ProcessState) (question : Question)
     → (reached : Reaches hello config [] n p) → next_of reached.guest p None ≡ Wants question → ⊥
@@ -171,7 +148,8 @@ no_other_line : (config : Settings) (line : Line) → IsLine hello config [] 1 l
     → line.stream ≡ Stderr → ⊥
 no_other_line config line is second =
     let same : line.stream ≡ Stdout = ap (λ (l : Line). l.stream)
-    (one_line hello config [] 1 line hi_told.line hello_is_valid is (hi_is_line config)) in
+    (one_line hello config [] 1 line hi_told.line hello_is_valid is
+    (line_of 0 (hello_line config) tt)) in
     absurd (cc)
 
 -- what is reached in eight steps is the end
@@ -192,73 +170,67 @@ code_of code same = cc
 -- ---- the lives
 
 module _ (config : Settings) (some : 1 ≤ config.pages) (few : config.pages ≤ 2 ^ 16) where
-  -- what was promised of `hello` is held by no answer, and by so many steps
-  pub holds : (so_far : Promise) (steps : ℕ) → so_far.kept ≡ [] → so_far.answers ≡ 0
-      → so_far.steps ≤ steps → so_far.begun ≤ 1
-      → HoldsAll hello config so_far.kept so_far 0 steps
-  holds so_far steps kept answers enough begun = record {
-    within = omega arith;
-    up_to = subst (λ (l : List Kept). IsNarrowTo l steps) (sym kept) tt;
-    answers = omega (arith, answers);
-    steps_held = enough;
-    lines = λ i h. (
-      0,
-      omega arith,
-      subst (λ z. AnswersBehindLine hello config z i 0) (sym kept)
-          (hi_behind config i (omega (arith, h, begun))),
-    );
-    syncs = λ k a h behind.
-        (let within : a ≤ length so_far.kept = behind.within in
-        let none_kept : length so_far.kept ≡ 0 = ap length kept in
-        omega (arith, within, none_kept));
-  }
-
   -- it begins where nothing was promised but its line
-  pub begins : (how : Beginning) (so_far : Promise) (inputs : Inputs) → so_far.kept ≡ []
-      → so_far.answers ≡ 0 → so_far.steps ≤ 0 → so_far.begun ≤ 1 → so_far.was_created ≡ true
-      → IsKept hello config so_far (at_beginning how inputs) (Opened 0 hello_first)
-  begins how so_far inputs kept answers steps begun created = record {
-    shut = refl;
-    created = created;
-    at = at_first_step config some few;
-    holds = holds so_far 0 kept answers steps begun;
-    all_heard = omega arith;
-    none_beyond = tt;
-    no_further = inl refl;
-  }
+  pub begins : (so_far : Promise) {stage : Stage} → stage.phase ≡ Shut → stage.line ≡ None
+      → so_far.answers ≡ 0 → so_far.steps ≡ 0 → so_far.begun ≤ 1 → so_far.was_created ≡ true
+      → IsKept hello config (record so_far { kept = [] }) stage (Opened 0 hello_first)
+  begins so_far shut no_line answers steps begun created =
+      opens_at shut no_line created (at_first_step config some few)
+      (all_held 0 (at_last_step config some few) refl (λ n. tt) (omega (arith, answers))
+      (omega (arith, steps)) begun) (omega arith)
 
-  -- a slice of a hundred steps, and more
-  abbrev pub given : Option ℕ → List Act → Inputs
-  given stop acts = record (in_peace [] (Slice 100 ∷ acts)) { stop = stop }
+  -- in a slice it comes to its end,
+  abbrev pub comes_to_end : List Event → List Event
+  comes_to_end more = Opened 0 hello_first ∷ Told hi_told true
+      ∷ Ended (Slice 100) (Over (Exited 7)) 0 hello_last ∷ more
 
-  -- it tells its line
-  pub tells : (how : Beginning) (so_far : Promise) (stop : Option ℕ) (acts : List Act)
-      → so_far.kept ≡ [] → so_far.passed ≡ 0
-      → IsKept hello config so_far
-      (next_stage (at_beginning how (given stop acts)) (Opened 0 hello_first)) (Told hi_told true)
-  tells how so_far stop acts kept passed = record {
-    is_line = record {
-      answers = 0;
-      steps = 8;
-      process = (hello_at_end config).process;
-      reached = (hello_at_end config).reached;
-      up_to = subst (λ (l : List Kept). IsNarrowTo l 8) (sym kept) tt;
-      place = 0;
-      counted = refl;
-      is = ap (λ (z : List Line). slice_get z 0) (hello_at_end config).lines;
-    };
-    in_time = (omega arith, omega arith);
-    follows = refl;
-    none_skipped = omega arith;
-    not_passed = omega (arith, passed);
-    heard = refl;
-  }
+  abbrev pub slice_100 : List Act → Inputs
+  slice_100 acts = in_peace [] (Slice 100 ∷ acts)
+
+  -- whatever comes then
+  pub to_the_end : (so_far : Promise) (how : Beginning) (acts : List Act) (more : List Event)
+      → so_far.answers ≡ 0 → so_far.steps ≡ 0 → so_far.begun ≤ 1 → so_far.passed ≡ 0
+      → so_far.was_created ≡ true
+      → AreKept hello config (promised (record so_far { kept = [] }) (comes_to_end []))
+      (stage_after (at_beginning how (slice_100 acts)) (comes_to_end [])) more
+      → AreKept hello config (record so_far { kept = [] }) (at_beginning how (slice_100 acts))
+      (comes_to_end more)
+  to_the_end so_far how acts more answers steps begun passed created then = (
+    begins so_far refl refl answers steps begun created,
+    (
+      tells 0 (hello_line config) tt (omega arith, omega arith) refl (omega arith)
+          (omega (arith, passed)) refl,
+      (
+        ends refl (at_last_step config some few) refl (omega arith) (omega arith)
+            (refl, omega arith, refl, record { all_taken = refl; all_told = refl }) (λ at. tt),
+        then,
+      ),
+    ),
+  )
+
+  -- then a checkpoint is made
+  pub saves : (so_far : Promise) (how : Beginning) → so_far.answers ≡ 0 → so_far.steps ≡ 0
+      → so_far.begun ≤ 1 → so_far.passed ≡ 0 → so_far.was_created ≡ true
+      → AreKept hello config (record so_far { kept = [] })
+      (at_beginning how (slice_100 (Checkpoint ∷ [])))
+      (comes_to_end (Ended Checkpoint Done 0 hello_last ∷ []))
+  saves so_far how answers steps begun passed created =
+      to_the_end so_far how (Checkpoint ∷ []) (Ended Checkpoint Done 0 hello_last ∷ []) answers
+      steps begun passed created (
+        ends refl (at_last_step config some few) refl (omega arith) (omega arith)
+            (refl, refl, record { all_taken = refl; all_told = refl }) (λ at. tt),
+        tt,
+      )
 
   lives_cut : IsLived hello config nothing_yet cut_inputs cut_life
   lives_cut = record {
     kept = (
-      begins Creates creation_begun cut_inputs refl refl (omega arith) (omega arith) refl,
-      (tells Creates (after creation_begun (Opened 0 hello_first)) (Some 30) [] refl refl, tt),
+      begins creation_begun refl refl refl refl (omega arith) refl,
+      (
+        tells 0 (hello_line config) tt (omega arith, omega arith) refl (omega arith) (omega arith)
+            refl,
+        tt,
+      ),
     );
     ends = (tt, omega arith);
     begins = λ creates. (refl, (refl, refl));
@@ -267,88 +239,28 @@ module _ (config : Settings) (some : 1 ≤ config.pages) (few : config.pages ≤
   abbrev behind_cut : Promise
   behind_cut = promised_by nothing_yet cut_life
 
-  abbrev pub ended_event : ℕ → Event
-  ended_event fuel = Ended (Slice fuel) (Over (Exited 7)) 0 hello_last
-
-  -- it has ended, and its line was told
-  pub ends_slice : (so_far : Promise) (stage : Stage) (fuel : ℕ) (acts : List Act)
-      → so_far.kept ≡ [] → stage.acts ≡ Slice fuel ∷ acts → stage.phase ≡ Open → stage.step ≤ 8
-      → 8 ≤ stage.step + fuel → stage.line ≡ Some 1
-      → IsKept hello config so_far stage (ended_event fuel)
-  ends_slice so_far stage fuel acts kept is_acts opened onward within_fuel told = record {
-    is_next = subst (λ z. IsNextAct (Slice fuel) z) (sym is_acts) refl;
-    within = omega arith;
-    at = at_last_step config some few;
-    onward = onward;
-    reply = (
-      opened,
-      within_fuel,
-      refl,
-      record { all_taken = sym (ap length kept); all_told = told },
-    );
-    bound = tt;
-    widens = λ differs. absurd (differs refl);
+  lives_on : IsLived hello config behind_cut last_inputs last_life
+  lives_on = record {
+    kept = saves behind_cut Recovers refl refl (omega arith) refl refl;
+    ends = (refl, refl, tt);
+    begins = λ creates. never creates;
   }
 
-  lives_on : IsLived hello config behind_cut last_inputs last_life
-  lives_on =
-      let opened : Promise = after behind_cut (Opened 0 hello_first) in
-      let open_stage : Stage = next_stage (at_first last_inputs) (Opened 0 hello_first) in
-      let told : Promise = after opened (Told hi_told true) in
-      let told_stage : Stage = next_stage open_stage (Told hi_told true) in
-      record {
-        kept = (
-          begins Recovers behind_cut last_inputs refl refl (omega arith) (omega arith) refl,
-          (
-            tells Recovers opened None (Checkpoint ∷ []) refl refl,
-            (
-              ends_slice told told_stage 100 (Checkpoint ∷ []) refl refl refl (omega arith)
-                  (omega arith) refl,
-              (
-                record {
-                  is_next = refl;
-                  within = omega arith;
-                  at = at_last_step config some few;
-                  onward = omega arith;
-                  reply = (refl, refl, record { all_taken = refl; all_told = refl });
-                  bound = tt;
-                  widens = λ differs. absurd (differs refl);
-                },
-                tt,
-              ),
-            ),
-          ),
-        );
-        ends = (refl, refl, tt);
-        begins = λ creates. never creates;
-      }
-
-  abbrev behind_end : Promise
-  behind_end = promised_by behind_cut last_life
-
-  lives_ended : IsLived hello config behind_end ended_inputs ended_life
-  lives_ended =
-      let opened : Promise = after behind_end (Opened 0 hello_last) in
-      let open_stage : Stage = next_stage (at_first ended_inputs) (Opened 0 hello_last) in
-      record {
-        kept = (
-          record {
-            shut = refl;
-            created = refl;
-            at = at_last_step config some few;
-            holds = holds behind_end 8 refl refl (omega arith) (omega arith);
-            all_heard = omega arith;
-            none_beyond = tt;
-            no_further = inl refl;
-          },
-          (
-            ends_slice opened open_stage 1 [] refl refl refl (omega arith) (omega arith) refl,
-            tt,
-          ),
-        );
-        ends = (refl, refl, tt);
-        begins = λ creates. never creates;
-      }
+  lives_ended : IsLived hello config (promised_by behind_cut last_life) ended_inputs ended_life
+  lives_ended = record {
+    kept = (
+      opens_at refl refl refl (at_last_step config some few)
+          (all_held 0 (at_last_step config some few) refl (λ n. tt) (omega arith) (omega arith)
+          (omega arith)) (omega arith),
+      (
+        ends refl (at_last_step config some few) refl (omega arith) (omega arith)
+            (refl, omega arith, refl, record { all_taken = refl; all_told = refl }) (λ at. tt),
+        tt,
+      ),
+    );
+    ends = (refl, refl, tt);
+    begins = λ creates. never creates;
+  }
 
 pub hello_lives_hold : (config : Settings) → HelloLives config
 hello_lives_hold config = record {

@@ -1,13 +1,16 @@
--- Why an act has failed, case by case.
-use Rattle.std.proofs.Common.{◌≡◌, ◌⊎◌, inl, inr, List}
+-- What an act answers, case by case.
+use Rattle.std.proofs.Common.{◌≡◌, ◌⊎◌, ℕ, ◌+◌, ◌≤◌, inl, inr, List, arith}
 use Rattle.wasi_abi.specs.rules.Configs.{Settings}
 use Rattle.process_rules.specs.Runs.{Kept}
-use Rattle.worker_store.specs.restart_theorem.Lives.{Upgrade, Cause, OfDisk, OfSource, OfAnswer}
-use Rattle.worker_store.specs.restart_theorem.Lives.{OfOutlet}
-use Rattle.worker_store.specs.restart_theorem.Lives.{OfMemory, OfBounds, OfJournal, OfLines}
-use Rattle.worker_store.specs.restart_theorem.Courses.{Phase, Stage, Open, HasLastAsked, MayFail}
-use Rattle.worker_store.specs.restart_theorem.Courses.{MayFailBatch}
-use Rattle.worker_store.specs.restart_theorem.Promises.{MayPlead}
+use Rattle.state_image.specs.rules.ProcessImage.{Saved}
+use Rattle.worker_store.specs.restart_theorem.Lives.{Act, Slice, Batch, Checkpoint, Upgrade, Cause}
+use Rattle.worker_store.specs.restart_theorem.Lives.{OfDisk, OfSource, OfAnswer, OfOutlet, OfMemory}
+use Rattle.worker_store.specs.restart_theorem.Lives.{OfBounds, OfJournal, OfLines, Reply, Spent}
+use Rattle.worker_store.specs.restart_theorem.Lives.{Waits, Over, Done, Fails}
+use Rattle.worker_store.specs.restart_theorem.Courses.{Phase, Stage, Open, NoneThere, phase_ended}
+use Rattle.worker_store.specs.restart_theorem.Courses.{HasLastAsked, MayFail, MayFailBatch}
+use Rattle.worker_store.specs.restart_theorem.Promises.{MayPlead, fuel_of, IsReply, IsOneOf}
+use Rattle.worker_store.specs.restart_theorem.Promises.{IsCaughtUp}
 
 -- Any call might have failed so, or an upgrade has something of its own to say, in an open life.
 pub fails_or_open : (config : Settings) (kept : List Kept) (stage : Stage) (cause : Cause)
@@ -44,3 +47,46 @@ batch_fails phase OfMemory may = may
 batch_fails phase OfBounds may = may
 batch_fails phase OfJournal may = may
 batch_fails phase OfLines may = may
+
+-- An act that has not failed is within its steps, in a life that was open or whose source had none,
+-- and has caught up.
+pub in_order : (config : Settings) (kept : List Kept) (stage : Stage) (held : ℕ) (shown : Saved)
+    (act : Act) (reply : Reply) → phase_ended reply ≡ Open
+    → IsReply config kept stage held shown act reply
+    → (shown.steps ≤ stage.step + fuel_of act)
+    × ((stage.phase ≡ Open) ⊎ (stage.phase ≡ NoneThere shown.steps))
+    × IsCaughtUp kept stage held shown
+in_order config kept stage held shown (Slice fuel) Spent opens is =
+    ((let e = is.1 in omega (arith, e)), inl is.0, is.3)
+in_order config kept stage held shown (Slice fuel) Waits opens is =
+    ((let e = is.1 in omega (arith, e)), inr is.0, is.3)
+in_order config kept stage held shown (Slice fuel) (Over why) opens is = (is.1, inl is.0, is.3)
+in_order config kept stage held shown (Slice fuel) Done opens is = absurd is
+in_order config kept stage held shown (Batch fuel most) Spent opens is =
+    ((let e = is.1 in omega (arith, e)), inl is.0, is.3)
+in_order config kept stage held shown (Batch fuel most) Waits opens is =
+    ((let e = is.1 in omega (arith, e)), inr is.0, is.3)
+in_order config kept stage held shown (Batch fuel most) (Over why) opens is =
+    (is.1, inl is.0, is.3)
+in_order config kept stage held shown (Batch fuel most) Done opens is = absurd is
+in_order config kept stage held shown Checkpoint Spent opens is = absurd is
+in_order config kept stage held shown Checkpoint Waits opens is = absurd is
+in_order config kept stage held shown Checkpoint (Over why) opens is = absurd is
+in_order config kept stage held shown Checkpoint Done opens is =
+    ((let e = is.1 in omega (arith, e)), inl is.0, is.2)
+in_order config kept stage held shown Upgrade Spent opens is = absurd is
+in_order config kept stage held shown Upgrade Waits opens is = absurd is
+in_order config kept stage held shown Upgrade (Over why) opens is = absurd is
+in_order config kept stage held shown Upgrade Done opens is =
+    ((let e = is.1 in omega (arith, e)), inl is.0, is.3)
+in_order config kept stage held shown act (Fails cause) opens is = absurd cc
+
+-- One that has failed has a plea.
+pub in_vain : (config : Settings) (kept : List Kept) (stage : Stage) (held : ℕ) (shown : Saved)
+    (act : Act) (cause : Cause) → IsReply config kept stage held shown act (Fails cause)
+    → MayPlead config kept stage act cause × (shown.steps ≤ stage.step + fuel_of act)
+    × IsOneOf stage.line shown.lines
+in_vain config kept stage held shown (Slice fuel) cause is = is
+in_vain config kept stage held shown (Batch fuel most) cause is = is
+in_vain config kept stage held shown Checkpoint cause is = is
+in_vain config kept stage held shown Upgrade cause is = is

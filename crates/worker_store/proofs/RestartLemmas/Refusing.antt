@@ -1,6 +1,6 @@
 -- Why the restart theorem refuses workers that nobody wants.
-use Rattle.std.proofs.Common.{◌≡◌, ◌≤◌, ℕ, ◌+◌, ◌^◌, Bool, true, false, List, [], ◌∷◌, length}
-use Rattle.std.proofs.Common.{⊎_elim, Option, Some, None, Ok, Err, refl, sym, ap, ◌∙◌, subst, arith}
+use Rattle.std.proofs.Common.{◌≡◌, ◌≤◌, ℕ, ◌+◌, ◌^◌, true, List, [], ◌∷◌, length}
+use Rattle.std.proofs.Common.{⊎_elim, Option, Some, refl, sym, ap, ◌∙◌, subst, arith}
 use Rattle.std.proofs.lemmas.Option.{same_Some}
 use Rattle.wasm_syntax.specs.declared.module.Module.{Module}
 use Rattle.wasm_rules.specs.Validity.{IsValid}
@@ -16,8 +16,9 @@ use Rattle.worker_store.specs.restart_theorem.Lives.{OfLines, Reply, Spent, kept
 use Rattle.worker_store.specs.restart_theorem.Lives.{Over, Done, Fails, Event, Told, Asked, Opened}
 use Rattle.worker_store.specs.restart_theorem.Lives.{Ended, Beginning, Creates, End, Finished}
 use Rattle.worker_store.specs.restart_theorem.Lives.{Stopped, Failed, Life, told_lines}
-use Rattle.worker_store.specs.restart_theorem.Courses.{Phase, Shut, Open, NoneThere, Closed, Stage}
+use Rattle.worker_store.specs.restart_theorem.Courses.{Phase, Open, NoneThere, Closed, Stage}
 use Rattle.worker_store.specs.restart_theorem.Courses.{at_beginning, next_stage, stage_after}
+use Rattle.worker_store.specs.restart_theorem.Courses.{phase_ended}
 use Rattle.worker_store.specs.restart_theorem.Courses.{ComesAfter, IsLast, IsToldIn, IsAskedIn}
 use Rattle.worker_store.specs.restart_theorem.Courses.{AreToldBy, HasLastAsked, MayFail, MayEnd}
 use Rattle.worker_store.specs.restart_theorem.Promises.{Promise, after, nothing_yet, fuel_of}
@@ -29,47 +30,8 @@ use Rattle.worker_store.specs.restart_theorem.laws.Refused.{first_line, IsFromOu
 use Rattle.worker_store.specs.restart_theorem.laws.Refused.{misfit, outlet, RefusedEvents}
 use Rattle.worker_store.specs.restart_theorem.laws.Refused.{RefusedWorkers, creation_begun}
 use Rattle.worker_store.proofs.RestartLemmas.Promised.{no_two_texts}
-use Rattle.worker_store.proofs.RestartLemmas.Pleas.{fails_or_open, fails_or_last}
+use Rattle.worker_store.proofs.RestartLemmas.Pleas.{fails_or_open, fails_or_last, in_order, in_vain}
 use Rattle.worker_store.proofs.RestartLemmas.Abreast.{taken_at_once}
-
--- ---- what differs
-
-abbrev IsOpenPhase : Phase → Type 0
-IsOpenPhase Open = Unit {0}
-IsOpenPhase _ = ⊥
-
-abbrev IsShutPhase : Phase → Type 0
-IsShutPhase Shut = Unit {0}
-IsShutPhase _ = ⊥
-
-abbrev pub IsNonePhase : Phase → Type 0
-IsNonePhase (NoneThere steps) = Unit {0}
-IsNonePhase _ = ⊥
-
-open_is : {phase : Phase} → phase ≡ Open → IsOpenPhase phase
-open_is same = subst IsOpenPhase (sym same) tt
-
-shut_is : {phase : Phase} → phase ≡ Shut → IsShutPhase phase
-shut_is same = subst IsShutPhase (sym same) tt
-
-pub none_is : {phase : Phase} {steps : ℕ} → phase ≡ NoneThere steps → IsNonePhase phase
-none_is same = subst IsNonePhase (sym same) tt
-
-abbrev SaysSome : SourceSaid → Type 0
-SaysSome (Ok (Some a)) = Unit {0}
-SaysSome (Ok None) = ⊥
-SaysSome (Err e) = ⊥
-
-abbrev IsSomeAct : List Act → Type 0
-IsSomeAct [] = ⊥
-IsSomeAct (a ∷ acts) = Unit {0}
-
-some_is_not_none : (n : ℕ) → Some n ≡ None → ⊥
-some_is_not_none n same = cc
-
-abbrev IsFalse : Bool → Type 0
-IsFalse false = Unit {0}
-IsFalse true = ⊥
 
 -- ---- events
 
@@ -80,7 +42,7 @@ module _ (m : Module) (config : Settings) (so_far : Promise) (stage : Stage) whe
       (subst (λ (q : Phase). IsToldIn q stage.acts stage.step kept.is_line.steps) is kept.in_time).0
   closed cause (Asked steps question said fits) is kept =
       subst (λ (q : Phase). IsAskedIn q stage.acts stage.step steps) is kept.in_time
-  closed cause (Opened held shown) is kept = shut_is (sym is ∙ kept.shut)
+  closed cause (Opened held shown) is kept = let e = sym is ∙ kept.shut in cc
   closed cause (Ended act reply held shown) is kept = no_end act reply held shown kept.reply
     where
       kept_then : Act → Saved → List Kept
@@ -101,65 +63,38 @@ module _ (m : Module) (config : Settings) (so_far : Promise) (stage : Stage) whe
       no_plea kept Upgrade other may =
           ⊎_elim
           (λ (fails : MayFail stage.phase other). no_failure other fails)
-          (λ (opened : stage.phase ≡ Open). open_is (sym is ∙ opened))
+          (λ (opened : stage.phase ≡ Open). cc)
           (fails_or_open config kept stage other may)
+
+      no_order : (reply : Reply) → phase_ended reply ≡ Open → (act : Act) (held : ℕ) (shown : Saved)
+          → IsReply config (kept_then act shown) stage held shown act reply → ⊥
+      no_order reply opens act held shown ends =
+          ⊎_elim
+          (λ (opened : stage.phase ≡ Open). cc)
+          (λ (asked : stage.phase ≡ NoneThere shown.steps). cc)
+          (in_order config (kept_then act shown) stage held shown act reply opens ends).1
 
       no_end : (act : Act) (reply : Reply) (held : ℕ) (shown : Saved)
           → IsReply config (kept_then act shown) stage held shown act reply → ⊥
-      no_end (Slice fuel) Spent held shown ends = open_is (sym is ∙ ends.0)
-      no_end (Slice fuel) Waits held shown ends = none_is (sym is ∙ ends.0)
-      no_end (Slice fuel) (Over why) held shown ends = open_is (sym is ∙ ends.0)
-      no_end (Slice fuel) Done held shown ends = ends
-      no_end (Slice fuel) (Fails other) held shown ends =
-          no_plea (kept_then (Slice fuel) shown) (Slice fuel) other ends.0
-      no_end (Batch fuel most) Spent held shown ends = open_is (sym is ∙ ends.0)
-      no_end (Batch fuel most) Waits held shown ends = none_is (sym is ∙ ends.0)
-      no_end (Batch fuel most) (Over why) held shown ends = open_is (sym is ∙ ends.0)
-      no_end (Batch fuel most) Done held shown ends = ends
-      no_end (Batch fuel most) (Fails other) held shown ends =
-          no_plea (kept_then (Batch fuel most) shown) (Batch fuel most) other ends.0
-      no_end Checkpoint Spent held shown ends = ends
-      no_end Checkpoint Waits held shown ends = ends
-      no_end Checkpoint (Over why) held shown ends = ends
-      no_end Checkpoint Done held shown ends = open_is (sym is ∙ ends.0)
-      no_end Checkpoint (Fails other) held shown ends =
-          no_plea (kept_then Checkpoint shown) Checkpoint other ends.0
-      no_end Upgrade Spent held shown ends = ends
-      no_end Upgrade Waits held shown ends = ends
-      no_end Upgrade (Over why) held shown ends = ends
-      no_end Upgrade Done held shown ends = open_is (sym is ∙ ends.0)
-      no_end Upgrade (Fails other) held shown ends =
-          no_plea (kept_then Upgrade shown) Upgrade other ends.0
+      no_end act Spent held shown ends = no_order Spent refl act held shown ends
+      no_end act Waits held shown ends = no_order Waits refl act held shown ends
+      no_end act (Over why) held shown ends = no_order (Over why) refl act held shown ends
+      no_end act Done held shown ends = no_order Done refl act held shown ends
+      no_end act (Fails other) held shown ends = no_plea (kept_then act shown) act other
+          (in_vain config (kept_then act shown) stage held shown act other ends).0
 
   pub within_fuel : (kept : List Kept) (act : Act) (reply : Reply) (held : ℕ) (shown : Saved)
       → IsReply config kept stage held shown act reply → shown.steps ≤ stage.step + fuel_of act
-  within_fuel kept (Slice fuel) Spent held shown ends = let e = ends.1 in omega (arith, e)
-  within_fuel kept (Slice fuel) Waits held shown ends = let e = ends.1 in omega (arith, e)
-  within_fuel kept (Slice fuel) (Over why) held shown ends = ends.1
-  within_fuel kept (Slice fuel) Done held shown ends = absurd ends
-  within_fuel kept (Slice fuel) (Fails other) held shown ends = ends.1
-  within_fuel kept (Batch fuel most) Spent held shown ends = let e = ends.1 in omega (arith, e)
-  within_fuel kept (Batch fuel most) Waits held shown ends = let e = ends.1 in omega (arith, e)
-  within_fuel kept (Batch fuel most) (Over why) held shown ends = ends.1
-  within_fuel kept (Batch fuel most) Done held shown ends = absurd ends
-  within_fuel kept (Batch fuel most) (Fails other) held shown ends = ends.1
-  within_fuel kept Checkpoint Spent held shown ends = absurd ends
-  within_fuel kept Checkpoint Waits held shown ends = absurd ends
-  within_fuel kept Checkpoint (Over why) held shown ends = absurd ends
-  within_fuel kept Checkpoint Done held shown ends = let e = ends.1 in omega (arith, e)
-  within_fuel kept Checkpoint (Fails other) held shown ends = ends.1
-  within_fuel kept Upgrade Spent held shown ends = absurd ends
-  within_fuel kept Upgrade Waits held shown ends = absurd ends
-  within_fuel kept Upgrade (Over why) held shown ends = absurd ends
-  within_fuel kept Upgrade Done held shown ends = let e = ends.1 in omega (arith, e)
-  within_fuel kept Upgrade (Fails other) held shown ends = ends.1
-
-  among : (kept : List Kept) (act : Act) (cause : Cause) (held : ℕ) (shown : Saved)
-      → IsReply config kept stage held shown act (Fails cause) → IsOneOf stage.line shown.lines
-  among kept (Slice fuel) cause held shown ends = ends.2
-  among kept (Batch fuel most) cause held shown ends = ends.2
-  among kept Checkpoint cause held shown ends = ends.2
-  among kept Upgrade cause held shown ends = ends.2
+  within_fuel kept act Spent held shown is =
+      (in_order config kept stage held shown act Spent refl is).0
+  within_fuel kept act Waits held shown is =
+      (in_order config kept stage held shown act Waits refl is).0
+  within_fuel kept act (Over why) held shown is =
+      (in_order config kept stage held shown act (Over why) refl is).0
+  within_fuel kept act Done held shown is =
+      (in_order config kept stage held shown act Done refl is).0
+  within_fuel kept act (Fails cause) held shown is =
+      (in_vain config kept stage held shown act cause is).1
 
   -- an error from outside, in a call that nobody has failed
   no_cause : (cause : Cause) → IsFromOutside cause → MayFail Open cause → ⊥
@@ -201,9 +136,8 @@ module _ (m : Module) (config : Settings) (so_far : Promise) (stage : Stage) whe
   refused_events = record {
     asks_before_it_opens = λ steps question said fits is kept.
         subst (λ (q : Phase). IsAskedIn q stage.acts stage.step steps) is kept.in_time;
-    opens_twice = λ held shown is kept. open_is (sym kept.shut ∙ is);
-    opens_uncreated = λ held shown is kept.
-        subst IsFalse (sym is ∙ kept.created) tt;
+    opens_twice = λ held shown is kept. (let e = kept.shut in cc);
+    opens_uncreated = λ held shown is kept. (let e = kept.created in cc);
     goes_on_after_an_error = closed;
     opens_with_more_than_was_kept = λ held shown h kept.
         (let within = kept.holds.within in omega (arith, within, h));
@@ -238,7 +172,8 @@ module _ (m : Module) (config : Settings) (so_far : Promise) (stage : Stage) whe
     ends_before_its_lines = λ act cause last held shown is h kept.
         (let few : last ≤ shown.lines =
         subst (λ (l : Option ℕ). IsOneOf l shown.lines) is
-        (among (kept_by_end act shown so_far.kept) act cause held shown kept.reply) in
+        (in_vain config (kept_by_end act shown so_far.kept) stage held shown act cause
+        kept.reply).2 in
         omega (arith, few, h));
     leaves_an_answer_behind = λ fuel held shown h kept.
         (let all = kept.reply.3.all_taken in omega (arith, all, h));
@@ -248,16 +183,9 @@ module _ (m : Module) (config : Settings) (so_far : Promise) (stage : Stage) whe
         omega (arith, all, h));
     fails_without_a_cause = λ act cause held shown is outside kept.
         no_outside (kept_by_end act shown so_far.kept) act cause outside is
-        (fails (kept_by_end act shown so_far.kept) act cause held shown kept.reply);
+        (in_vain config (kept_by_end act shown so_far.kept) stage held shown act cause
+        kept.reply).0;
   }
-    where
-      fails : (kept : List Kept) (act : Act) (cause : Cause) (held : ℕ) (shown : Saved)
-          → IsReply config kept stage held shown act (Fails cause)
-          → MayPlead config kept stage act cause
-      fails kept (Slice fuel) cause held shown ends = ends.0
-      fails kept (Batch fuel most) cause held shown ends = ends.0
-      fails kept Checkpoint cause held shown ends = ends.0
-      fails kept Upgrade cause held shown ends = ends.0
 
 -- ---- lives
 
@@ -266,7 +194,7 @@ module _ (m : Module) (config : Settings) where
       (ends : End)
       → MayEnd (in_peace says acts) 0 calls (at_beginning begins (in_peace says acts)) ends
       → ends ≡ Failed OfMemory
-  shut_ends begins says acts calls Finished may = absurd (open_is may.0)
+  shut_ends begins says acts calls Finished may = absurd (let e = may.0 in cc)
   shut_ends begins says acts calls Stopped may = absurd may.1
   shut_ends begins says acts calls (Failed OfDisk) may = absurd may.1
   shut_ends begins says acts calls (Failed OfSource) may = absurd may.0
@@ -283,7 +211,7 @@ module _ (m : Module) (config : Settings) where
       (ends : End)
       → MayEnd (in_peace says (act ∷ acts)) 1 calls
       (next_stage (at_beginning Creates (in_peace says (act ∷ acts))) (Opened 0 first)) ends → ⊥
-  undone_ends act acts says calls first Finished may = subst IsSomeAct may.1 tt
+  undone_ends act acts says calls first Finished may = let e = may.1 in cc
   undone_ends act acts says calls first Stopped may = may.1
   undone_ends act acts says calls first (Failed cause) may = may.0
 
@@ -332,9 +260,10 @@ module _ (m : Module) (config : Settings) where
     silent = λ inputs goes. goes;
     idle = λ inputs fuel calls ends first last some same goes.
         (let e = goes.0.kept.1.0.reply.1 in omega (arith, e, same, some));
-    unasked = λ inputs fuel calls ends first last goes. none_is goes.0.kept.1.0.reply.0;
+    unasked = λ inputs fuel calls ends first last goes.
+        (let e = goes.0.kept.1.0.reply.0 in cc);
     deaf = λ answer says acts steps calls question events ends first goes.
-        subst SaysSome (sym goes.0.kept.1.0.heard) tt;
+        (let e = goes.0.kept.1.0.heard in cc);
     undone = λ act acts says calls ends first goes.
         undone_ends act acts says calls first ends goes.0.ends;
     goes_on = λ inputs act cause held calls e events ends first last goes.
@@ -376,15 +305,15 @@ module _ (m : Module) (config : Settings) where
     useless_checkpoint = λ i j held calls more ends others first last text is_taken rest some goes.
         (let passed = goes.1.0.kept.0.not_passed in omega (arith, passed, some));
     recovered_from_nothing = λ inputs held calls ends shown rest goes.
-        subst IsFalse goes.0.kept.0.created tt;
+        (let e = goes.0.kept.0.created in cc);
     created_again = λ i j calls more ends others first second goes.
-        subst IsFalse (sym (goes.1.0.begins refl).0) tt;
+        (let e = (goes.1.0.begins refl).0 in cc);
     created_late = λ inputs held calls ends shown rest some goes.
         (let none : held ≡ 0 = (goes.0.begins refl).1.0 in omega (arith, none, some));
     tells_when_it_is_created = λ inputs r is_taken calls ends rest goes. (goes.0.begins refl).1;
     runs_on = λ i j answer question steps calls more ends others first second r is_taken rest
         valid late goes. (let asking = goes.0.kept.1.0 in
-        ⊎_elim (λ none_told. absurd (some_is_not_none r.number none_told))
+        ⊎_elim (λ none_told. absurd cc)
         (λ last. taken_at_once m config answer steps second.steps asking.process question valid
         asking.reached asking.wants last late) goes.1.0.kept.1.0.no_further);
   }

@@ -21,9 +21,8 @@ use Rattle.worker_store.specs.restart_theorem.Promises.{Promise, IsKept, IsCaugh
 use Rattle.worker_store.specs.restart_theorem.laws.Refused.{IsOfUpgrades, journal, lines}
 use Rattle.worker_store.specs.restart_theorem.laws.Batches.{RefusedBatches, RefusedBatchLives}
 use Rattle.worker_store.proofs.RestartLemmas.LastQuestions.{none_asked, told_in_batch}
-use Rattle.worker_store.proofs.RestartLemmas.Refusing.{none_is}
 use Rattle.worker_store.proofs.RestartLemmas.RefusingUpgrades.{shows_wide}
-use Rattle.worker_store.proofs.RestartLemmas.Upgrading.{has_caught_up}
+use Rattle.worker_store.proofs.RestartLemmas.Pleas.{in_order}
 
 -- an error that only an upgrade has, in a batch that nobody has failed
 no_upgrade : (cause : Cause) → IsOfUpgrades cause → MayFailBatch Open cause → ⊥
@@ -65,7 +64,7 @@ module _ (m : Module) (config : Settings) (so_far : Promise) (stage : Stage) whe
       → IsKept m config so_far stage (Ended (Batch fuel most) reply held shown)
       → IsCaughtUp so_far.kept stage held shown
   caught_up fuel most held reply shown opens kept =
-      has_caught_up m config so_far.kept stage held shown (Batch fuel most) reply opens kept.reply
+      (in_order config so_far.kept stage held shown (Batch fuel most) reply opens kept.reply).2
 
   few_wait : (fuel most last steps : ℕ) (acts : List Act) (p : ProcessState)
       (question : Question) (said : SourceSaid) (fits : Bool) → IsValid m
@@ -106,7 +105,7 @@ module _ (m : Module) (config : Settings) (so_far : Promise) (stage : Stage) whe
         (told_in_batch stage.phase stage.acts stage.step kept.is_line.steps asked kept.in_time);
     asks_behind_the_last = λ steps question said fits asked kept.
         none_asked stage.phase stage.acts stage.step steps asked kept.in_time;
-    waits_unasked = λ fuel most held shown opens kept. none_is (sym opens ∙ kept.reply.0);
+    waits_unasked = λ fuel most held shown opens kept. (let e = kept.reply.0 in cc);
     idle = λ fuel most held shown some same kept.
         (let e = kept.reply.1 in omega (arith, e, same, some));
     widens = λ fuel most held reply shown narrow wide kept.

@@ -27,7 +27,7 @@ use Rattle.worker_store.specs.restart_theorem.laws.Refused.{created_life, recove
 use Rattle.worker_store.specs.restart_theorem.laws.Refused.{RefusedUpgrades, RefusedUpgraders}
 use Rattle.worker_store.proofs.RestartLemmas.Abreast.{at_its_end, stays_abreast, kept_behind}
 use Rattle.worker_store.proofs.RestartLemmas.Refusing.{within_fuel}
-use Rattle.worker_store.proofs.RestartLemmas.StaysForGood.{upgrades_for_good}
+use Rattle.worker_store.proofs.RestartLemmas.StaysForGood.{from_creation}
 use Rattle.worker_store.proofs.RestartLemmas.Widenings.{one_is_not_two, at_version, narrow_front}
 use Rattle.worker_store.proofs.RestartLemmas.Widenings.{AddsWidening}
 use Rattle.worker_store.proofs.RestartLemmas.Widenings.{adds_one, end_keeps, wider_by, one_longer}
@@ -192,10 +192,10 @@ module _ (m : Module) (config : Settings) where
   refused_upgraders = record {
     keeps_nothing = λ i j held less calls more ends others first last second rest one goes.
         one_is_not_two second.version one
-        (upgrades_for_good m config (i ∷ j ∷ [])
+        ((from_creation m config (i ∷ j ∷ [])
         (created_life (Opened 0 first ∷ Ended Upgrade Done held last ∷ []) calls ends
-        ∷ recovered_life (Opened less second ∷ rest) more others ∷ []) (Opened 0 first ∷ [])
-        (Opened less second ∷ rest ++ []) held last goes refl).0;
+        ∷ recovered_life (Opened less second ∷ rest) more others ∷ []) goes).upgrades
+        (Opened 0 first ∷ []) (Opened less second ∷ rest ++ []) held last refl).0;
     widens_twice = λ inputs held calls ends first second third rest goes.
         (let wide : second.version ≡ Two = goes.0.kept.1.0.reply.2 in
         let again = goes.0.kept.1.1.0 in

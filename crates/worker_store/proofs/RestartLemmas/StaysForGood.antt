@@ -1,23 +1,18 @@
 -- What is for good in the lives of a worker.
-use Rattle.std.proofs.Common.{◌≡◌, inl, ℕ, ◌≤◌, List, ◌∷◌, ◌++◌, refl, sym, subst, arith}
+use Rattle.std.proofs.Common.{◌≡◌, inl, ℕ, ◌≤◌, List, ◌∷◌, ◌++◌, sym, subst, arith}
 use Rattle.wasm_syntax.specs.declared.module.Module.{Module}
 use Rattle.wasi_abi.specs.declared.version.Version.TheVariants.{Two}
 use Rattle.wasi_abi.specs.rules.Configs.{Settings}
 use Rattle.process_rules.specs.Behind.{AnswersBehindSync}
 use Rattle.state_image.specs.rules.ProcessImage.{Saved}
-use Rattle.worker_store.specs.restart_theorem.Lives.{Act, Checkpoint, Upgrade, Reply, Done, Event}
-use Rattle.worker_store.specs.restart_theorem.Lives.{Opened, Ended, Life, events_of, kept_after}
+use Rattle.worker_store.specs.restart_theorem.Lives.{Act, Checkpoint, Upgrade, Inputs, Reply, Done}
+use Rattle.worker_store.specs.restart_theorem.Lives.{Event, Opened, Ended, Life, events_of}
+use Rattle.worker_store.specs.restart_theorem.Lives.{kept_after}
 use Rattle.worker_store.specs.restart_theorem.Promises.{Promise, nothing_yet, after, promised}
+use Rattle.worker_store.specs.restart_theorem.Promises.{GoesOn}
 use Rattle.worker_store.specs.restart_theorem.laws.ForGood.{StaysForGood, WhatIsForGood}
-use Rattle.worker_store.specs.restart_theorem.laws.Laws.{HasReturned, OpenWith, OpeningsAreForGood}
-use Rattle.worker_store.specs.restart_theorem.laws.Laws.{CheckpointsAreForGood, SyncsAreForGood}
-use Rattle.worker_store.specs.restart_theorem.laws.Laws.{OpenedLinesAreToldNoMore}
-use Rattle.worker_store.specs.restart_theorem.laws.Laws.{SavedLinesAreToldNoMore}
-use Rattle.worker_store.specs.restart_theorem.laws.Upgrades.{OnlyUpgradesWiden}
-use Rattle.worker_store.specs.restart_theorem.laws.Upgrades.{OpenInTwo, UpgradesAreForGood}
-use Rattle.worker_store.specs.restart_theorem.laws.Upgrades.{WideOpeningsAreForGood}
-use Rattle.worker_store.specs.restart_theorem.laws.Upgrades.{UpgradedStayWide}
-use Rattle.worker_store.specs.restart_theorem.laws.Upgrades.{UpgradedLinesAreToldNoMore}
+use Rattle.worker_store.specs.restart_theorem.laws.Laws.{HasReturned, OpenWith}
+use Rattle.worker_store.specs.restart_theorem.laws.Upgrades.{OpenInTwo}
 use Rattle.worker_store.proofs.RestartLemmas.ForGood.{opens_with, tells_beyond, syncs_held}
 use Rattle.worker_store.proofs.RestartLemmas.ForGood.{later_kept, returned_by, returned_within}
 use Rattle.worker_store.proofs.RestartLemmas.Promised.{AreKeptSomewhere, kept_of_promised}
@@ -124,47 +119,7 @@ pub what_is_for_good : WhatIsForGood
 what_is_for_good m config so_far inputs lives goes =
     stays_for_good m config so_far lives (lives_kept_from m config so_far inputs lives goes)
 
--- ---- of a worker from its creation on
-
-pub openings_for_good : OpeningsAreForGood
-openings_for_good m config inputs lives earlier later held shown goes =
-    (what_is_for_good m config nothing_yet inputs lives goes).openings earlier later held shown
-
-pub checkpoints_for_good : CheckpointsAreForGood
-checkpoints_for_good m config inputs lives earlier later held shown goes =
-    (what_is_for_good m config nothing_yet inputs lives goes).checkpoints earlier later held shown
-
-pub syncs_for_good : SyncsAreForGood
-syncs_for_good m config inputs lives earlier later act reply held shown k a goes =
-    (what_is_for_good m config nothing_yet inputs lives goes).syncs earlier later act reply held
-    shown k a
-
-pub opened_lines : OpenedLinesAreToldNoMore
-opened_lines m config inputs lives earlier later held shown goes =
-    (what_is_for_good m config nothing_yet inputs lives goes).opened_lines earlier later held shown
-
-pub saved_lines : SavedLinesAreToldNoMore
-saved_lines m config inputs lives earlier later held shown goes =
-    (what_is_for_good m config nothing_yet inputs lives goes).saved_lines earlier later held shown
-
-pub upgraded_lines : UpgradedLinesAreToldNoMore
-upgraded_lines m config inputs lives earlier later held shown goes =
-    (what_is_for_good m config nothing_yet inputs lives goes).upgraded_lines earlier later held
-    shown
-
-pub upgrades_for_good : UpgradesAreForGood
-upgrades_for_good m config inputs lives earlier later held shown goes =
-    (what_is_for_good m config nothing_yet inputs lives goes).upgrades earlier later held shown
-
-pub wide_openings_for_good : WideOpeningsAreForGood
-wide_openings_for_good m config inputs lives earlier later held shown goes =
-    (what_is_for_good m config nothing_yet inputs lives goes).wide_openings earlier later held shown
-
-pub upgraded_stay_wide : UpgradedStayWide
-upgraded_stay_wide m config inputs lives earlier later held shown goes =
-    (what_is_for_good m config nothing_yet inputs lives goes).upgraded_calls earlier later held
-    shown
-
-pub only_upgrades_widen : OnlyUpgradesWiden
-only_upgrades_widen m config inputs lives earlier later goes =
-    (what_is_for_good m config nothing_yet inputs lives goes).only_upgrades earlier later refl
+-- Of a worker from its creation on this is said clause by clause.
+pub from_creation : (m : Module) (config : Settings) (inputs : List Inputs) (lives : List Life)
+    → GoesOn m config inputs lives → StaysForGood m config nothing_yet lives
+from_creation m config inputs lives goes = what_is_for_good m config nothing_yet inputs lives goes

@@ -12,8 +12,7 @@ use Rattle.wasi_abi.specs.declared.answer.Question.TheVariants as question
 use Rattle.wasi_abi.specs.rules.Configs.{Settings}
 use Rattle.wasi_calls_rules.specs.WasiStates.{Line}
 use Rattle.process_rules.specs.Processes.{ProcessState, Guest}
-use Rattle.process_rules.specs.Runs.{Kept, Wants, Runs, Reaches, next_of, none, step}
-use Rattle.process_rules.specs.Runs.{take as takes, widen, succeed}
+use Rattle.process_rules.specs.Runs.{Kept, Wants, Runs, Reaches, next_of}
 use Rattle.process_rules.specs.Behind.{IsNarrowTo}
 use Rattle.process_rules.proofs.Growing.{runs_emit}
 use Rattle.disk_layout.specs.rules.Journal.{Record}
@@ -31,7 +30,7 @@ use Rattle.worker_store.specs.restart_theorem.Successions.{LeaveNoneOut, alone, 
 use Rattle.worker_store.specs.restart_theorem.laws.Laws.{HasOneText, HaveOneText, TellBeyond}
 use Rattle.worker_store.specs.restart_theorem.laws.Successions.{SuccessorsGoOn, Succession}
 use Rattle.worker_store.specs.restart_theorem.laws.Successions.{IsWholeHistory, SuccessiveTellAll}
-use Rattle.worker_store.proofs.RestartLemmas.Abreast.{wants_no_step}
+use Rattle.worker_store.proofs.RestartLemmas.Abreast.{wants_no_step, stays_put}
 use Rattle.worker_store.proofs.RestartLemmas.ForGood.{tells_beyond}
 use Rattle.worker_store.proofs.RestartLemmas.Fronts.{LeadsOn, fronts_lead_on, reached_counts}
 use Rattle.worker_store.proofs.RestartLemmas.NextLives.{lives_on}
@@ -220,14 +219,10 @@ beyond_all n (Ended act reply held shown ∷ events) beyond = beyond_all n event
 -- A process that has ended, or waits for a request, comes nowhere without an answer.
 rests : (guest : Guest) (p q : ProcessState) (kept : List Kept) (n : ℕ) → Runs guest p kept n q
     → kept ≡ [] → IsAtRest guest p → q ≡ p
-rests guest p q kept n (none {p = p'}) e rest = refl
-rests guest p q kept n (step {p = p'} {q = next} moves others) e rest = absurd (⊎_elim
-    (λ (over : p'.ended ≢ None). over moves.running)
-    (λ (waits : next_of guest p' None ≡ Wants question.Request).
-    wants_no_step guest p' next question.Request waits moves) rest)
-rests guest p q kept n (takes moves others) e rest = absurd (cc)
-rests guest p q kept n (widen at others) e rest = absurd (cc)
-rests guest p q kept n (succeed at sum others) e rest = absurd (cc)
+rests guest p q kept n runs e rest = stays_put guest p q kept n runs e (λ next moves. ⊎_elim
+    (λ (over : p.ended ≢ None). over moves.running)
+    (λ (waits : next_of guest p None ≡ Wants question.Request).
+    wants_no_step guest p next question.Request waits moves) rest)
 
 -- no more answers than these are none
 none_more : (a b : ℕ) (kept more : List Kept) → a ≤ b → b ≤ length kept

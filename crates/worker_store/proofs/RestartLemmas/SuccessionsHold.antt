@@ -1,10 +1,10 @@
 -- The examples of workers that go on from what another one has left.
 use Rattle.std.proofs.Common.{◌≡◌, ◌≢◌, inl, inr, ⊎_elim, ℕ, ◌<◌, ◌≤◌, List, [], ◌∷◌}
-use Rattle.std.proofs.Common.{◌++◌, Option, Some, None, refl, sym, ap, ◌∙◌, subst, arith}
+use Rattle.std.proofs.Common.{◌++◌, None, refl, sym, ap, ◌∙◌, arith}
 use Rattle.std.proofs.lemmas.Bool.{cases_lt}
 use Rattle.wasi_abi.specs.declared.answer.Question.TheVariants as question
 use Rattle.wasi_calls_rules.specs.WasiStates.{Line}
-use Rattle.process_rules.specs.Processes.{ProcessState, Guest, Ending, Exited}
+use Rattle.process_rules.specs.Processes.{ProcessState, Guest}
 use Rattle.process_rules.specs.Runs.{Next, Wants, Nowhere, next_of}
 use Rattle.worker_store.specs.restart_theorem.Successions.{IsAtRest, HasNumber, LeaveNoneOut}
 use Rattle.worker_store.specs.restart_theorem.laws.SuccessionExamples.{letter_line, two_lines}
@@ -23,30 +23,22 @@ succession_examples = record {
 
 -- ---- at rest
 
-abbrev WantsRequest : Next → Type 0
-WantsRequest (Wants question.Request) = Unit {0}
-WantsRequest next = ⊥
-
 not_at_rest : (guest : Guest) (p : ProcessState) (next : Next) → p.ended ≡ None
-    → next_of guest p None ≡ next → (WantsRequest next → ⊥) → IsAtRest guest p → ⊥
+    → next_of guest p None ≡ next → (Wants question.Request ≡ next → ⊥) → IsAtRest guest p → ⊥
 not_at_rest guest p next running is other rest =
     ⊎_elim
     (λ (over : p.ended ≢ None). over running)
-    (λ (waits : next_of guest p None ≡ Wants question.Request).
-    other (subst WantsRequest (sym waits ∙ is) tt))
+    (λ (waits : next_of guest p None ≡ Wants question.Request). other (sym waits ∙ is))
     rest
 
 pub rest_examples : (guest : Guest) (p : ProcessState) → RestExamples guest p
 rest_examples guest p = record {
-  over = λ is. inl (λ none. some_is_none (sym is ∙ none));
+  over = λ is. inl (λ none. cc);
   waits_for_a_request = λ is. inr is;
   waits_for_a_time = λ running is rest.
-      not_at_rest guest p (Wants question.Realtime) running is (λ h. h) rest;
-  goes_nowhere = λ running is rest. not_at_rest guest p Nowhere running is (λ h. h) rest;
+      not_at_rest guest p (Wants question.Realtime) running is (λ e. cc) rest;
+  goes_nowhere = λ running is rest. not_at_rest guest p Nowhere running is (λ e. cc) rest;
 }
-  where
-    some_is_none : ◌≡◌ {A = Option Ending} (Some (Exited 7)) None → ⊥
-    some_is_none e = cc
 
 -- ---- histories
 

@@ -9,14 +9,13 @@ use Rattle.wasi_abi.specs.rules.Configs.{Settings}
 use Rattle.process_rules.specs.Runs.{Kept, version_after}
 use Rattle.state_image.specs.rules.ProcessImage.{Saved}
 use Rattle.worker_store.specs.restart_theorem.Lives.{Act, Slice, Batch, Checkpoint, Upgrade}
-use Rattle.worker_store.specs.restart_theorem.Lives.{SourceSaid, Reply, Spent, Waits, Over, Done}
-use Rattle.worker_store.specs.restart_theorem.Lives.{Fails, Cause, Event, Told, Asked, Opened}
-use Rattle.worker_store.specs.restart_theorem.Lives.{Ended, kept_of_said, kept_by_end}
-use Rattle.worker_store.specs.restart_theorem.Courses.{Stage, Open, Closed, phase_ended}
+use Rattle.worker_store.specs.restart_theorem.Lives.{SourceSaid, Reply, Done, Event, Told, Asked}
+use Rattle.worker_store.specs.restart_theorem.Lives.{Opened, Ended, kept_of_said, kept_by_end}
+use Rattle.worker_store.specs.restart_theorem.Courses.{Open, phase_ended}
 use Rattle.worker_store.specs.restart_theorem.Promises.{Promise, after, promised, saved_by, IsAt}
-use Rattle.worker_store.specs.restart_theorem.Promises.{IsReply, IsCaughtUp}
 use Rattle.worker_store.specs.restart_theorem.laws.Upgrades.{UpgradeNone, ShowOne}
 use Rattle.worker_store.specs.restart_theorem.laws.Upgrades.{OpenInTwo, EndInTwo}
+use Rattle.worker_store.proofs.RestartLemmas.Pleas.{in_order}
 use Rattle.worker_store.proofs.RestartLemmas.Promised.{IsKeptSomewhere, AreKeptSomewhere}
 use Rattle.worker_store.proofs.RestartLemmas.Widenings.{wide_cut, wide_longer, wide_whole}
 use Rattle.worker_store.proofs.RestartLemmas.Widenings.{wide_more, narrow_front, narrow_more}
@@ -118,39 +117,14 @@ module _ (m : Module) (config : Settings) where
 
   -- ---- calls that have not failed
 
-  not_open : (cause : Cause) → Closed cause ≡ Open → ⊥
-  not_open cause e = absurd (cc)
-
-  -- such a call has taken all that is kept then
-  pub has_caught_up : (kept : List Kept) (stage : Stage) (held : ℕ) (shown : Saved) (act : Act)
-      (reply : Reply) → phase_ended reply ≡ Open
-      → IsReply config kept stage held shown act reply → IsCaughtUp kept stage held shown
-  has_caught_up kept stage held shown (Slice fuel) Spent opens is = is.3
-  has_caught_up kept stage held shown (Slice fuel) Waits opens is = is.3
-  has_caught_up kept stage held shown (Slice fuel) (Over why) opens is = is.3
-  has_caught_up kept stage held shown (Slice fuel) Done opens is = absurd is
-  has_caught_up kept stage held shown (Batch fuel most) Spent opens is = is.3
-  has_caught_up kept stage held shown (Batch fuel most) Waits opens is = is.3
-  has_caught_up kept stage held shown (Batch fuel most) (Over why) opens is = is.3
-  has_caught_up kept stage held shown (Batch fuel most) Done opens is = absurd is
-  has_caught_up kept stage held shown Checkpoint Spent opens is = absurd is
-  has_caught_up kept stage held shown Checkpoint Waits opens is = absurd is
-  has_caught_up kept stage held shown Checkpoint (Over why) opens is = absurd is
-  has_caught_up kept stage held shown Checkpoint Done opens is = is.2
-  has_caught_up kept stage held shown Upgrade Spent opens is = absurd is
-  has_caught_up kept stage held shown Upgrade Waits opens is = absurd is
-  has_caught_up kept stage held shown Upgrade (Over why) opens is = absurd is
-  has_caught_up kept stage held shown Upgrade Done opens is = is.3
-  has_caught_up kept stage held shown act (Fails cause) opens is = absurd (not_open cause opens)
-
   ends_in_two : (so_far : Promise) (act : Act) (reply : Reply) (held : ℕ) (shown : Saved)
       → IsKeptSomewhere m config so_far (Ended act reply held shown) → IsWide so_far
       → phase_ended reply ≡ Open → shown.version ≡ Two
   ends_in_two so_far act reply held shown somewhere wide opens =
       let kept : List Kept = kept_by_end act shown so_far.kept in
       let then : Promise = after so_far (Ended act reply held shown) in
-      let caught = has_caught_up kept somewhere.stage held shown act reply opens
-      somewhere.kept.reply in
+      let caught = (in_order config kept somewhere.stage held shown act reply opens
+      somewhere.kept.reply).2 in
       at_version m config (take held kept) shown.steps shown somewhere.kept.at
       ∙ ap (λ n. version_after (take n kept)) caught.all_taken
       ∙ ap (λ l. version_after l) (take-length kept)

@@ -1,6 +1,6 @@
-use Rattle.worker_store.proofs.LawLemmas.Raising.{told_carries, asked_carries, ended_carries}
+use Rattle.worker_store.proofs.LawLemmas.Raising.{asked_carries, ended_carries}
 use Rattle.worker_store.proofs.LawLemmas.Raising.{append_carries, carried_is_reached}
-use Rattle.worker_store.proofs.LawLemmas.TurnLemmas.{more_carries}
+use Rattle.worker_store.proofs.LawLemmas.TurnLemmas.{told_carries, more_carries}
 use Rattle.worker_store.proofs.laws.events_carry_promises.Goals as goal
 
 pub returns-clause-told : goal.returns-clause-told

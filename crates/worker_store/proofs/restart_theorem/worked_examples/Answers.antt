@@ -1,12 +1,5 @@
-use Rattle.worker_store.proofs.RestartLemmas.Examples.{lives_examples, promise_examples}
 use Rattle.worker_store.proofs.RestartLemmas.Examples.{course_examples, reply_examples}
 use Rattle.worker_store.proofs.restart_theorem.worked_examples.Goals as goal
-
-pub returns-clause-lives : goal.returns-clause-lives
-returns-clause-lives c = lives_examples
-
-pub returns-clause-promises : goal.returns-clause-promises
-returns-clause-promises c = promise_examples
 
 pub returns-clause-courses : goal.returns-clause-courses
 returns-clause-courses c = course_examples

@@ -5,7 +5,7 @@ use Rattle.std.proofs.lemmas.Bool.{cases_lt}
 use Rattle.std.specs.Prelude.{Result, Err}
 use Rattle.wasi_abi.specs.declared.numbers.TheConstants.{NUMBERS_END}
 use Rattle.wasi_abi.specs.rules.Versions.{version_number}
-use Rattle.sector_disk.proofs.Moments.{started, weaker}
+use Rattle.sector_disk.proofs.Moments.{started}
 use Rattle.disk_layout.specs.rules.Places.{area_place, rounded_up, total_sectors}
 use Rattle.journal.specs.rules.State.{JournalState, state}
 use Rattle.snapshot.specs.declared.fault.SnapshotFault.{SnapshotFault}
@@ -16,7 +16,7 @@ use Rattle.state_image.specs.rules.Saving.{saved_of}
 use Rattle.worker_store.specs.declared.fault.StoreFault.{StoreFault}
 use Rattle.worker_store.specs.declared.fault.StoreFault.TheVariants.{Disk, Failed}
 use Rattle.worker_store.proofs.SavingLemmas.{none_performed, none_performed_still, stored_err}
-use Rattle.worker_store.proofs.SavingLemmas.{stored_ok, area_counts}
+use Rattle.worker_store.proofs.SavingLemmas.{stored_ok, area_counts, goes}
 use Rattle.worker_store.specs.Filling.{snapshot_of}
 use Rattle.worker_store.specs.declared.store.WorkerStore.{WorkerStore}
 use Rattle.worker_store.proofs.StoreLemmas.{commit_leaves, commit_stores, failed_before}
@@ -86,10 +86,7 @@ returns-in-Err-written-clause-commits g c =
       fresh = first_of (search rules, grind (arith, common_steps));
       begun = first_of (search rules, grind (arith, common_steps));
       all_synced = search rules;
-      passes = let leaves = c.write_snapshot-written.ensures.writes.any_moment in
-          weaker (g.D.Disk.medium c.args.disk.now) (g.D.Disk.medium
-          c.write_snapshot-written.new.disk) _
-          (λ image. Unit {0}) leaves.passes (λ image at. tt);
+      passes = goes c.write_snapshot-written.ensures.writes.any_moment;
       asks = first_of (search rules, grind (arith, common_steps));
       counts = area_counts c.args.self.now.geometry
           (snapshot_of c.saturating_add-next.result Changes c.args.process.now)
@@ -142,10 +139,7 @@ returns-clause-commits g c =
       fresh = first_of (search rules, grind (arith, common_steps));
       begun = first_of (search rules, grind (arith, common_steps));
       all_synced = let ok = c.in_default-written.ensures in ok.writes.all_synced;
-      passes = let leaves = c.write_snapshot-written.ensures.writes.any_moment in
-          weaker (g.D.Disk.medium c.args.disk.now) (g.D.Disk.medium
-          c.write_snapshot-written.new.disk) _
-          (λ image. Unit {0}) leaves.passes (λ image at. tt);
+      passes = goes c.write_snapshot-written.ensures.writes.any_moment;
       asks = first_of (search rules, grind (arith, common_steps));
       counts = area_counts c.args.self.now.geometry
           (snapshot_of c.saturating_add-next.result Changes c.args.process.now)

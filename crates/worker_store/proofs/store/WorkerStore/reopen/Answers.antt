@@ -2,7 +2,7 @@ use Rattle.std.proofs.Common.{◌<◌, ◌∙◌, [], refl, ap, inl, arith, fals
 use Rattle.std.proofs.lemmas.Grind.{common_steps}
 use Rattle.std.specs.Prelude.{Result, Err}
 use Rattle.wasi_abi.specs.rules.Versions.{version_number}
-use Rattle.sector_disk.proofs.Moments.{started, weaker}
+use Rattle.sector_disk.proofs.Moments.{started}
 use Rattle.disk_layout.specs.rules.Places.{area_place, rounded_up, total_sectors}
 use Rattle.journal.specs.rules.State.{JournalState, state}
 use Rattle.snapshot.specs.declared.fault.SnapshotFault.{SnapshotFault}
@@ -14,6 +14,7 @@ use Rattle.worker_store.proofs.LawLemmas.Passing.{crashed_in_the_end}
 use Rattle.worker_store.specs.declared.fault.StoreFault.{StoreFault}
 use Rattle.worker_store.specs.declared.fault.StoreFault.TheVariants.{Disk}
 use Rattle.worker_store.proofs.SavingLemmas.{none_performed, stored_err, stored_ok, area_counts}
+use Rattle.worker_store.proofs.SavingLemmas.{goes}
 use Rattle.worker_store.specs.Filling.{snapshot_of}
 use Rattle.worker_store.specs.declared.store.WorkerStore.{WorkerStore}
 use Rattle.worker_store.proofs.StoreLemmas.{reopening_leaves, reopening_leaves_point}
@@ -65,10 +66,7 @@ returns-in-Err-written-clause-reopens g c =
       begun = first_of (search rules, grind (arith, common_steps));
       numbered = search rules;
       placed = search rules;
-      passes = let leaves = c.write_snapshot-written.ensures.writes.any_moment in
-          weaker (g.D.Disk.medium c.args.disk.now) (g.D.Disk.medium
-          c.write_snapshot-written.new.disk) _
-          (λ image. Unit {0}) leaves.passes (λ image at. tt);
+      passes = goes c.write_snapshot-written.ensures.writes.any_moment;
       calls = let r : Result WorkerStore StoreFault = Err c.from.result in
           stored_err c.args.geometry.now Changes
           (rounded_up (length (process_image (saved_of c.args.process.now)))) c.args.generation
@@ -114,10 +112,7 @@ returns-clause-reopens g c =
       begun = first_of (search rules, grind (arith, common_steps));
       numbered = ap (λ (j : JournalState). j.generation) c.fresh.ensures;
       placed = search rules;
-      passes = let leaves = c.write_snapshot-written.ensures.writes.any_moment in
-          weaker (g.D.Disk.medium c.args.disk.now) (g.D.Disk.medium
-          c.write_snapshot-written.new.disk) _
-          (λ image. Unit {0}) leaves.passes (λ image at. tt);
+      passes = goes c.write_snapshot-written.ensures.writes.any_moment;
       calls = let store : WorkerStore = record {
         geometry = c.args.geometry.now;
         journal = c.fresh.result;
