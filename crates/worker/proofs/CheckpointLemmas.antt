@@ -26,11 +26,11 @@ use Rattle.worker.specs.declared.fault.WorkFault.{WorkFault}
 use Rattle.worker.specs.rules.WorkFaults.{fault_of_store}
 use Rattle.worker.specs.rules.DurableValues.{DurableValue, durable_of}
 use Rattle.worker.specs.rules.DurableCalls.{ActCarries, Answered}
-use Rattle.worker.specs.Savings.{HasSaveCause, LeavesFrontOrNext, SaveFails, SaveCalls}
+use Rattle.worker.specs.Savings.{HasSaveCause, LeavesFrontOrNext, SaveCalls}
 use Rattle.worker.specs.rules.CallCounts.{most_saving}
-use Rattle.worker.specs.rules.Checkpoints.{CheckpointFails, CheckpointCalls, IsSavedIn}
-use Rattle.worker.specs.rules.Checkpoints.{HasCheckpointCause}
-use Rattle.worker.proofs.SavingActLemmas.{SavesShown, saving_done, saving_fault, saving_fails}
+use Rattle.worker.specs.rules.Checkpoints.{CheckpointCalls, HasCheckpointCause, IsSavedIn}
+use Rattle.worker.proofs.SavingActLemmas.{SavesShown, saving_done, saving_fault}
+use Rattle.worker.proofs.CauseLemmas.{fits_now}
 use Rattle.worker.proofs.DurableLemmas.OnDisk.{room_now}
 
 -- ---- a worker that hasn't failed
@@ -83,25 +83,15 @@ module _ {D : Type 0} (medium : D → Medium) (running : RunningWorker) (replaye
       tt works refl stores
 
   pub fault_carries : (fault : StoreFault)
-      → SaveFails running.store running.process (medium disk) (medium disk') fault
+      → HasSaveCause running.store running.process (medium disk) (medium disk') fault
       → ActCarries Checkpoint [] (durable_of running replayed) (Err (fault_of_store fault))
       (durable_of (record running { store = after_store }) replayed) (medium disk)
       (medium disk')
-  fault_carries fault fails =
+  fault_carries fault cause =
       saving_fault medium Checkpoint (durable_of running replayed)
       (durable_of (record running { store = after_store }) replayed) disk disk' fit
       (checkpoint_saves_shown running replayed after_store (medium disk) is) leaves few
-      fault fails
-
-  pub fault_fails : (fault : StoreFault)
-      → SaveFails running.store running.process (medium disk) (medium disk') fault
-      → CheckpointFails (durable_of running replayed) (medium disk) (medium disk')
-      (fault_of_store fault)
-  fault_fails fault fails =
-      saving_fails medium Checkpoint (durable_of running replayed)
-      (durable_of (record running { store = after_store }) replayed) disk disk' fit
-      (checkpoint_saves_shown running replayed after_store (medium disk) is) leaves few
-      fault fails
+      running.process (fits_now medium fit (durable_of running replayed) disk is) fault cause
 
 -- ---- a worker that has failed
 
@@ -112,9 +102,6 @@ module _ (old : DurableValue) (failed : old.has_failed ≡ true) (disk disk' : M
       → ActCarries act exchanges old result new disk disk'
   failed_carries act exchanges result new m config guest promise stage p acts opened next_act
       foretold = let works = opened.works in absurd (cc)
-
-  pub failed_fails : (why : WorkFault) → CheckpointFails old disk disk' why
-  failed_fails why m config guest promise stage p opened = let works = opened.works in absurd (cc)
 
 pub failed_calls : (old : DurableValue) (why : WorkFault) (disk : Medium)
     → CheckpointCalls {T = Unit {0}} old (Err why) disk disk
@@ -134,14 +121,8 @@ failed_calls old why disk = (
 checkpoint_cause : (running : RunningWorker) (replayed : ℕ) (old new : Medium) (fault : StoreFault)
     → HasSaveCause running.store running.process old new fault
     → HasCheckpointCause (durable_of running replayed) old new (fault_of_store fault)
-checkpoint_cause running replayed old new store.TooBig cause = cause
-checkpoint_cause running replayed old new store.Full cause = cause
-checkpoint_cause running replayed old new store.TooLong cause = absurd cause
-checkpoint_cause running replayed old new store.Damaged cause = absurd cause
-checkpoint_cause running replayed old new (store.Layout why) cause = absurd cause
-checkpoint_cause running replayed old new (store.Disk why) cause = cause
 checkpoint_cause running replayed old new store.Memory cause = absurd cause
-checkpoint_cause running replayed old new store.Failed cause = cause
+checkpoint_cause running replayed old new other cause = cause
 
 -- ---- as contracts see it
 
@@ -208,24 +189,16 @@ module _ {D : Type 0} (medium : D → Medium) (running : RunningWorker) (replaye
         (done_carries medium running replayed disk disk' fit is after_store leaves few works
         stores)
 
-    module _ (fault : StoreFault) (why : WorkFault) (same : why ≡ fault_of_store fault)
-        (fails : SaveFails running.store running.process (medium disk) (medium disk') fault) where
-      pub fault_keeps : ActCarries Checkpoint [] old (Err why)
-          (durable_of (record running { store = after_store }) replayed) (medium disk)
-          (medium disk')
-      fault_keeps = subst (λ (e : WorkFault). ActCarries Checkpoint [] old (Err e)
-          (durable_of (record running { store = after_store }) replayed) (medium disk)
-          (medium disk')) (sym same)
-          (subst (λ (w : DurableValue). ActCarries Checkpoint [] w (Err (fault_of_store fault))
-          (durable_of (record running { store = after_store }) replayed) (medium disk)
-          (medium disk')) is_old
-          (fault_carries medium running replayed disk disk' fit is after_store leaves few fault
-          fails))
-
-      pub fault_cause : CheckpointFails old (medium disk) (medium disk') why
-      fault_cause = subst (λ (e : WorkFault).
-          CheckpointFails old (medium disk) (medium disk') e) (sym same)
-          (subst (λ (w : DurableValue).
-          CheckpointFails w (medium disk) (medium disk') (fault_of_store fault)) is_old
-          (fault_fails medium running replayed disk disk' fit is after_store leaves few fault
-          fails))
+    pub fault_keeps : (fault : StoreFault) (why : WorkFault) → why ≡ fault_of_store fault
+        → HasSaveCause running.store running.process (medium disk) (medium disk') fault
+        → ActCarries Checkpoint [] old (Err why)
+        (durable_of (record running { store = after_store }) replayed) (medium disk)
+        (medium disk')
+    fault_keeps fault why same cause = subst (λ (e : WorkFault). ActCarries Checkpoint [] old
+        (Err e) (durable_of (record running { store = after_store }) replayed) (medium disk)
+        (medium disk')) (sym same)
+        (subst (λ (w : DurableValue). ActCarries Checkpoint [] w (Err (fault_of_store fault))
+        (durable_of (record running { store = after_store }) replayed) (medium disk)
+        (medium disk')) is_old
+        (fault_carries medium running replayed disk disk' fit is after_store leaves few fault
+        cause))

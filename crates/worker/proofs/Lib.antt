@@ -9,6 +9,7 @@ mod ShortAnswers
 mod DurableLemmas
 mod AbreastLemmas
 mod SavingActLemmas
+mod CauseLemmas
 mod CheckpointLemmas
 mod WideningLemmas
 mod SavingInTwoLemmas

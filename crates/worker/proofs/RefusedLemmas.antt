@@ -13,13 +13,13 @@ use Rattle.worker.specs.rules.DurableValues.{DurableValue, IsTooSmallFor}
 use Rattle.worker.specs.rules.Effects.{KeepsInSaving, RunsSlice, RunsSteps, SavesWorker}
 use Rattle.worker.specs.rules.Effects.{UpgradesWorker}
 use Rattle.worker.specs.rules.Scenes.{scene}
-use Rattle.worker.proofs.CheckpointLemmas.{failed_carries, failed_fails, failed_calls}
+use Rattle.worker.proofs.CheckpointLemmas.{failed_carries, failed_calls}
 use Rattle.worker.proofs.DurableLemmas.InVain.{not_both}
 use Rattle.worker.proofs.DurableLemmas.Working.{nothing_alone}
 use Rattle.worker.proofs.RecoveryCallLemmas.{none_called}
 use Rattle.worker.proofs.StoreTurnLemmas.{failed_slice_calls}
 use Rattle.worker.proofs.TurnCounts.{counts_none}
-use Rattle.worker.proofs.UpgradeLemmas.{failed_upgrade_fails, no_upgrade_calls}
+use Rattle.worker.proofs.UpgradeLemmas.{no_upgrade_calls}
 
 -- a worker that is refused on a disk with all its sectors had failed
 pub had_failed : (w : DurableValue) (disk : Medium)
@@ -77,6 +77,7 @@ module _ (w : DurableValue) (failed : w.has_failed ≡ true) (disk : Medium)
     (room : total_sectors w.store.geometry ≤ disk.sectors) where
   keeps : KeepsInSaving w w (Err (Work slice.Failed)) disk disk
   keeps = record {
+    shows = λ works. absurd (not_both w.has_failed failed works);
     fails = failed;
     unsaved = refl;
     replayed = refl;
@@ -92,7 +93,6 @@ module _ (w : DurableValue) (failed : w.has_failed ≡ true) (disk : Medium)
     process = refl;
     keeps = keeps;
     calls = failed_calls w (Work slice.Failed) disk;
-    cause = failed_fails w failed disk disk (Work slice.Failed);
     on_any_disk = failed;
   }
 
@@ -101,9 +101,8 @@ module _ (w : DurableValue) (failed : w.has_failed ≡ true) (disk : Medium)
     carries = failed_carries w failed disk disk Upgrade [] (Err (Work slice.Failed)) w;
     ends = tt;
     done = tt;
-    after_fault = inl refl;
+    leaves = refl;
     keeps = keeps;
     calls = no_upgrade_calls w (Work slice.Failed) disk;
-    cause = failed_upgrade_fails w failed disk disk (Work slice.Failed) w.process;
     on_any_disk = failed;
   }

@@ -5,7 +5,6 @@ use Rattle.std.proofs.lemmas.List.{append-nil}
 use Rattle.std.proofs.Math.Seq.{take-length}
 use Rattle.std.specs.Prelude.{Result, Ok, Err}
 use Rattle.wasm_syntax.specs.declared.module.Module.{Module}
-use Rattle.wasi_abi.specs.declared.numbers.TheConstants.{NUMBERS_END}
 use Rattle.wasi_abi.specs.declared.version.Version.TheVariants.{Two}
 use Rattle.wasi_abi.specs.rules.Configs.{Settings}
 use Rattle.wasi_calls_rules.specs.laws.Laws.{IsOfBytes}
@@ -54,16 +53,14 @@ use Rattle.worker.specs.declared.fault.WorkFault.{WorkFault}
 use Rattle.worker.specs.rules.WorkFaults.{fault_of_store}
 use Rattle.worker.specs.rules.DurableValues.{DurableValue}
 use Rattle.worker_store.specs.rules.BetweenCalls.{IsForetold}
-use Rattle.worker.specs.rules.DurableCalls.{CallCarries, HasCauseAt, HasCauseOf, IsFailureOf}
-use Rattle.worker.specs.rules.DurableCalls.{IsReplyOfSaving, invocation}
+use Rattle.worker.specs.rules.DurableCalls.{CallCarries, ComesOf, IsReplyOfSaving, WantedMemory}
+use Rattle.worker.specs.rules.DurableCalls.{invocation}
 use Rattle.worker.specs.rules.OpenWorkers.{IsOpenOn, IsOnDisk, identity}
-use Rattle.worker.specs.Savings.{LeavesFrontOrNext, IsSaveFault, SaveFails}
+use Rattle.worker.specs.Savings.{HasSaveCause, LeavesFrontOrNext}
 use Rattle.worker.specs.rules.CallCounts.{most_saving}
-use Rattle.worker.specs.rules.Checkpoints.{IsCheckpointFault, CheckpointFails}
 use Rattle.worker.proofs.CallCountLemmas.{calls_once}
 use Rattle.worker.proofs.DurableLemmas.Bounds.{saves_within}
-use Rattle.worker.proofs.DurableLemmas.Ends.{disk_cause}
-use Rattle.worker.proofs.DurableLemmas.OnDisk.{fewer_syncs, reached_now}
+use Rattle.worker.proofs.DurableLemmas.OnDisk.{fewer_syncs, reached_now, records_fit}
 
 one_more : (a b c : ℕ) → a ≡ b + 1 → b ≤ c → a ≤ c + 1
 one_more a b c e le = omega (arith, e, le)
@@ -71,6 +68,49 @@ one_more a b c e le = omega (arith, e, le)
 -- all that is kept is the first of it
 pub all_first : (kept front : List Kept) → front ≡ kept → take (length front) kept ≡ front
 all_first kept front all = subst (λ l. take (length front) l ≡ front) all (take-length front)
+
+-- ---- why a save fails
+
+-- a fault of the store of an open worker, as the cause of an end
+pub record SaveComes (m : Module) (config : Settings) (guest : Guest) (promise : Promise)
+    (fault : StoreFault) : Type 0 where
+  pub cause : Cause
+  pub comes : ComesOf (fault_of_store fault) cause
+  pub wanted : (v : ProcessValue) → WantedMemory {T = Unit {0}} (Err (fault_of_store fault)) guest v
+  pub may : MayFail Open cause
+  pub bound : (p : ProcessState) → HasBound m config guest promise p cause
+
+module _ (m : Module) (config : Settings) (guest : Guest) (promise : Promise) (p : ProcessState)
+    (step : ℕ) (before : WorkerStore) (old new : Medium)
+    (on : IsOnDisk (identity m config guest) promise p step promise.events before old)
+    (v : ProcessValue)
+    (fits : length (process_image (saved_of v)) ≤ SECTOR_SIZE * before.geometry.area_sectors) where
+  -- of an image that fits: the number of the generation is at its end, or the disk failed
+  pub save_comes : (fault : StoreFault) → HasSaveCause before v old new fault
+      → SaveComes m config guest promise fault
+  save_comes store.TooBig (inl late) =
+      let stores = on.stores in
+      let journaled = stores.journaled in
+      let numbered = journaled.generation in
+      let early = on.early in
+      record {
+        cause = OfBounds;
+        comes = refl;
+        wanted = λ v. tt;
+        may = tt;
+        bound = λ q. inr (omega (arith, late, early, numbered));
+      }
+  save_comes store.TooBig (inr long) = absurd (omega (arith, long, fits))
+  save_comes store.Full full =
+      let room = records_fit m config guest promise p step promise.events before old on in
+      absurd (omega (arith, full, room))
+  save_comes (store.Disk why) cause =
+      record { cause = OfDisk; comes = refl; wanted = λ v. tt; may = tt; bound = λ q. tt }
+  save_comes store.Failed failed =
+      let stores = on.stores in
+      let works = stores.works in
+      absurd (cc)
+  save_comes other cause = absurd cause
 
 -- ---- a worker on its disk
 
@@ -98,6 +138,46 @@ pub record CanSave (m : Module) (config : Settings) (guest : Guest) (promise : P
   pub fits : length (process_image (saved_of v)) ≤ SECTOR_SIZE * before.geometry.area_sectors
 
 module _ {D : Type 0} (medium : D → Medium) where
+  -- The image of a process to which it comes isn't longer than an area.
+  pub image_fits : (m : Module) (config : Settings) (guest : Guest) (promise : Promise)
+      (p : ProcessState) (step latest : ℕ) (before : WorkerStore) (disk : D) (more : List Kept)
+      (k : ℕ) (q : ProcessState) (v : ProcessValue)
+      → (on : IsOnDisk (identity m config guest) promise p step latest before (medium disk))
+      → Runs guest p more k q → ShowsProcess v guest q → IsProcess v → v.machine.guest ≡ m
+      → IsOfBytes (host_of config) → ProcessImagesFitAreas
+      → length (process_image (saved_of v)) ≤ SECTOR_SIZE * before.geometry.area_sectors
+  image_fits m config guest promise p step latest before disk more k q v on comes shows is same
+      texts fit =
+      let point : Savepoint m config = on.point in
+      let shown : ShowsProcess v point.reached.guest q =
+      subst (λ (g : Guest). ShowsProcess v g q) (sym on.same) shows in
+      let here : Runs point.reached.guest on.now [] on.n p =
+      subst (λ (g : Guest). Runs g on.now [] on.n p) (sym on.same) on.runs in
+      let on_to : Runs point.reached.guest p more k q =
+      subst (λ (g : Guest). Runs g p more k q) (sym on.same) comes in
+      let at_p = carried_is_reached medium m config promise point before.journal on.records
+      on.pending on.last on.now p on.n disk on.carried on.on_record here in
+      let reached : Reaches m config promise.kept p.steps p = at_p.0 in
+      let there : Runs reached.guest reached.start (promise.kept ++ more) (p.steps + k) q =
+      runs_join reached.guest reached.start p q promise.kept more p.steps k reached.runs
+      (subst (λ (g : Guest). Runs g p more k q) (sym at_p.1) on_to) in
+      let pages = point.settings.in_range.pages in
+      let typed : IsWellTyped m config (saved_of v) =
+      saved_is_well_typed point.wasm m config (promise.kept ++ more) (p.steps + k) v q
+      point.accepted (few_pages config.pages pages.1) texts
+      (record {
+        guest = reached.guest;
+        start = reached.start;
+        begins = reached.begins;
+        runs = there;
+      }) same is (subst (λ (g : Guest). ShowsProcess v g q) (sym at_p.1) shown) in
+      let stores = on.stores in
+      subst (λ (g : Geometry). length (process_image (saved_of v)) ≤ SECTOR_SIZE * g.area_sectors)
+      (sym stores.geometry) (fit m config (saved_of v) (length point.wasm) typed)
+    where
+      few_pages : (pages : ℕ) → pages ≤ 256 → pages ≤ 2 ^ 16
+      few_pages pages few = omega (arith, few)
+
   pub can_save : (m : Module) (config : Settings) (guest : Guest) (promise : Promise)
       (p : ProcessState) (step latest : ℕ) (before : WorkerStore) (disk : D) (more : List Kept)
       (k : ℕ) (q : ProcessState) (v : ProcessValue)
@@ -122,35 +202,15 @@ module _ {D : Type 0} (medium : D → Medium) where
       runs_join point.reached.guest on.now p q [] more on.n k here on_to in
       let found = next_is_at_hand m config point all more on.now q (on.n + k) v held.recorded runs
       shown is same room in
-      let at_p = carried_is_reached medium m config promise point before.journal on.records
-      on.pending on.last on.now p on.n disk on.carried on.on_record here in
-      let reached : Reaches m config promise.kept p.steps p = at_p.0 in
-      let there : Runs reached.guest reached.start (promise.kept ++ more) (p.steps + k) q =
-      runs_join reached.guest reached.start p q promise.kept more p.steps k reached.runs
-      (subst (λ (g : Guest). Runs g p more k q) (sym at_p.1) on_to) in
-      let pages = point.settings.in_range.pages in
-      let typed : IsWellTyped m config (saved_of v) =
-      saved_is_well_typed point.wasm m config (promise.kept ++ more) (p.steps + k) v q
-      point.accepted (few_pages config.pages pages.1) texts
-      (record {
-        guest = reached.guest;
-        start = reached.start;
-        begins = reached.begins;
-        runs = there;
-      }) same is (subst (λ (g : Guest). ShowsProcess v g q) (sym at_p.1) shown) in
       let of_next = found.1 in
       record {
         next = found.0;
         is_next = of_next;
         all = of_next.front ∙ ap (λ (l : List Kept). l ++ more) (sym on.on_record);
         same = of_next.same ∙ on.same;
-        fits = subst (λ (g : Geometry). length (process_image (saved_of v)) ≤ SECTOR_SIZE
-            * g.area_sectors) (sym on.stores.geometry) (fit m config (saved_of v)
-            (length point.wasm) typed);
+        fits = image_fits m config guest promise p step latest before disk more k q v on comes
+            shows is same texts fit;
       }
-    where
-      few_pages : (pages : ℕ) → pages ≤ 256 → pages ≤ 2 ^ 16
-      few_pages pages few = omega (arith, few)
 
 -- ---- an act that saves it
 
@@ -178,27 +238,6 @@ module _ {D : Type 0} (medium : D → Medium) (old new : DurableValue) (disk : D
       let comes = is.comes in
       let counted : q.steps ≡ p.steps + 0 = runs_count guest p q more 0 comes.runs in
       omega (arith, counted)
-
-  -- an error of the store
-  pub save_fault : (disk' : D) (fault : StoreFault)
-      → SaveFails old.store new.process (medium disk) (medium disk') fault
-      → IsCheckpointFault old (medium disk) (medium disk') (fault_of_store fault)
-  save_fault disk' fault fails =
-      let on = opened.on_disk in
-      faulted fault (fails m config on.point on.records on.pending on.last on.now on.stores)
-    where
-      faulted : (fault : StoreFault)
-          → IsSaveFault old.store new.process (medium disk) (medium disk') fault
-          → IsCheckpointFault old (medium disk) (medium disk') (fault_of_store fault)
-      faulted store.TooBig (inl late) = late
-      faulted store.TooBig (inr long) = let few = ready.fits in absurd (omega (arith, long, few))
-      faulted store.Full h = absurd h
-      faulted store.TooLong h = absurd h
-      faulted store.Damaged h = absurd h
-      faulted (store.Layout why) h = absurd h
-      faulted (store.Disk why) h = h
-      faulted store.Memory h = absurd h
-      faulted store.Failed h = absurd h
 
   module _ (act : Act) (saves : SavesWith promise act more (saved_of new.process))
       (room : kept_by_end act (saved_of new.process) promise.kept ≢ promise.kept
@@ -483,6 +522,13 @@ SavesShown act old new disk =
     × (kept_by_end act (saved_of new.process) promise.kept ≢ promise.kept
     → TakesRecords Two config.journal)
 
+-- An image of it isn't longer than an area.
+abbrev pub FitsOpen : DurableValue → ProcessValue → Medium → Type 0
+FitsOpen w v disk =
+    (m : Module) (config : Settings) (guest : Guest) (promise : Promise) (stage : Stage)
+    (p : ProcessState) → IsOpenOn m config guest promise stage p w disk
+    → length (process_image (saved_of v)) ≤ SECTOR_SIZE * w.store.geometry.area_sectors
+
 -- the act keeps it
 abbrev pub SavingCarries : Act → DurableValue → Result (Unit {0}) WorkFault → DurableValue
     → Medium → Medium → Type 0
@@ -491,7 +537,7 @@ SavingCarries act old result new disk disk' =
     (p : ProcessState) (acts : List Act) → IsOpenOn m config guest promise stage p old disk
     → stage.acts ≡ act ∷ acts → IsForetold stage []
     → (reply : Reply) × IsReplyOfSaving result reply
-    × HasCauseOf result guest config new.process disk disk'
+    × WantedMemory result guest new.process
     × CallCarries (invocation m config guest act) promise stage reply new disk disk' []
 
 -- how its disk is left
@@ -513,63 +559,16 @@ module _ {D : Type 0} (medium : D → Medium) (act : Act) (old new : DurableValu
             act is.3 is.4 acts next_act disk' leaves few version works says stores,
       )
 
-  pub saving_fault : (fault : StoreFault)
-      → SaveFails old.store new.process (medium disk) (medium disk') fault
+  pub saving_fault : (v : ProcessValue) → FitsOpen old v (medium disk) → (fault : StoreFault)
+      → HasSaveCause old.store v (medium disk) (medium disk') fault
       → SavingCarries act old (Err (fault_of_store fault)) new (medium disk) (medium disk')
-  saving_fault fault fails m config guest promise stage p acts opened next_act foretold =
+  saving_fault v fits fault cause m config guest promise stage p acts opened next_act foretold =
       let is = saves m config guest promise stage p opened in
-      carries fault (save_fault medium old new disk fit m config guest promise stage p opened is.0
-      is.1 is.2 disk' fault fails)
-    where
-      on_generation : (q : ProcessState) → NUMBERS_END ≤ old.store.journal.generation + 1
-          → HasBound m config guest promise q OfBounds
-      on_generation q late =
-          let on = opened.on_disk in
-          let early = on.early in
-          let numbered = on.stores.journaled.generation in
-          inr (omega (arith, late, early, numbered))
-
-      failed : (cause : Cause) → MayFail Open cause
-          → ((q : ProcessState) → HasBound m config guest promise q cause)
-          → CallCarries (invocation m config guest act) promise stage (Fails cause) new
-          (medium disk) (medium disk') []
-      failed cause may bound =
-          let is = saves m config guest promise stage p opened in
-          save_failed medium old new disk fit m config guest promise stage p opened is.0 is.1
-          is.2 act is.3 is.4 acts next_act disk' leaves few cause may (bound is.1)
-
-      carries : (fault : StoreFault)
-          → IsCheckpointFault old (medium disk) (medium disk') (fault_of_store fault)
-          → (reply : Reply) × IsFailureOf (fault_of_store fault) reply
-          × HasCauseAt (fault_of_store fault) guest config new.process (medium disk) (medium disk')
-          × CallCarries (invocation m config guest act) promise stage reply new (medium disk)
-          (medium disk') []
-      carries store.TooBig late = (
-        Fails OfBounds,
-        (OfBounds, refl, refl),
-        tt,
-        failed OfBounds tt (λ q. on_generation q late),
+      let why = save_comes m config guest promise p p.steps old.store (medium disk) (medium disk')
+      opened.on_disk v (fits m config guest promise stage p opened) fault cause in (
+        Fails why.cause,
+        (why.cause, why.comes, refl),
+        why.wanted new.process,
+        save_failed medium old new disk fit m config guest promise stage p opened is.0 is.1 is.2
+            act is.3 is.4 acts next_act disk' leaves few why.cause why.may (why.bound is.1),
       )
-      carries (store.Disk why) h = (
-        Fails OfDisk,
-        (OfDisk, refl, refl),
-        disk_cause
-            (record { code = m; config = config; guest = guest; act = act; first = p.steps })
-            promise p p.steps promise.events old.store old.process new.process (medium disk)
-            (medium disk') why opened.on_disk h,
-        failed OfDisk tt (λ q. tt),
-      )
-      carries store.Full h = absurd h
-      carries store.TooLong h = absurd h
-      carries store.Damaged h = absurd h
-      carries (store.Layout why) h = absurd h
-      carries store.Memory h = absurd h
-      carries store.Failed h = absurd h
-
-  pub saving_fails : (fault : StoreFault)
-      → SaveFails old.store new.process (medium disk) (medium disk') fault
-      → CheckpointFails old (medium disk) (medium disk') (fault_of_store fault)
-  saving_fails fault fails m config guest promise stage p opened =
-      let is = saves m config guest promise stage p opened in
-      save_fault medium old new disk fit m config guest promise stage p opened is.0 is.1 is.2 disk'
-      fault fails

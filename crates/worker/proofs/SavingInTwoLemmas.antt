@@ -16,7 +16,7 @@ use Rattle.worker_store.specs.declared.store.WorkerStore.{WorkerStore}
 use Rattle.worker_store.specs.rules.Calls.{LeavesFronts, StoresAll, LeavesOneOfTwo, CommitFails}
 use Rattle.worker_store.specs.rules.Stores.{IsOfStore}
 use Rattle.worker.specs.rules.WorkFaults.{fault_of_store}
-use Rattle.worker.specs.Savings.{SaveFails, HasSaveCause}
+use Rattle.worker.specs.Savings.{HasSaveCause}
 use Rattle.worker.specs.rules.Upgrades.{upgraded}
 use Rattle.worker.specs.StoreTurns.{StoreGoes, StoreStops}
 use Rattle.worker.specs.Upgrading.{AfterFault, BarsAndCommits}
@@ -68,17 +68,10 @@ module _ (before between : WorkerStore) (v w : ProcessValue) (mid new : Medium)
 module _ (before between : WorkerStore) (v : ProcessValue) (old mid : Medium) (generation : ℕ)
     (is : generation ≡ between.journal.generation) (stays : IsOfStore before between)
     (late : NUMBERS_END ≤ generation + 1) where
-  late_before : NUMBERS_END ≤ before.journal.generation + 1
-  late_before = let same = stays.generation in omega (arith, is, same, late)
-
-  pub late_fails : (fault : StoreFault) → fault ≡ store.TooBig → SaveFails before v old mid fault
-  late_fails fault same = subst (λ (e : StoreFault). SaveFails before v old mid e) (sym same)
-      (λ m config point records pending last now stores. inl late_before)
-
   pub late_cause : (fault : StoreFault) → fault ≡ store.TooBig
       → HasSaveCause before v old mid fault
   late_cause fault same = subst (λ (e : StoreFault). HasSaveCause before v old mid e) (sym same)
-      (inl late_before)
+      (let numbered = stays.generation in inl (omega (arith, is, numbered, late)))
 
 pub late_runs : (before between : WorkerStore) (old mid : Medium)
     → StoreGoes before between old mid → (fault : StoreFault) → fault ≡ store.TooBig

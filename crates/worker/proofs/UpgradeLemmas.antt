@@ -1,9 +1,8 @@
 -- An upgrade, as an event of a life, and what its disk holds.
-use Rattle.std.proofs.Common.{◌≡◌, ◌⊎◌, ℕ, ◌+◌, ◌*◌, ◌<◌, ◌≤◌, List, [], ◌∷◌, ◌++◌, length, true}
+use Rattle.std.proofs.Common.{◌≡◌, ◌⊎◌, ℕ, ◌+◌, ◌≤◌, List, [], ◌∷◌, ◌++◌, length, true}
 use Rattle.std.proofs.Common.{Bool, false, sym, ap, ◌∙◌, refl, subst, inl, inr, ⊎_elim, arith}
 use Rattle.std.specs.Prelude.{Ok, Err}
 use Rattle.wasm_syntax.specs.declared.module.Module.{Module}
-use Rattle.wasi_abi.specs.declared.numbers.TheConstants.{NUMBERS_END}
 use Rattle.wasi_abi.specs.declared.version.Version.{Version}
 use Rattle.wasi_abi.specs.declared.version.Version.TheVariants.{One, Two}
 use Rattle.wasi_abi.specs.rules.Configs.{Settings}
@@ -15,7 +14,6 @@ use Rattle.process.specs.rules.Values.{ProcessValue, ShowsProcess, IsProcess}
 use Rattle.process.proofs.Lines.{lines_shown}
 use Rattle.state_image.specs.rules.ProcessImage.{Saved, process_image}
 use Rattle.state_image.specs.rules.Saving.{saved_of}
-use Rattle.sector_disk.specs.declared.sector.TheConstants.{SECTOR_SIZE}
 use Rattle.sector_disk.specs.rules.Medium.{Medium, CallsUpTo}
 use Rattle.sector_disk.proofs.CallLemmas.{no_calls}
 use Rattle.sector_disk.proofs.Moments.{leaves_only, started}
@@ -48,14 +46,13 @@ use Rattle.worker.specs.declared.running_worker.RunningWorker.{RunningWorker}
 use Rattle.worker.specs.rules.DurableValues.{DurableValue, durable_of}
 use Rattle.worker.specs.rules.DurableCalls.{ActCarries, ComesOf}
 use Rattle.worker.specs.rules.OpenWorkers.{IsOpenOn}
-use Rattle.worker.specs.Savings.{LeavesFrontOrNext, SaveCalls, SaveFails, HasSaveCause}
+use Rattle.worker.specs.Savings.{LeavesFrontOrNext, SaveCalls, HasSaveCause}
 use Rattle.worker.specs.rules.CallCounts.{most_saving}
-use Rattle.worker.specs.rules.Checkpoints.{IsCheckpointFault}
-use Rattle.worker.specs.rules.Upgrades.{upgraded, UpgradeCalls, IsUpgradeFault, LeavesProcess}
-use Rattle.worker.specs.rules.Upgrades.{UpgradeFails, HasUpgradeCause, IsTooSmall, IsNotCaughtUp}
+use Rattle.worker.specs.rules.Upgrades.{upgraded, UpgradeCalls, LeavesProcess, HasUpgradeCause}
+use Rattle.worker.specs.rules.Upgrades.{IsTooSmall, IsNotCaughtUp}
 use Rattle.worker.specs.Upgrading.{AfterFault}
-use Rattle.worker.proofs.SavingActLemmas.{SavesShown, save_fault, saving_done}
-use Rattle.worker.proofs.SavingActLemmas.{saving_fault, save_pleaded}
+use Rattle.worker.proofs.CauseLemmas.{fits_upgraded}
+use Rattle.worker.proofs.SavingActLemmas.{SavesShown, saving_done, saving_fault, save_pleaded}
 use Rattle.worker.proofs.DurableLemmas.OnDisk.{room_now}
 use Rattle.worker.proofs.WideningLemmas.{one_or_two, upgraded_version, upgraded_two}
 use Rattle.worker.proofs.WideningLemmas.{is_upgraded, module_upgraded, shows_upgraded}
@@ -221,50 +218,15 @@ module _ {D : Type 0} (medium : D → Medium) (old new : DurableValue) (disk dis
       old.process) works says stores
 
   -- by a fault of its store
-  module _ (why : StoreFault)
-      (fails : SaveFails old.store new.process (medium disk) (medium disk') why)
-      (after_fault : AfterFault why old.store old.process new.process) where
-    shown_then : SavesShown Upgrade old new (medium disk)
-    shown_then =
-        upgrade_saves_shown medium old new disk is takes abreast
-        (after_fault_of why old.store old.process new.process after_fault)
-
-    pub upgrade_fault_carries :
-        ActCarries Upgrade [] old (Err (fault_of_store why)) new (medium disk) (medium disk')
-    upgrade_fault_carries =
-        saving_fault medium Upgrade old new disk disk' fit shown_then leaves few why fails
-
-    -- why it came, and what it leaves
-    pub upgrade_fault_fails :
-        UpgradeFails old new.process (medium disk) (medium disk') (fault_of_store why)
-    upgrade_fault_fails m config guest promise stage p opened =
-        let shown = shown_then m config guest promise stage p opened in
-        by why after_fault
-        (save_fault medium old new disk fit m config guest promise stage p opened shown.0 shown.1
-        shown.2 disk' why fails)
-        (λ long. save_fault medium old new disk fit m config guest promise stage p opened shown.0
-        shown.1 shown.2 disk' store.TooBig
-        (λ settings config point records pending last now stores. inr long))
-      where
-        by : (fault : StoreFault) → AfterFault fault old.store old.process new.process
-            → IsCheckpointFault old (medium disk) (medium disk') (fault_of_store fault)
-            → (SECTOR_SIZE * old.store.geometry.area_sectors
-            < length (process_image (saved_of new.process))
-            → NUMBERS_END ≤ old.store.journal.generation + 1)
-            → IsUpgradeFault old (medium disk) (medium disk') (fault_of_store fault)
-            × LeavesProcess (fault_of_store fault) old.process new.process
-        by store.TooBig (inl same) late no_room = (late, same)
-        by store.TooBig (inr wide) late no_room =
-            let counted = wide.1 in
-            let never = no_room wide.2 in
-            absurd (omega (arith, counted, never))
-        by store.Full same h no_room = absurd h
-        by store.TooLong same h no_room = absurd h
-        by store.Damaged same h no_room = absurd h
-        by (store.Layout why) same h no_room = absurd h
-        by (store.Disk why) after_fault h no_room = (h, after_fault)
-        by store.Memory same h no_room = absurd h
-        by store.Failed after_fault h no_room = absurd h
+  pub upgrade_fault_carries : (why : StoreFault)
+      → HasSaveCause old.store (upgraded old.process) (medium disk) (medium disk') why
+      → AfterFault why old.store old.process new.process
+      → ActCarries Upgrade [] old (Err (fault_of_store why)) new (medium disk) (medium disk')
+  upgrade_fault_carries why cause after_fault =
+      saving_fault medium Upgrade old new disk disk' fit
+      (upgrade_saves_shown medium old new disk is takes abreast
+      (after_fault_of why old.store old.process new.process after_fault)) leaves few
+      (upgraded old.process) (fits_upgraded medium fit old disk is) why cause
 
 -- ---- it is refused
 
@@ -335,15 +297,6 @@ module _ {D : Type 0} (medium : D → Medium) (old new : DurableValue) (disk : D
         tt,
       ))
 
--- ---- a worker that has failed
-
--- it does nothing
-module _ (old : DurableValue) (failed : old.has_failed ≡ true) (disk disk' : Medium) where
-  pub failed_upgrade_fails : (why : WorkFault) (after : ProcessValue)
-      → UpgradeFails old after disk disk' why
-  failed_upgrade_fails why after m config guest promise stage p opened =
-      let works = opened.works in absurd (cc)
-
 -- ---- calls
 
 pub no_upgrade_calls : (w : DurableValue) (why : WorkFault) (disk : Medium)
@@ -377,11 +330,14 @@ upgrade_calls_ok w done old new made =
 pub upgrade_cause : (running : RunningWorker) (replayed : ℕ) (old new : Medium)
     (fault : StoreFault) → HasSaveCause running.store (upgraded running.process) old new fault
     → HasUpgradeCause (durable_of running replayed) old new (fault_of_store fault)
-upgrade_cause running replayed old new store.TooBig cause = cause
-upgrade_cause running replayed old new store.Full cause = cause
-upgrade_cause running replayed old new store.TooLong cause = absurd cause
-upgrade_cause running replayed old new store.Damaged cause = absurd cause
-upgrade_cause running replayed old new (store.Layout why) cause = absurd cause
-upgrade_cause running replayed old new (store.Disk why) cause = cause
 upgrade_cause running replayed old new store.Memory cause = absurd cause
-upgrade_cause running replayed old new store.Failed cause = cause
+upgrade_cause running replayed old new other cause = cause
+
+-- of a worker that hadn't failed
+pub upgrade_leaves : (running : RunningWorker) (replayed : ℕ) (v after : ProcessValue)
+    (old new : Medium) (fault : StoreFault) → running.store.journal.has_failed ≡ false
+    → HasSaveCause running.store v old new fault
+    → AfterFault fault running.store running.process after
+    → LeavesProcess (durable_of running replayed) (fault_of_store fault) after
+upgrade_leaves running replayed v after old new store.Failed works failed leaves = absurd (cc)
+upgrade_leaves running replayed v after old new other works cause leaves = leaves

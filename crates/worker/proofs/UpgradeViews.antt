@@ -1,5 +1,5 @@
 -- An upgrade, as its contract sees it.
-use Rattle.std.proofs.Common.{◌≡◌, ◌⊎◌, ℕ, ◌+◌, false, [], refl, sym, ap, ◌∙◌, subst}
+use Rattle.std.proofs.Common.{◌≡◌, ℕ, ◌+◌, false, [], refl, sym, ap, ◌∙◌, subst}
 use Rattle.std.specs.Prelude.{Ok, Err}
 use Rattle.process_rules.specs.Runs.{widened}
 use Rattle.process.specs.rules.Values.{ProcessValue, ShowsProcess, IsProcess}
@@ -17,14 +17,14 @@ use Rattle.worker.specs.rules.WorkFaults.{fault_of_store}
 use Rattle.worker.specs.rules.CallCounts.{most_saving}
 use Rattle.worker.specs.rules.DurableCalls.{ActCarries}
 use Rattle.worker.specs.rules.DurableValues.{DurableValue, durable_of}
-use Rattle.worker.specs.Savings.{LeavesFrontOrNext, SaveCalls, SaveFails, HasSaveCause}
-use Rattle.worker.specs.rules.Upgrades.{upgraded, IsUpgradedIn, UpgradeCalls, UpgradeFails}
-use Rattle.worker.specs.rules.Upgrades.{HasUpgradeCause, Migrates, EndsInTwo}
+use Rattle.worker.specs.Savings.{LeavesFrontOrNext, SaveCalls, HasSaveCause}
+use Rattle.worker.specs.rules.Upgrades.{upgraded, IsUpgradedIn, UpgradeCalls}
+use Rattle.worker.specs.rules.Upgrades.{HasUpgradeCause, LeavesProcess, Migrates, EndsInTwo}
 use Rattle.worker.specs.Upgrading.{MayUpgrade, IsUpgradeRefused, AfterFault, BarsAndCommits}
 use Rattle.worker.proofs.MigrationLemmas.{migrates, ends_in_two}
-use Rattle.worker.proofs.UpgradeLemmas.{upgrade_carries, upgrade_fault_carries, upgrade_fault_fails}
-use Rattle.worker.proofs.UpgradeLemmas.{after_fault_of, upgrade_cause, too_small_carries}
-use Rattle.worker.proofs.UpgradeLemmas.{not_caught_up_carries, upgrade_calls_err, upgrade_calls_ok}
+use Rattle.worker.proofs.UpgradeLemmas.{upgrade_carries, upgrade_fault_carries, upgrade_cause}
+use Rattle.worker.proofs.UpgradeLemmas.{upgrade_leaves, too_small_carries, not_caught_up_carries}
+use Rattle.worker.proofs.UpgradeLemmas.{upgrade_calls_err, upgrade_calls_ok}
 use Rattle.worker.proofs.WideningLemmas.{upgraded_version, shows_upgraded}
 
 module _ {D : Type 0} (medium : D → Medium) (running after : RunningWorker) (replayed : ℕ)
@@ -50,19 +50,6 @@ module _ {D : Type 0} (medium : D → Medium) (running after : RunningWorker) (r
             not_caught_up_carries medium (durable_of running replayed)
             (durable_of after replayed) disk fit is same
             (record { takes = behind.0; version = behind.1; behind = behind.2 })
-
-    pub refused_fails : after.process ≡ running.process
-        → UpgradeFails old after.process (medium disk) (medium disk) (Upgrade fault)
-    refused_fails same =
-        subst (λ (w : DurableValue). UpgradeFails w after.process (medium disk) (medium disk)
-        (Upgrade fault)) is_old (by fault refused)
-      where
-        by : (fault : UpgradeFault) → IsUpgradeRefused running fault
-            → UpgradeFails (durable_of running replayed) after.process (medium disk)
-            (medium disk) (Upgrade fault)
-        by upgrade.JournalTooSmall small m config guest promise stage p opened = (small, same)
-        by upgrade.NotCaughtUp behind m config guest promise stage p opened =
-            (record { takes = behind.0; version = behind.1; behind = behind.2 }, same)
 
   -- ---- it is saved, or that fails
 
@@ -98,27 +85,18 @@ module _ {D : Type 0} (medium : D → Medium) (running after : RunningWorker) (r
           (durable_of after replayed) disk disk' fit is may.takes may.abreast leaves few same
           works says stores)
 
-      module _ (fault : StoreFault) (why : WorkFault) (same : why ≡ fault_of_store fault)
-          (fails : SaveFails running.store after.process (medium disk) (medium disk') fault)
-          (after_fault : AfterFault fault running.store running.process after.process) where
-        pub fault_carries : ActCarries upgrading [] old (Err why) (durable_of after replayed)
-            (medium disk) (medium disk')
-        fault_carries = subst (λ (e : WorkFault). ActCarries upgrading [] old (Err e)
-            (durable_of after replayed) (medium disk) (medium disk')) (sym same)
-            (subst (λ (w : DurableValue). ActCarries upgrading [] w (Err (fault_of_store fault))
-            (durable_of after replayed) (medium disk) (medium disk')) is_old
-            (upgrade_fault_carries medium (durable_of running replayed)
-            (durable_of after replayed) disk disk' fit is may.takes may.abreast leaves few
-            fault fails after_fault))
-
-        pub fault_fails : UpgradeFails old after.process (medium disk) (medium disk') why
-        fault_fails = subst (λ (e : WorkFault). UpgradeFails old after.process (medium disk)
-            (medium disk') e) (sym same)
-            (subst (λ (w : DurableValue). UpgradeFails w after.process (medium disk)
-            (medium disk') (fault_of_store fault)) is_old
-            (upgrade_fault_fails medium (durable_of running replayed)
-            (durable_of after replayed) disk disk' fit is may.takes may.abreast leaves few
-            fault fails after_fault))
+      pub fault_carries : (fault : StoreFault) (why : WorkFault) → why ≡ fault_of_store fault
+          → HasSaveCause running.store (upgraded running.process) (medium disk) (medium disk') fault
+          → AfterFault fault running.store running.process after.process
+          → ActCarries upgrading [] old (Err why) (durable_of after replayed) (medium disk)
+          (medium disk')
+      fault_carries fault why same cause after_fault =
+          subst (λ (e : WorkFault). ActCarries upgrading [] old (Err e) (durable_of after replayed)
+          (medium disk) (medium disk')) (sym same)
+          (subst (λ (w : DurableValue). ActCarries upgrading [] w (Err (fault_of_store fault))
+          (durable_of after replayed) (medium disk) (medium disk')) is_old
+          (upgrade_fault_carries medium (durable_of running replayed) (durable_of after replayed)
+          disk disk' fit is may.takes may.abreast leaves few fault cause after_fault))
 
 -- ---- the worker
 
@@ -143,13 +121,6 @@ module _ (running after : RunningWorker) (replayed : ℕ) (old : DurableValue)
         unfailed = works;
         generation = numbered;
       })
-
-  pub faults_so : (fault : StoreFault)
-      → AfterFault fault running.store running.process after.process
-      → (after.process ≡ old.process) ⊎ (after.process ≡ upgraded old.process)
-  faults_so fault after_fault = subst (λ (w : DurableValue).
-      (after.process ≡ w.process) ⊎ (after.process ≡ upgraded w.process)) is_old
-      (after_fault_of fault running.store running.process after.process after_fault)
 
 -- ---- calls, and whatever is on the disk
 
@@ -176,3 +147,13 @@ module _ (running : RunningWorker) (replayed : ℕ) (old : DurableValue)
       subst (λ (e : WorkFault). HasUpgradeCause old disk disk' e) (sym same)
       (subst (λ (w : DurableValue). HasUpgradeCause w disk disk' (fault_of_store fault)) is_old
       (upgrade_cause running replayed disk disk' fault cause))
+
+  pub leaves_so : (after : ProcessValue) (fault : StoreFault) (why : WorkFault)
+      → why ≡ fault_of_store fault → running.store.journal.has_failed ≡ false
+      → HasSaveCause running.store (upgraded running.process) disk disk' fault
+      → AfterFault fault running.store running.process after → LeavesProcess old why after
+  leaves_so after fault why same works cause leaves =
+      subst (λ (e : WorkFault). LeavesProcess old e after) (sym same)
+      (subst (λ (w : DurableValue). LeavesProcess w (fault_of_store fault) after) is_old
+      (upgrade_leaves running replayed (upgraded running.process) after disk disk' fault works cause
+      leaves))

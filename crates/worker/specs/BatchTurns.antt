@@ -37,7 +37,7 @@ use Rattle.worker.specs.declared.running_worker.RunningWorker.{RunningWorker}
 use Rattle.worker.specs.rules.Batches.{keeping, taking, StopsBatch, IsBatchCause, BatchFails}
 use Rattle.worker.specs.rules.CallCounts.{most_calls, CallsForEvents}
 use Rattle.worker.specs.rules.WorkFaults.{fault_of_store}
-use Rattle.worker.specs.rules.DurableCalls.{IsReplyOf, HasCauseOf}
+use Rattle.worker.specs.rules.DurableCalls.{IsReplyOf}
 use Rattle.worker.specs.rules.OpenWorkers.{IsOnDisk, IsAbreast}
 use Rattle.worker.specs.StoreTurns.{owed, HasTurnCause, PaysCalls, StoreGoes, StoreStops}
 use Rattle.worker.specs.rules.Scenes.{SceneOf, scene, ports_of}
@@ -152,8 +152,6 @@ pub record IsStopped {D : Type 0} (medium : D → Medium) (c : Course) (promise 
     (here : Running) : Type 0 where
   pub telling : IsToldTurn c promise stage p here.lines_held here.worker here.disk
   pub is_reply : IsReplyOf result reply
-  pub cause : (v : ProcessValue) → ShowsProcess v c.guest p → (old new : D)
-      → HasCauseOf result c.guest c.config v (medium old) (medium new)
   pub ends : (promise' : Promise) (stage' : Stage) (w' : RunningWorker) (disk' : D)
       → IsToldTurn c promise' stage' p [] w' (medium disk') → stage'.phase ≡ stage.phase
       → waiting_in w'.process ≡ [] → w'.is_abreast ≡ here.worker.is_abreast

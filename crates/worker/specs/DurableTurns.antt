@@ -44,7 +44,7 @@ use Rattle.record_replay.specs.rules.Refusals.{slice_fault}
 use Rattle.worker.specs.declared.running_worker.RunningWorker.{RunningWorker}
 use Rattle.worker.specs.rules.DurableValues.{durable_of}
 use Rattle.worker.specs.rules.OpenWorkers.{Identity, identity, IsOnDisk, IsAbreast, IsOpenOn}
-use Rattle.worker.specs.rules.DurableCalls.{ComesOf, HasCauseOf, HasCauseAt, IsReplyOf}
+use Rattle.worker.specs.rules.DurableCalls.{ComesOf, IsReplyOf}
 use Rattle.worker.specs.rules.Scenes.{SceneOf, scene}
 
 -- ---- within a slice
@@ -167,7 +167,6 @@ pub record TurnEnds (c : Course) (promise : Promise) (stage : Stage) (reply : Re
 abbrev pub TurnFails : Course → Promise → Stage → WorkFault → List Exchange → RunningWorker → Medium
     → Medium → Type 0
 TurnFails c promise stage why exchanges w disk disk' = (cause : Cause) × ComesOf why cause
-    × HasCauseAt why c.guest c.config w.process disk disk'
     × TurnEnds c promise stage (Fails cause) exchanges w disk disk'
 
 -- ---- what is owed
@@ -360,8 +359,6 @@ WorksOn medium gives takes fuel before result after = (exchanges : List Exchange
     → c.first ≡ before.worker.process.steps
     → IsBetweenTurns c promise stage p [] before.worker (medium before.disk)
     → IsForetold stage exchanges → (reply : Reply) × IsReplyOf result reply
-    × HasCauseOf result c.guest c.config after.worker.process (medium before.disk)
-    (medium after.disk)
     × TurnEnds c promise stage reply exchanges after.worker (medium before.disk)
     (medium after.disk))
     × CallsForEvents (length exchanges + 1) (medium before.disk) (medium after.disk)

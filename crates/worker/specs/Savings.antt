@@ -42,18 +42,9 @@ SaveCalls store process result old new = (stores : List DiskCall)
     × PerformsCalls (with_head (store.journal.generation + 1) stores
     ++ barrier_calls store.geometry store.journal) result old new
 
--- When each error comes. The generation or the image is too big, or the disk failed, or it surely
--- takes too few writes between two syncs.
-abbrev pub IsSaveFault : WorkerStore → ProcessValue → Medium → Medium → StoreFault → Type 0
-IsSaveFault store process old new TooBig = (NUMBERS_END ≤ store.journal.generation + 1)
-    ⊎ (SECTOR_SIZE * store.geometry.area_sectors < length (process_image (saved_of process)))
-IsSaveFault store process old new (Disk fault) =
-    (old.room < sectors_for (length store.journal.kept))
-    ⊎ (old.room < store.geometry.area_sectors) ⊎ (old.room ≡ 0) ⊎ (old.faults < new.faults)
-IsSaveFault store process old new other = ⊥
-
--- When each error comes of any store. Then the journal may have too few sectors for the pending
--- records too, the disk may have taken writes since its last good sync, and a call have failed.
+-- When each error comes, of any store and whatever is on the disk. The generation or the image is
+-- too big, or the journal has too few sectors for the pending records. The disk failed, or before
+-- its next good sync it surely takes too few writes. A call has failed before.
 abbrev pub HasSaveCause : WorkerStore → ProcessValue → Medium → Medium → StoreFault → Type 0
 HasSaveCause store process old new TooBig = (NUMBERS_END ≤ store.journal.generation + 1)
     ⊎ (SECTOR_SIZE * store.geometry.area_sectors < length (process_image (saved_of process)))
@@ -64,10 +55,3 @@ HasSaveCause store process old new (Disk fault) =
     ⊎ (spare old < store.geometry.area_sectors) ⊎ (old.room ≡ 0) ⊎ (old.faults < new.faults)
 HasSaveCause store process old new Failed = store.journal.has_failed ≡ true
 HasSaveCause store process old new other = ⊥
-
--- so it is of every store of a worker on this disk
-abbrev pub SaveFails : WorkerStore → ProcessValue → Medium → Medium → StoreFault → Type 0
-SaveFails store process old new fault =
-    (m : Module) (config : Settings) (point : Savepoint m config) (records pending : List Record)
-    (last now : ProcessState) → IsStoreOf point store records pending last now old
-    → IsSaveFault store process old new fault

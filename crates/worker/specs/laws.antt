@@ -1,5 +1,6 @@
 pub mod Adding
 pub mod Bounds
+pub mod Causes
 pub mod Copies
 pub mod Followings
 pub mod OneLife

@@ -7,7 +7,7 @@ ghost use Rattle.disk_layout.specs.rules.Places.{total_sectors};
 ghost use Rattle.journal.specs.rules.State.{state};
 ghost use Rattle.worker_store.specs.rules.Calls.{StoresNext};
 ghost use Rattle.worker.specs.rules.CallCounts.{most_saving};
-ghost use Rattle.worker.specs.Savings.{LeavesFrontOrNext, SaveCalls, SaveFails, HasSaveCause};
+ghost use Rattle.worker.specs.Savings.{HasSaveCause, LeavesFrontOrNext, SaveCalls};
 ghost use Rattle.worker.specs.StoreTurns.{StoreSaves};
 
 use process::Process;
@@ -42,8 +42,6 @@ pub(crate) fn save<D: Disk>(
         false) }
     ensures calls { SaveCalls store.old process.now result (D.medium disk.old)
         (D.medium disk.new) }
-    ensures cause { IfErr result (SaveFails store.old process.now (D.medium disk.old)
-        (D.medium disk.new)) }
 
     // What it does to any store, whatever is on the disk.
     ensures runs { StoreSaves result store.old store.new (D.medium disk.old) (D.medium disk.new) }

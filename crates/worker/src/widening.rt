@@ -10,7 +10,7 @@ ghost use Rattle.wasi_abi.specs.declared.numbers.TheConstants.{NUMBERS_END};
 ghost use Rattle.disk_layout.specs.rules.Places.{total_sectors};
 ghost use Rattle.worker_store.specs.rules.Calls.{StoresNext};
 ghost use Rattle.worker.specs.rules.CallCounts.{most_saving};
-ghost use Rattle.worker.specs.Savings.{HasSaveCause, LeavesFrontOrNext, SaveCalls, SaveFails};
+ghost use Rattle.worker.specs.Savings.{HasSaveCause, LeavesFrontOrNext, SaveCalls};
 ghost use Rattle.worker.specs.rules.Upgrades.{upgraded};
 ghost use Rattle.worker.specs.StoreTurns.{StoreSaves};
 ghost use Rattle.worker.specs.Upgrading.{BarsAndCommits, AfterFault};
@@ -71,8 +71,6 @@ pub(crate) fn save_in_two<D: Disk>(
         (store.new.journal.generation ≡ store.old.journal.generation) }
     ensures calls { SaveCalls store.old (upgraded process.old) result (D.medium disk.old)
         (D.medium disk.new) }
-    ensures cause { IfErr result (SaveFails store.old process.new (D.medium disk.old)
-        (D.medium disk.new)) }
 
     // What it does to any store, whatever is on the disk.
     ensures runs { StoreSaves result store.old store.new (D.medium disk.old) (D.medium disk.new) }

@@ -514,7 +514,6 @@ module _ {D : Type 0} (medium : D → Medium) (c : Course) (promise : Promise) (
       let few : come.steps ≤ fuel_left = omega (arith, less) in (
         OfMemory,
         refl,
-        record { process = come.process; shows = come.shows; needs = inl k.4 },
         process_fails medium c promise stage come.process lines_held (with_process w v) disk
             (quiet_on come few) OfMemory tt tt,
       )
@@ -525,7 +524,6 @@ module _ {D : Type 0} (medium : D → Medium) (c : Course) (promise : Promise) (
       let few : come.steps ≤ fuel_left = omega (arith, less) in (
         OfBounds,
         refl,
-        tt,
         process_fails medium c promise stage come.process lines_held (with_process w v) disk
             (quiet_on come few) OfBounds tt (inl (None, k.4)),
       )

@@ -27,7 +27,6 @@ use Rattle.worker.specs.DurableTurns.{running_on, asking_scene}
 use Rattle.worker.proofs.AbreastLemmas.{abreast_now, asking_is_still, none_beyond}
 use Rattle.worker.proofs.DurableLemmas.Advancing.{says_abreast}
 use Rattle.worker.proofs.DurableLemmas.Bounds.{bounds_join, question_counts}
-use Rattle.worker.proofs.DurableLemmas.Ends.{cause_before}
 use Rattle.worker.proofs.DurableLemmas.Hearing.{waits_once, source_fails, misfits}
 use Rattle.worker.proofs.DurableLemmas.Hearing.{lacks_record, not_taken, taken}
 
@@ -80,15 +79,7 @@ module _ {D : Type 0} (medium : D → Medium) (c : Course) (promise : Promise) (
   pub fails_behind : (why : WorkFault)
       → TurnFails c promise stage why exchanges w (medium mid) (medium disk')
       → TurnFails c promise stage why exchanges w (medium disk) (medium disk')
-  fails_behind why turn =
-      let leaves = goes.leaves in
-      let passes = leaves.passes in (
-        turn.0,
-        turn.1,
-        cause_before why c.guest c.config w.process (medium disk) (medium mid) (medium disk')
-            passes.room passes.faults turn.2,
-        ends_behind (Fails turn.0) turn.3,
-      )
+  fails_behind why turn = (turn.0, turn.1, ends_behind (Fails turn.0) turn.2)
 
 -- ---- no line is beyond a process that asks
 
@@ -154,7 +145,6 @@ module _ {D S : Type 0} (medium : D → Medium) (gives : Giving S) (old mid new 
         made.3 (Work slice.Source) (
           OfSource,
           inl refl,
-          tt,
           subst (λ w. TurnEnds c promise stage (Fails OfSource) (asks_once question (Err e)) w
               (medium disk') (medium disk')) (sym still)
               (source_fails medium c promise stage p question [] mid disk' made.0 says e foretold),

@@ -135,7 +135,6 @@ module _ {D : Type 0} (medium : D → Medium) (c : Course) (promise : Promise) (
       stops_once (Ok None) false (Ok now.Waiting) Waits tt foretold (record {
         telling = left_behind (Ok None) false tt refl;
         is_reply = refl;
-        cause = λ v shows old new. tt;
         ends = λ promise' stage' w' disk' telling phase none_waits same_says.
             waits_there medium c promise' stage' p w' disk' telling phase none_waits
             asking.unended
@@ -160,7 +159,6 @@ module _ {D : Type 0} (medium : D → Medium) (c : Course) (promise : Promise) (
       stops_once (Err e) false (Err (Work slice.Source)) (Fails OfSource) tt foretold (record {
         telling = left_behind (Err e) false tt refl;
         is_reply = (OfSource, inl refl, refl);
-        cause = λ v shows old new. tt;
         ends = λ promise' stage' w' disk' telling phase none_waits same_says.
             fails_later (Broken OfSource) OfSource refl (λ promise'. tt) promise' stage' w' disk'
             telling phase;
@@ -178,7 +176,6 @@ module _ {D : Type 0} (medium : D → Medium) (c : Course) (promise : Promise) (
       (λ fits. h.misfits (subst (λ n. Fits n question a) limit fits)) foretold (record {
         telling = left_behind (Ok (Some a)) false tt refl;
         is_reply = (OfAnswer, inr refl, refl);
-        cause = λ v shows old new. tt;
         ends = λ promise' stage' w' disk' telling phase none_waits same_says.
             fails_later (Broken OfAnswer) OfAnswer refl (λ promise'. tt) promise' stage' w' disk'
             telling phase;

@@ -6,7 +6,7 @@ use Rattle.std.proofs.lemmas.List.{append-nil, map-append}
 use Rattle.wasm_syntax.specs.declared.module.Module.{Module}
 use Rattle.wasi_abi.specs.rules.Configs.{Settings}
 use Rattle.process_rules.specs.Processes.{ProcessState, Guest}
-use Rattle.process.specs.rules.Values.{waiting_in}
+use Rattle.process.specs.rules.Values.{ShowsProcess, waiting_in}
 use Rattle.sector_disk.specs.rules.Medium.{Medium}
 use Rattle.record_replay.specs.declared.line_list.NumberedLine.{NumberedLine}
 use Rattle.record_replay.specs.rules.Calls.{Giving, Taking, Begun, Exchange, Exchanges, Released}
@@ -27,8 +27,8 @@ use Rattle.record_replay.specs.Turns.{working}
 use Rattle.worker.specs.declared.fault.WorkFault.{WorkFault}
 use Rattle.worker.specs.declared.fault.WorkFault.TheVariants.{Work}
 use Rattle.worker.specs.declared.running_worker.RunningWorker.{RunningWorker}
-use Rattle.worker.specs.rules.Batches.{taking, BatchFails, HasUntakenAnswer}
-use Rattle.worker.specs.rules.DurableCalls.{CallKeeps, IsReplyOf}
+use Rattle.worker.specs.rules.Batches.{taking, BatchFails, HasUntakenAnswer, IsBatchCause}
+use Rattle.worker.specs.rules.DurableCalls.{CallKeeps, IsReplyOf, WantedMemory}
 use Rattle.worker.specs.rules.Scenes.{scene}
 use Rattle.worker.specs.rules.DurableValues.{durable_of}
 use Rattle.worker.specs.rules.OpenWorkers.{IsOpenOn}
@@ -40,7 +40,7 @@ use Rattle.worker.specs.StoreTurns.{HasTurnCause, StoreGoes, StoreStops, StoreRu
 use Rattle.worker.proofs.StoreTurnLemmas.{goes_join, goes_stop, stops_join}
 use Rattle.worker.proofs.DurableLemmas.Ends.{not_open}
 use Rattle.worker.proofs.DurableLemmas.Holding.{none_to_tell}
-use Rattle.worker.proofs.DurableLemmas.Working.{call_carries}
+use Rattle.worker.proofs.DurableLemmas.Working.{call_carries, wanted_memory}
 use Rattle.worker.proofs.DurableLemmas.Batching.{BatchSoFar, BatchFailed, BatchOver, batch_over}
 use Rattle.worker.proofs.DurableLemmas.Batching.{stopped_told, stopped_untold}
 use Rattle.worker.proofs.DurableLemmas.Queueing.{slices_told, told_whole}
@@ -72,7 +72,7 @@ module _ {D S O : Type 0} (medium : D → Medium) (gives : Giving S) (takes : Ta
     failed.1,
     λ c promise stage p begins foretold.
         let k = failed.2 c promise stage p begins foretold in
-        (Fails k.0, (k.0, k.1, refl), k.2, k.3),
+        (Fails k.0, (k.0, k.1, refl), k.2),
     failed.3,
   )
 
@@ -329,12 +329,14 @@ module _ {D S O : Type 0} (medium : D → Medium) (gives : Giving S) (takes : Ta
   carries_by : (store : WorkerStore) (result : Result Now WorkFault)
       → ((reply : Reply) → IsReplyOf result reply → phase_ended reply ≡ Open
       → store ≡ new.store)
+      → ((guest : Guest) (p : ProcessState) → ShowsProcess old.process guest p
+      → WantedMemory result guest new.process)
       → BatchOver medium gives takes old fuel most result new disk disk' source source' outlet
       outlet'
       → CallKeeps medium gives takes (Batch fuel most)
       (scene (durable_of old replayed) disk source outlet) result
       (scene (durable_of (record new { store = store }) replayed) disk' source' outlet')
-  carries_by store result same over = (
+  carries_by store result same wanted over = (
     over.0,
     over.1,
     λ m config guest promise stage p acts open_on next_act foretold.
@@ -350,9 +352,9 @@ module _ {D S O : Type 0} (medium : D → Medium) (gives : Giving S) (takes : Ta
         next_act) foretold in (
           ended.0,
           ended.1,
-          ended.2,
+          wanted guest p open_on.shows,
           call_carries medium c promise stage ended.0 over.0 new store replayed disk disk'
-              ended.3 over.3 tt (same ended.0 ended.1),
+              ended.2 over.3 tt (same ended.0 ended.1),
         ),
     tt,
   )
@@ -363,14 +365,23 @@ module _ {D S O : Type 0} (medium : D → Medium) (gives : Giving S) (takes : Ta
       → CallKeeps medium gives takes (Batch fuel most)
       (scene (durable_of old replayed) disk source outlet) (Ok why)
       (scene (durable_of new replayed) disk' source' outlet')
-  batch_carries why over = carries_by new.store (Ok why) (λ reply is ended. refl) over
+  batch_carries why over =
+      carries_by new.store (Ok why) (λ reply is ended. refl) (λ guest p shows. tt) over
 
   pub batch_fails : (store : WorkerStore) (why : WorkFault)
+      → BatchFails gives takes old.process fuel why new.process (ports source outlet)
+      (ports source' outlet')
       → BatchOver medium gives takes old fuel most (Err why) new disk disk' source source' outlet
       outlet'
       → CallKeeps medium gives takes (Batch fuel most)
       (scene (durable_of old replayed) disk source outlet) (Err why)
       (scene (durable_of (record new { store = store }) replayed) disk' source' outlet')
-  batch_fails store why over =
+  batch_fails store why failed over =
       carries_by store (Err why)
-      (λ reply is ended. absurd (not_open is.0 (ap phase_ended (sym is.2) ∙ ended))) over
+      (λ reply is ended. absurd (not_open is.0 (ap phase_ended (sym is.2) ∙ ended)))
+      (λ guest p shows.
+      let k = failed guest p shows in
+      let did = k.1 in
+      wanted_memory guest p fuel did.exchanges did.steps did.process new.process why did.shows
+      (λ is. subst (λ e. IsBatchCause guest p fuel did.exchanges did.steps did.process e) is k.3))
+      over

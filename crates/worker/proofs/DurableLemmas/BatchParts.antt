@@ -218,10 +218,9 @@ fails_anyhow : (c : Course) (promise : Promise) (stage : Stage) (why : WorkFault
     → TurnFails c promise stage why exchanges w disk disk'
     → TurnFails c promise stage why exchanges (with_store w after) disk disk'
 fails_anyhow c promise stage why exchanges w after disk disk' turn =
-    let ends = turn.3 in (
+    let ends = turn.2 in (
       turn.0,
       turn.1,
-      turn.2,
       record {
         between = ends.between;
         inside = ends.inside;

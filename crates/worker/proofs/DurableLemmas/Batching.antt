@@ -29,7 +29,7 @@ use Rattle.worker.specs.declared.fault.WorkFault.{WorkFault}
 use Rattle.worker.specs.declared.fault.WorkFault.TheVariants.{Work}
 use Rattle.worker.specs.declared.running_worker.RunningWorker.{RunningWorker}
 use Rattle.worker.specs.rules.CallCounts.{most_calls, most_saving, CallsForEvents}
-use Rattle.worker.specs.rules.DurableCalls.{HasCauseOf, IsReplyOf}
+use Rattle.worker.specs.rules.DurableCalls.{IsReplyOf}
 use Rattle.worker.specs.StoreTurns.{owed, PaysCalls}
 use Rattle.worker.specs.DurableTurns.{Course, TurnEnds, TurnFails, told_lines_of, to_tell}
 use Rattle.worker.specs.DurableTurns.{HoldsNoLine, running_on, asking_scene, telling_scene}
@@ -39,7 +39,7 @@ use Rattle.worker.proofs.CallCountLemmas.{turns_then, turns_end, turn_once, turn
 use Rattle.worker.proofs.CallCountLemmas.{owed_within}
 use Rattle.worker.proofs.DurableLemmas.OnDisk.{keeps_now}
 use Rattle.worker.proofs.DurableLemmas.Bounds.{on_disk_still}
-use Rattle.worker.proofs.DurableLemmas.Ends.{cause_before, done_nothing, stays_on}
+use Rattle.worker.proofs.DurableLemmas.Ends.{done_nothing, stays_on}
 use Rattle.worker.proofs.DurableLemmas.Telling.{telling_of, running_of, in_batch}
 use Rattle.worker.proofs.DurableLemmas.Stopping.{spent_stops, over_stops, memory_stops}
 use Rattle.worker.proofs.DurableLemmas.Stopping.{numbers_stop}
@@ -185,15 +185,10 @@ module _ {D S O : Type 0} (medium : D → Medium) (gives : Giving S) (takes : Ta
           let both = parts_are_foretold c.code c.config promise a.promise' stage a.stage' so_far.0
           ys foretold in
           let last = turn c a.promise' a.stage'
-          (record { act = begins.act; first = begins.first }) a.state (both.0 a.done) in
-          let onward = a.onward in
-          let leaves = onward.leaves in
-          let passes = leaves.passes in (
+          (record { act = begins.act; first = begins.first }) a.state (both.0 a.done) in (
             last.0,
             last.1,
-            cause_before why c.guest c.config w'.process (medium disk) (medium mid) (medium disk')
-                passes.room passes.faults last.2,
-            comes_end medium c promise stage so_far.0 ys disk mid disk' a w' (Fails last.0) last.3,
+            comes_end medium c promise stage so_far.0 ys disk mid disk' a w' (Fails last.0) last.2,
           ),
       turns_end (length so_far.0) (length ys) (length (so_far.0 ++ ys))
           (most_calls (medium disk).sectors) (medium disk).counted (medium mid).counted
@@ -378,7 +373,6 @@ module _ {D S O : Type 0} (medium : D → Medium) (gives : Giving S) (takes : Ta
           record {
             telling = tells.telling;
             is_reply = stopped.is_reply;
-            cause = stopped.cause;
             ends = λ promise' stage' v disk'' telling phase none_waits same_says.
                 stopped.ends promise' stage' v disk'' telling (phase ∙ tells.phase) none_waits
                 (same_says ∙ says);
@@ -521,7 +515,7 @@ module _ {D S O : Type 0} (medium : D → Medium) (gives : Giving S) (takes : Ta
               Fails OfMemory,
               memory_stops medium c promise stage come.process lines_held (with_process w v) mid
                   (quiet_on medium c promise stage k.0 lines_held w v mid running fuel_left
-                  (fuel_left_of c known) same same_guest come (omega (arith, less))) halt.4,
+                  (fuel_left_of c known) same same_guest come (omega (arith, less))),
             )
         vain_stop c promise stage known k stop.StepsSpent advances =
             let running = k.1 in
@@ -625,7 +619,6 @@ module _ {D S O : Type 0} (medium : D → Medium) (gives : Giving S) (takes : Ta
       → BeginsBatch c promise stage p (Batch fuel most) old (medium disk)
       → IsForetold stage exchanges
       → (reply : Reply) × IsReplyOf result reply
-      × HasCauseOf result c.guest c.config w.process (medium disk) (medium disk')
       × TurnEnds c promise stage reply exchanges w (medium disk) (medium disk'))
       × CallsForEvents (length exchanges + 1) (medium disk) (medium disk')
 
@@ -645,7 +638,6 @@ module _ {D S O : Type 0} (medium : D → Medium) (gives : Giving S) (takes : Ta
         let telling = stopped.telling in (
           k.1,
           stopped.is_reply,
-          stopped.cause w.process telling.shows disk disk',
           comes_end medium c promise stage so_far.0 [] disk disk' disk' a w k.1
               (stopped.ends a.promise' a.stage' w disk' telling refl none_waits refl),
         ),

@@ -1,18 +1,12 @@
 -- How a slice of a worker on its disk ends.
-use Rattle.std.proofs.Common.{◌≡◌, ℕ, ◌+◌, ◌-◌, ◌≤◌, List, [], length, refl}
-use Rattle.std.proofs.Common.{ap, subst, arith, true, Some, inl, inr, ◌*◌}
+use Rattle.std.proofs.Common.{◌≡◌, ℕ, ◌+◌, ◌≤◌, List, [], length, refl, subst, arith, true, Some}
 use Rattle.std.proofs.lemmas.List.{take_all}
 use Rattle.wasi_calls_rules.specs.laws.Laws.{IsOfBytes}
-use Rattle.process_rules.specs.Processes.{ProcessState, Guest, host_of}
+use Rattle.process_rules.specs.Processes.{ProcessState, host_of}
 use Rattle.process_rules.specs.Runs.{Runs}
-use Rattle.wasi_abi.specs.rules.Configs.{Settings}
-use Rattle.process.specs.rules.Values.{ProcessValue, ShowsProcess, waiting_in}
-use Rattle.sector_disk.specs.declared.fault.DiskFault.{DiskFault}
+use Rattle.process.specs.rules.Values.{ShowsProcess, waiting_in}
 use Rattle.sector_disk.specs.rules.Medium.{Medium}
-use Rattle.disk_layout.specs.declared.geometry.Geometry.{Geometry}
-use Rattle.disk_layout.specs.declared.journal_sectors.TheConstants.{PAYLOAD_SIZE}
 use Rattle.disk_layout.specs.rules.Journal.{Record}
-use Rattle.journal.specs.rules.Packed.{sectors_for}
 use Rattle.journal.specs.rules.State.{JournalState}
 use Rattle.state_image.specs.rules.Saving.{saved_of}
 use Rattle.record_replay.specs.rules.Calls.{Begun, Exchange}
@@ -22,7 +16,7 @@ use Rattle.worker_store.specs.restart_theorem.Courses.{next_stage}
 use Rattle.worker_store.specs.restart_theorem.Promises.{Promise, synced_by, IsEnding}
 use Rattle.worker_store.specs.restart_theorem.Holds.{KeepsPromise, CarriesPromise, StaysWithin}
 use Rattle.worker_store.specs.restart_theorem.Exchanges.{none}
-use Rattle.worker_store.specs.rules.Savepoints.{Savepoint, places}
+use Rattle.worker_store.specs.rules.Savepoints.{Savepoint}
 use Rattle.worker_store.specs.laws.Underway.{IsInItsSlice, IsBroken, standstill}
 use Rattle.worker_store.specs.laws.CallEnds.{HasBound}
 use Rattle.worker_store.specs.laws.Pieces.{AreDone}
@@ -36,14 +30,7 @@ use Rattle.worker_store.proofs.LawLemmas.Saving.{ends_promise_no_less}
 use Rattle.worker_store.proofs.LawLemmas.TurnLemmas.{ended_still_holds, rests_go_on, turns_join}
 use Rattle.worker_store.proofs.LawLemmas.TurnLemmas.{same_no_more}
 use Rattle.worker_store.proofs.LawLemmas.Underway.{among_first}
-use Rattle.worker_store.specs.declared.fault.StoreFault.TheVariants as store
-use Rattle.worker_store.specs.declared.store.WorkerStore.{WorkerStore}
-use Rattle.record_replay.specs.declared.slices.fault.SliceFault.TheVariants as sliced
-use Rattle.worker.specs.declared.fault.WorkFault.{WorkFault}
-use Rattle.worker.specs.declared.fault.WorkFault.TheVariants.{Work, Disk, Store, Upgrade}
 use Rattle.worker.specs.declared.running_worker.RunningWorker.{RunningWorker}
-use Rattle.worker.specs.rules.DurableCalls.{HasCauseAt}
-use Rattle.worker.specs.Savings.{IsSaveFault}
 use Rattle.worker.specs.rules.DurableValues.{durable_of}
 use Rattle.worker.specs.rules.OpenWorkers.{IsOnDisk, IsAbreast, IsOpenOn}
 use Rattle.worker.specs.DurableTurns.{Course, IsRunningOn, TurnEnds, slice_end, identity_of}
@@ -61,54 +48,9 @@ done_nothing c promise stage = record {
   stage_is = refl;
 }
 
--- so many bytes take no more sectors
-sectors_within : (kept n : ℕ) → kept ≤ PAYLOAD_SIZE * n → sectors_for kept ≤ n
-sectors_within kept n fits = omega (arith, fits)
-
 -- an error closes the worker
 pub not_open : (cause : Cause) → phase_ended (Fails cause) ≡ Open → ⊥
 not_open cause e = absurd (cc)
-
--- ---- why a disk fails
-
--- a cause at a later moment is one at an earlier moment
-pub cause_before : (why : WorkFault) (guest : Guest) (config : Settings) (v : ProcessValue)
-    (old mid new : Medium) → mid.room ≡ old.room → old.faults ≤ mid.faults
-    → HasCauseAt why guest config v mid new → HasCauseAt why guest config v old new
-cause_before (Disk fault) guest config v old mid new room faults (inl (inl few)) =
-    inl (inl (omega (arith, room, few)))
-cause_before (Disk fault) guest config v old mid new room faults (inl (inr few)) =
-    inl (inr (omega (arith, room, few)))
-cause_before (Disk fault) guest config v old mid new room faults (inr failed) =
-    inr (omega (arith, faults, failed))
-cause_before (Store fault) guest config v old mid new room faults cause = tt
-cause_before (Upgrade fault) guest config v old mid new room faults cause = tt
-cause_before (Work sliced.Memory) guest config v old mid new room faults cause = cause
-cause_before (Work other) guest config v old mid new room faults cause = tt
-
--- what a save says of the disk
-pub disk_cause : (c : Course) (promise : Promise) (p : ProcessState) (step latest : ℕ)
-    (before : WorkerStore) (process v : ProcessValue) (old new : Medium) (fault : DiskFault)
-    → IsOnDisk (identity_of c) promise p step latest before old
-    → IsSaveFault before process old new (store.Disk fault)
-    → HasCauseAt (Disk fault) c.guest c.config v old new
-disk_cause c promise p step latest before process v old new fault is (inl few) =
-    let stores = is.stores in
-    let many = ap (λ (g : Geometry). g.journal_sectors) stores.geometry in
-    let fits = stores.fits in
-    let kept : sectors_for (length before.journal.kept)
-    ≤ (places is.point).journal_sectors - before.journal.used =
-    sectors_within (length before.journal.kept)
-    ((places is.point).journal_sectors - before.journal.used) fits in
-    inl (inl (omega (arith, few, kept)))
-disk_cause c promise p step latest before process v old new fault is (inr (inl few)) =
-    let stores = is.stores in
-    let area = ap (λ (g : Geometry). g.area_sectors) stores.geometry in
-    inl (inr (omega (arith, few, area)))
-disk_cause c promise p step latest before process v old new fault is (inr (inr (inl nothing))) =
-    inl (inr (omega (arith, nothing)))
-disk_cause c promise p step latest before process v old new fault is (inr (inr (inr failed))) =
-    inr failed
 
 module _ {D : Type 0} (medium : D → Medium) (c : Course) where
   -- nothing has happened to the disk yet

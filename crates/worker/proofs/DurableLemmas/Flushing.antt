@@ -37,58 +37,37 @@ use Rattle.worker.specs.declared.fault.WorkFault.TheVariants.{Work}
 use Rattle.worker.specs.declared.running_worker.RunningWorker.{RunningWorker}
 use Rattle.worker.specs.rules.WorkFaults.{fault_of_store}
 use Rattle.worker.specs.rules.OpenWorkers.{IsOnDisk, IsAbreast}
-use Rattle.worker.specs.rules.DurableCalls.{ComesOf, HasCauseAt}
+use Rattle.worker.specs.rules.DurableCalls.{ComesOf}
 use Rattle.worker.specs.DurableTurns.{Course, to_tell, TurnFails, slice_end, told_lines_of}
 use Rattle.worker.specs.DurableTurns.{FlushesTurn, identity_of, telling_scene}
 use Rattle.worker.specs.BatchTurns.{FlushesAll, FlushesNot, IsTellingTurn, RefusesOne, TurnTells}
 use Rattle.worker.proofs.AbreastLemmas.{abreast_on, told_changes_none}
-use Rattle.worker.proofs.SavingLemmas.{barrier_fault}
-use Rattle.worker.proofs.DurableLemmas.OnDisk.{reached_now, fewer_syncs}
+use Rattle.worker.proofs.DurableLemmas.OnDisk.{reached_now, records_fit, fewer_syncs}
 use Rattle.worker.proofs.DurableLemmas.Bounds.{fronts_within}
 use Rattle.worker.proofs.DurableLemmas.Holding.{none_to_tell, cut_taken, waiting_refused}
 use Rattle.worker.proofs.DurableLemmas.Telling.{telling_of, running_of, told_so, refused_so}
 use Rattle.worker.proofs.DurableLemmas.Telling.{disk_ends}
 use Rattle.worker.proofs.DurableLemmas.Ends.{ends_on, fails_at_call, failed_end}
-use Rattle.worker.proofs.DurableLemmas.Ends.{carried_on, not_open, disk_cause}
+use Rattle.worker.proofs.DurableLemmas.Ends.{carried_on, not_open}
 
 -- ---- the barrier
 
 -- a barrier of an open worker fails by the disk alone
 barrier_comes : (c : Course) (promise : Promise) (p : ProcessState) (step latest : ℕ)
-    (before : WorkerStore) (process : ProcessValue) (old new : Medium) (fault : StoreFault)
+    (before : WorkerStore) (old new : Medium) (fault : StoreFault)
     → IsOnDisk (identity_of c) promise p step latest before old
     → BarrierFails before old new fault → ComesOf (fault_of_store fault) OfDisk
-barrier_comes c promise p step latest before process old new (store.Disk fault) is fails = refl
-barrier_comes c promise p step latest before process old new store.Full is fails =
-    absurd (barrier_fault c.code c.config is.point before is.records is.pending is.last is.now
-    process old new is.stores store.Full fails)
-barrier_comes c promise p step latest before process old new store.Failed is fails =
-    absurd (barrier_fault c.code c.config is.point before is.records is.pending is.last is.now
-    process old new is.stores store.Failed fails)
-barrier_comes c promise p step latest before process old new store.TooLong is fails = absurd fails
-barrier_comes c promise p step latest before process old new store.TooBig is fails = absurd fails
-barrier_comes c promise p step latest before process old new store.Damaged is fails = absurd fails
-barrier_comes c promise p step latest before process old new store.Memory is fails = absurd fails
-barrier_comes c promise p step latest before process old new (store.Layout fault) is fails =
-    absurd fails
-
--- and that has a cause
-barrier_cause : (c : Course) (promise : Promise) (p : ProcessState) (step latest : ℕ)
-    (before : WorkerStore) (process : ProcessValue) (old new : Medium) (fault : StoreFault)
-    → IsOnDisk (identity_of c) promise p step latest before old
-    → BarrierFails before old new fault
-    → HasCauseAt (fault_of_store fault) c.guest c.config process old new
-barrier_cause c promise p step latest before process old new (store.Disk fault) is fails =
-    disk_cause c promise p step latest before process process old new fault is
-    (barrier_fault c.code c.config is.point before is.records is.pending is.last is.now process old
-    new is.stores (store.Disk fault) fails)
-barrier_cause c promise p step latest before process old new store.Full is fails = tt
-barrier_cause c promise p step latest before process old new store.Failed is fails = tt
-barrier_cause c promise p step latest before process old new store.TooLong is fails = tt
-barrier_cause c promise p step latest before process old new store.TooBig is fails = tt
-barrier_cause c promise p step latest before process old new store.Damaged is fails = tt
-barrier_cause c promise p step latest before process old new store.Memory is fails = absurd fails
-barrier_cause c promise p step latest before process old new (store.Layout fault) is fails = tt
+barrier_comes c promise p step latest before old new (store.Disk fault) is fails = refl
+barrier_comes c promise p step latest before old new store.Full is fails =
+    let room = records_fit c.code c.config c.guest promise p step latest before old is in
+    let some = fails.0 in
+    let full = fails.1 in
+    absurd (omega (arith, some, full, room))
+barrier_comes c promise p step latest before old new store.Failed is failed =
+    let stores = is.stores in
+    let works = stores.works in
+    absurd (cc)
+barrier_comes c promise p step latest before old new other is fails = absurd fails
 
 -- the same worker with another store
 abbrev pub with_store : RunningWorker → WorkerStore → RunningWorker
@@ -127,9 +106,7 @@ module _ {D : Type 0} (medium : D → Medium) (c : Course) (promise : Promise) (
       (fewer_syncs c.code c.config promise (count_at point is.records) (p.steps - 1)
       (w.process.steps - 1) here is.syncs) in (
         OfDisk,
-        barrier_comes c promise p (p.steps - 1) promise.events w.store w.process (medium disk)
-            (medium disk') fault is fails,
-        barrier_cause c promise p (p.steps - 1) promise.events w.store w.process (medium disk)
+        barrier_comes c promise p (p.steps - 1) promise.events w.store (medium disk)
             (medium disk') fault is fails,
         fails_at_call medium c promise stage (with_store w after) disk disk' OfDisk held
             owing.opened
@@ -311,7 +288,6 @@ module _ {D : Type 0} (medium : D → Medium) (c : Course) (promise : Promise) (
           let is = owing.on_disk in (
             OfOutlet,
             refl,
-            tt,
             ends_on medium c promise made.promise' stage made.stage' exchanges w' disk disk'
                 (Fails OfOutlet) (length promise.kept) made.done
                 (failed_end c made.promise' made.stage' p w' (Broken OfOutlet)

@@ -1,7 +1,6 @@
 -- What a source says to a question, as an event, and what becomes of an answer.
-use Rattle.std.proofs.Common.{◌≡◌, ◌⊎◌, ℕ, ◌+◌, ◌-◌, ◌<◌, ◌≤◌, [], ◌∷◌, ◌++◌, length, refl}
-use Rattle.std.proofs.Common.{sym, ap, ◌∙◌, subst, inl, inr, arith, Bool, true, false, Some}
-use Rattle.std.proofs.Common.{None, Ok, Err, List}
+use Rattle.std.proofs.Common.{◌≡◌, ℕ, ◌+◌, ◌-◌, ◌<◌, ◌≤◌, [], ◌∷◌, ◌++◌, length, refl, sym, ap, ◌∙◌}
+use Rattle.std.proofs.Common.{subst, inl, inr, arith, Bool, true, false, Some, None, Ok, Err, List}
 use Rattle.std.proofs.lemmas.List.{append-nil}
 use Rattle.wasi_abi.specs.declared.answer.Question.{Question}
 use Rattle.wasi_abi.specs.declared.answer.Answer.{Answer}
@@ -14,7 +13,7 @@ use Rattle.process_rules.proofs.Growing.{move_counts, move_emits}
 use Rattle.process.specs.declared.fault.ProcessFault.{ProcessFault}
 use Rattle.process.specs.declared.fault.ProcessFault.TheVariants as stop
 use Rattle.process.specs.rules.Values.{ProcessValue, ShowsProcess}
-use Rattle.process.specs.rules.Stops.{CallsHost, GivesAnswer}
+use Rattle.process.specs.rules.Stops.{GivesAnswer}
 use Rattle.sector_disk.specs.rules.Medium.{Medium}
 use Rattle.state_image.specs.rules.Saving.{saved_of}
 use Rattle.disk_layout.specs.rules.Journal.{record_bytes, record_head_bytes, longest_record}
@@ -60,7 +59,7 @@ use Rattle.worker.specs.declared.fault.WorkFault.TheVariants.{Work}
 use Rattle.worker.specs.declared.running_worker.RunningWorker.{RunningWorker}
 use Rattle.worker.specs.rules.WorkFaults.{fault_of_store}
 use Rattle.record_replay.specs.rules.Refusals.{slice_fault}
-use Rattle.worker.specs.rules.DurableCalls.{ComesOf, NeedsMemory, HasCauseAt}
+use Rattle.worker.specs.rules.DurableCalls.{ComesOf}
 use Rattle.worker.specs.rules.OpenWorkers.{IsOnDisk}
 use Rattle.worker.specs.DurableTurns.{Course, IsAskingOn, HasRoom, TurnGoes, TurnEnds, TurnFails}
 use Rattle.worker.specs.DurableTurns.{asks_once, TakesOnRecord, LacksRecord, IsNotTaken, IsMisfit}
@@ -327,8 +326,6 @@ module _ {D : Type 0} (medium : D → Medium) (c : Course) (promise : Promise) (
         at_question in (
           OfAnswer,
           subst (λ z. ComesOf z OfAnswer) (sym h.is) (inr refl),
-          subst (λ z. HasCauseAt z c.guest c.config w'.process (medium disk) (medium disk))
-              (sym h.is) tt,
           fails_once (Ok (Some a)) false w' (ap (λ (r : RunningWorker). r.process) h.same)
               (λ fits. h.misfits (subst (λ n. Fits n question a) same_limit fits)) foretold
               (Broken OfAnswer) OfAnswer (others.misfit a) refl tt,
@@ -345,15 +342,6 @@ module _ {D : Type 0} (medium : D → Medium) (c : Course) (promise : Promise) (
           fails_once (Ok (Some a)) true w' same fits foretold Open cause
           (answers_are_kept c.code c.config c.guest promise stage c.act p question a
           at_question) may bound
-
-      needs_memory : w'.process ≡ w.process
-          → CallsHost c.guest p ⊎ ((k : Question) × (next_of c.guest p None ≡ Wants k))
-          → NeedsMemory c.guest w'.process
-      needs_memory same needs = let running = asking.running in record {
-        process = p;
-        shows = subst (λ v. ShowsProcess v c.guest p) (sym same) running.shows;
-        needs = needs;
-      }
 
       -- the journal is of the version of the process, so the answer isn't too long for it
       short : length (payload_of a) ≤ text_limit w.store.journal.version
@@ -376,12 +364,7 @@ module _ {D : Type 0} (medium : D → Medium) (c : Course) (promise : Promise) (
           (length-record v (record_of step a)))
       lacks_by step store.TooLong room h same =
           absurd (too_long w.store.journal.version (length (payload_of a)) short h)
-      lacks_by step store.Memory room h same = (
-        OfMemory,
-        refl,
-        needs_memory same (inr (question, asking.wants)),
-        kept_once same OfMemory tt tt,
-      )
+      lacks_by step store.Memory room h same = (OfMemory, refl, kept_once same OfMemory tt tt)
       lacks_by step store.Failed room failed same =
           let running = asking.running in
           let is = running.on_disk in
@@ -404,11 +387,11 @@ module _ {D : Type 0} (medium : D → Medium) (c : Course) (promise : Promise) (
       not_taken_by stop.Memory given =
           let running = asking.running in
           let h = given c.guest p running.shows in
-          (OfMemory, refl, needs_memory h.0 (inl h.3), kept_once h.0 OfMemory tt tt)
+          (OfMemory, refl, kept_once h.0 OfMemory tt tt)
       not_taken_by stop.StepsSpent given =
           let running = asking.running in
           let h = given c.guest p running.shows in
-          (OfBounds, refl, tt, kept_once h.0 OfBounds tt (inl (Some a, h.3)))
+          (OfBounds, refl, kept_once h.0 OfBounds tt (inl (Some a, h.3)))
 
     pub lacks_record : (step : ℕ) (why : WorkFault) (w' : RunningWorker) → HasRoom w
         → LacksRecord w question (record_of step a) why w'

@@ -1,5 +1,6 @@
 -- What is known of a worker whose disk holds what is promised.
-use Rattle.std.proofs.Common.{◌≡◌, ℕ, ◌+◌, ◌≤◌, List, [], ◌++◌, sym, ◌∙◌, subst, arith}
+use Rattle.std.proofs.Common.{◌≡◌, ℕ, ◌+◌, ◌-◌, ◌*◌, ◌≤◌, List, [], ◌++◌, length, sym, ◌∙◌, subst}
+use Rattle.std.proofs.Common.{arith}
 use Rattle.wasm_syntax.specs.declared.module.Module.{Module}
 use Rattle.wasm_rules.specs.Validity.{IsValid}
 use Rattle.wasi_abi.specs.rules.Configs.{Settings}
@@ -11,7 +12,10 @@ use Rattle.sector_disk.specs.rules.Medium.{Medium}
 use Rattle.process.specs.rules.Values.{ProcessValue, ShowsProcess}
 use Rattle.state_image.specs.rules.ProcessImage.{Saved}
 use Rattle.state_image.specs.rules.Saving.{saved_of}
+use Rattle.disk_layout.specs.declared.geometry.Geometry.{Geometry}
+use Rattle.disk_layout.specs.declared.journal_sectors.TheConstants.{PAYLOAD_SIZE}
 use Rattle.disk_layout.specs.rules.Journal.{TakesRecords}
+use Rattle.journal.specs.rules.Packed.{sectors_for}
 use Rattle.worker_store.specs.restart_theorem.Lives.{Act, Reply, Ended, kept_by_end}
 use Rattle.worker_store.specs.restart_theorem.Promises.{Promise, after, saved_by, synced_by}
 use Rattle.worker_store.specs.restart_theorem.Holds.{KeepsPromise}
@@ -160,6 +164,19 @@ module _ (m : Module) (config : Settings) (guest : Guest) (promise : Promise) (p
   room_now v shows =
       subst (λ w. TakesRecords w config.journal)
       (sym (version_shown guest v p shows ∙ version_now)) is.point.room
+
+  -- it has room for the records that are pending
+  pub records_fit : sectors_for (length store.journal.kept)
+      ≤ store.geometry.journal_sectors - store.journal.used
+  records_fit =
+      let stores = is.stores in
+      few_sectors (length store.journal.kept)
+      (store.geometry.journal_sectors - store.journal.used)
+      (subst (λ (g : Geometry). length store.journal.kept
+      ≤ PAYLOAD_SIZE * (g.journal_sectors - store.journal.used)) (sym stores.geometry) stores.fits)
+    where
+      few_sectors : (kept n : ℕ) → kept ≤ PAYLOAD_SIZE * n → sectors_for kept ≤ n
+      few_sectors kept n fits = omega (arith, fits)
 
 -- ---- an open worker
 

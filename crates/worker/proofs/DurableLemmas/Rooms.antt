@@ -3,11 +3,10 @@ use Rattle.std.proofs.Common.{◌≡◌, ℕ, ◌+◌, ◌-◌, ◌*◌, ◌≤�
 use Rattle.std.proofs.Common.{sym, ap, ◌∙◌, subst, inl, inr, arith, false, take, drop}
 use Rattle.std.proofs.lemmas.List.{append-nil}
 use Rattle.wasi_abi.specs.declared.answer.Question.{Question}
-use Rattle.wasi_abi.specs.declared.numbers.TheConstants.{NUMBERS_END}
 use Rattle.process_rules.specs.Behind.{IsNarrowTo}
 use Rattle.process_rules.specs.Processes.{ProcessState}
 use Rattle.process_rules.specs.Runs.{Runs, none}
-use Rattle.process.specs.rules.Values.{ProcessValue, IsProcess}
+use Rattle.process.specs.rules.Values.{IsProcess}
 use Rattle.sector_disk.specs.rules.Medium.{Medium}
 use Rattle.state_image.specs.rules.Saving.{saved_of}
 use Rattle.disk_layout.specs.declared.geometry.Geometry.{Geometry}
@@ -17,12 +16,11 @@ use Rattle.disk_layout.proofs.LongRecordLemmas.{journals_have_room}
 use Rattle.journal.specs.rules.State.{JournalState, state}
 use Rattle.record_replay.specs.rules.Calls.{Begun}
 use Rattle.record_replay.proofs.Emitted.{released_whole}
-use Rattle.worker_store.specs.restart_theorem.Lives.{Slice, Fails, Cause, OfDisk, OfBounds}
-use Rattle.worker_store.specs.restart_theorem.Courses.{Stage, Open, MayFail}
+use Rattle.worker_store.specs.restart_theorem.Lives.{Slice, Fails}
+use Rattle.worker_store.specs.restart_theorem.Courses.{Stage, Open}
 use Rattle.worker_store.specs.restart_theorem.Promises.{Promise}
 use Rattle.worker_store.specs.restart_theorem.Holds.{StaysWithin}
 use Rattle.worker_store.specs.rules.Savepoints.{Savepoint}
-use Rattle.worker_store.specs.laws.CallEnds.{HasBound}
 use Rattle.worker_store.specs.rules.Carried.{count_at, AreOnRecord}
 use Rattle.worker_store.specs.laws.Turns.{GoesOnFrom}
 use Rattle.worker_store.proofs.LawLemmas.Raising.{up_to_all, all_syncs_are_held, ended_carries}
@@ -30,23 +28,21 @@ use Rattle.worker_store.proofs.LawLemmas.Carrying.{begins_carried}
 use Rattle.worker_store.proofs.LawLemmas.Saving.{next_held, save_carries, ends_promise_no_less}
 use Rattle.worker_store.proofs.LawLemmas.TurnLemmas.{same_no_more}
 use Rattle.worker_store.specs.declared.fault.StoreFault.{StoreFault}
-use Rattle.worker_store.specs.declared.fault.StoreFault.TheVariants as store
 use Rattle.worker_store.specs.declared.store.WorkerStore.{WorkerStore}
 use Rattle.worker_store.specs.laws.Laws.{ProcessImagesFitAreas}
 use Rattle.worker_store.specs.rules.Calls.{StoresNext}
 use Rattle.worker_store.specs.rules.Stores.{IsStoreOf}
 use Rattle.worker.specs.declared.running_worker.RunningWorker.{RunningWorker}
 use Rattle.worker.specs.rules.WorkFaults.{fault_of_store}
-use Rattle.worker.specs.rules.DurableCalls.{ComesOf, HasCauseAt}
 use Rattle.worker.specs.rules.OpenWorkers.{IsOnDisk}
-use Rattle.worker.specs.Savings.{LeavesFrontOrNext, IsSaveFault, SaveFails}
+use Rattle.worker.specs.Savings.{HasSaveCause, LeavesFrontOrNext}
 use Rattle.worker.specs.DurableTurns.{Course, IsAskingOn, HasRoom, MakesRoom, HoldsNoLine}
 use Rattle.worker.specs.DurableTurns.{MakesNoRoom, TurnFails, slice_end, identity_of, running_on}
-use Rattle.worker.proofs.SavingActLemmas.{CanSave, can_save, all_first}
+use Rattle.worker.proofs.SavingActLemmas.{CanSave, can_save, all_first, save_comes}
 use Rattle.worker.proofs.DurableLemmas.OnDisk.{keeps_now, fewer_syncs, lowered_to, room_now}
 use Rattle.worker.proofs.DurableLemmas.Bounds.{on_disk_still, saves_within}
 use Rattle.worker.proofs.DurableLemmas.Ends.{fails_at_call, failed_end, broken_open}
-use Rattle.worker.proofs.DurableLemmas.Ends.{carried_on, stays_on, disk_cause}
+use Rattle.worker.proofs.DurableLemmas.Ends.{carried_on, stays_on}
 use Rattle.worker.proofs.DurableLemmas.Flushing.{with_store}
 
 -- ---- there is room already
@@ -89,9 +85,6 @@ module _ {D : Type 0} (medium : D → Medium) where
 
 -- ---- it is made
 
-too_late : (n g events : ℕ) → NUMBERS_END ≤ n + 1 → n ≡ g → g ≤ events → NUMBERS_END ≤ events + 1
-too_late n g events late e early = omega (arith, late, e, early)
-
 -- an empty journal has room for the longest record that it takes
 enough : (long sectors used kept : ℕ) → long ≤ PAYLOAD_SIZE * sectors → used ≡ 0 → kept ≡ 0
     → long ≤ PAYLOAD_SIZE * (sectors - used) - kept
@@ -104,15 +97,6 @@ none_held : (w : RunningWorker) (lines_held : List Begun) → (HasRoom w → ⊥
     → lines_held ≡ []
 none_held w lines_held full (inl is) = is
 none_held w lines_held full (inr room) = absurd (full room)
-
--- why an error of a save comes
-record SaveComes (c : Course) (promise : Promise) (p : ProcessState) (fault : StoreFault)
-    (v : ProcessValue) (old new : Medium) : Type 0 where
-  pub cause : Cause
-  pub comes : ComesOf (fault_of_store fault) cause
-  pub cause_is : HasCauseAt (fault_of_store fault) c.guest c.config v old new
-  pub may : MayFail Open cause
-  pub bound : HasBound c.code c.config c.guest promise p cause
 
 module _ {D : Type 0} (medium : D → Medium) (w : RunningWorker) (after : WorkerStore)
     (disk disk' : D) (fit : ProcessImagesFitAreas) (numbered : IsProcess w.process)
@@ -164,53 +148,19 @@ module _ {D : Type 0} (medium : D → Medium) (w : RunningWorker) (after : Worke
         (leaves c.code c.config is.point ready.next is.records is.pending is.last is.now is.stores
         next_is.comes next_is.saved)
 
-    comes : (fault : StoreFault)
-        → IsSaveFault w.store w.process (medium disk) (medium disk') fault
-        → SaveComes c promise p fault w.process (medium disk) (medium disk')
-    comes store.TooBig (inl late) =
-        let running = asking.running in
-        let is = running.on_disk in
-        let stores = is.stores in
-        let journaled = stores.journaled in
-        record {
-          cause = OfBounds;
-          comes = refl;
-          cause_is = tt;
-          may = tt;
-          bound = inr (too_late w.store.journal.generation is.point.generation promise.events late
-              journaled.generation is.early);
-        }
-    comes store.TooBig (inr long) = let few = ready.fits in absurd (omega (arith, long, few))
-    comes store.Full h = absurd h
-    comes store.TooLong h = absurd h
-    comes store.Damaged h = absurd h
-    comes (store.Layout why) h = absurd h
-    comes (store.Disk why) h =
-        let running = asking.running in
-        record {
-          cause = OfDisk;
-          comes = refl;
-          cause_is = disk_cause c promise p p.steps promise.events w.store w.process
-              w.process (medium disk) (medium disk') why running.on_disk h;
-          may = tt;
-          bound = tt;
-        }
-    comes store.Memory h = absurd h
-    comes store.Failed h = absurd h
-
     save_in_vain : (fault : StoreFault)
-        → SaveFails w.store w.process (medium disk) (medium disk') fault
+        → HasSaveCause w.store w.process (medium disk) (medium disk') fault
         → TurnFails c promise stage (fault_of_store fault) [] (with_store w after) (medium disk)
         (medium disk')
-    save_in_vain fault fails =
+    save_in_vain fault failed =
         let running = asking.running in
         let is = running.on_disk in
         let point = is.point in
         let can = ready in
         let next_is = can.is_next in
         let held : ℕ = length promise.kept in
-        let why = comes fault (fails c.code c.config point is.records is.pending is.last is.now
-        is.stores) in
+        let why = save_comes c.code c.config c.guest promise p p.steps w.store (medium disk)
+        (medium disk') is w.process can.fits fault failed in
         let told : w.process.steps ≡ p.steps = (let shows = running.shows in shows.steps) in
         let here : w.process.steps - 1 ≤ p.steps = omega (arith, told) in
         let later = ended_carries medium c.code c.config promise point w.store.journal is.records
@@ -221,12 +171,11 @@ module _ {D : Type 0} (medium : D → Medium) (w : RunningWorker) (after : Worke
         (w.process.steps - 1) here is.syncs) in (
           why.cause,
           why.comes,
-          why.cause_is,
           fails_at_call medium c promise stage (with_store w after) disk disk' why.cause held
               running.opened
               (failed_end c promise stage p (with_store w after) Open held why.cause
               (broken_open c promise stage p _ _ [] w (medium disk) running) running.shows
-              running.module_is why.may why.bound)
+              running.module_is why.may (why.bound p))
               (save_carries medium c.code c.config promise
               (slice_end promise (Fails why.cause) held w) point can.next w.store.journal
               is.records is.pending [] is.last is.now disk disk'
@@ -327,7 +276,7 @@ module _ {D : Type 0} (medium : D → Medium) (w : RunningWorker) (after : Worke
           after.journal.used (length after.journal.kept) long none_used none_kept
 
   pub makes_no_room : (fault : StoreFault)
-      → SaveFails w.store w.process (medium disk) (medium disk') fault
+      → HasSaveCause w.store w.process (medium disk) (medium disk') fault
       → (HasRoom w → ⊥)
       → MakesNoRoom w (fault_of_store fault) (with_store w after) (medium disk) (medium disk')
   makes_no_room fault fails full c promise stage p question lines_held asking free =

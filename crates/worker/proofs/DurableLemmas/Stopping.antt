@@ -3,7 +3,7 @@ use Rattle.std.proofs.Common.{◌≡◌, ◌+◌, ◌-◌, ◌<◌, ◌≤◌, L
 use Rattle.std.proofs.Common.{subst, inl, arith, Some, None, Ok, Err, true}
 use Rattle.process_rules.specs.Processes.{ProcessState}
 use Rattle.process.specs.declared.stop.ProcessEnd.{ProcessEnd}
-use Rattle.process.specs.rules.Stops.{CallsHost, IsBeyond}
+use Rattle.process.specs.rules.Stops.{IsBeyond}
 use Rattle.process.specs.rules.Values.{waiting_in, ending_of}
 use Rattle.sector_disk.specs.rules.Medium.{Medium}
 use Rattle.state_image.specs.rules.Saving.{saved_of}
@@ -124,7 +124,6 @@ module _ {D : Type 0} (medium : D → Medium) (c : Course) (promise : Promise) (
   spent_stops all unended = record {
     telling = there;
     is_reply = refl;
-    cause = λ v shows old new. tt;
     ends = λ promise' stage' w' disk' telling phase none_waits says.
         spent_ends medium c promise' stage' p [] w' disk'
         (running_there promise' stage' w' disk' telling phase) refl none_waits all unended;
@@ -137,7 +136,6 @@ module _ {D : Type 0} (medium : D → Medium) (c : Course) (promise : Promise) (
   over_stops how ended abreast = record {
     telling = there;
     is_reply = refl;
-    cause = λ v shows old new. tt;
     ends = λ promise' stage' w' disk' telling phase none_waits says.
         over_ends medium c promise' stage' p [] w' disk'
         (running_there promise' stage' w' disk' telling phase) refl none_waits (ending_of how) ended
@@ -156,13 +154,11 @@ module _ {D : Type 0} (medium : D → Medium) (c : Course) (promise : Promise) (
       (subst (λ (q : Phase). MayFail q cause) (sym (phase ∙ way.is_open)) may) (bound promise')
 
   -- it wants memory
-  pub memory_stops : CallsHost c.guest p
-      → IsStopped medium c promise stage p (Err (Work slice.Memory)) (Fails OfMemory)
+  pub memory_stops : IsStopped medium c promise stage p (Err (Work slice.Memory)) (Fails OfMemory)
       (running_on lines_held w (medium disk))
-  memory_stops calls = record {
+  memory_stops = record {
     telling = there;
     is_reply = (OfMemory, refl, refl);
-    cause = λ v shows old new. record { process = p; shows = shows; needs = inl calls };
     ends = fails_still OfMemory tt (λ promise'. tt);
   }
 
@@ -173,6 +169,5 @@ module _ {D : Type 0} (medium : D → Medium) (c : Course) (promise : Promise) (
   numbers_stop beyond = record {
     telling = there;
     is_reply = (OfBounds, refl, refl);
-    cause = λ v shows old new. tt;
     ends = fails_still OfBounds tt (λ promise'. inl (None, beyond));
   }

@@ -9,13 +9,12 @@ use Rattle.process_rules.specs.Processes.{ProcessState, Guest}
 use Rattle.process.specs.declared.fault.ProcessFault.{ProcessFault}
 use Rattle.process.specs.declared.stop.ProcessEnd.{ProcessEnd}
 use Rattle.process.specs.declared.stop.Stop.TheVariants as stops
-use Rattle.process.specs.rules.Values.{ProcessValue, ending_of}
+use Rattle.process.specs.rules.Values.{ProcessValue, ShowsProcess, ending_of}
 use Rattle.process.specs.rules.Stops.{AdvancesProcess}
-use Rattle.sector_disk.specs.rules.DiskImage.{DiskImage}
-use Rattle.sector_disk.specs.rules.Medium.{Medium, CallsUpTo, Passes}
+use Rattle.sector_disk.specs.rules.Medium.{Medium, CallsUpTo}
 use Rattle.state_image.specs.rules.Saving.{saved_of}
 use Rattle.record_replay.specs.rules.Calls.{Giving, Taking, Begun, Exchange, Asks, Tells, Exchanges}
-use Rattle.record_replay.specs.rules.Calls.{Releases, AnswersInOrder}
+use Rattle.record_replay.specs.rules.Calls.{Releases, AnswersInOrder, ports}
 use Rattle.record_replay.proofs.Following.{exchanges_join}
 use Rattle.worker_store.specs.restart_theorem.Lives.{Act, Slice, Reply, Spent, Over, Waits, Fails}
 use Rattle.worker_store.specs.restart_theorem.Lives.{Ended}
@@ -31,6 +30,7 @@ use Rattle.worker_store.proofs.LawLemmas.CallEnds.{slices_begin}
 use Rattle.worker_store.proofs.LawLemmas.Pieces.{parts_join, parts_are_foretold, ends_join}
 use Rattle.worker_store.proofs.LawLemmas.TurnLemmas.{turns_join, turns_carry, parts_leave_begun}
 use Rattle.record_replay.proofs.Emitted.{released_whole}
+use Rattle.record_replay.specs.declared.slices.fault.SliceFault.TheVariants as slice
 use Rattle.record_replay.specs.declared.slices.now.Now.{Now}
 use Rattle.record_replay.specs.declared.slices.now.Now.TheVariants as now
 use Rattle.worker_store.specs.declared.store.WorkerStore.{WorkerStore}
@@ -44,8 +44,9 @@ use Rattle.worker.proofs.CallCountLemmas.{turns_then, turns_end, turn_once, turn
 use Rattle.worker.proofs.CallCountLemmas.{turn_last, owed_within}
 use Rattle.worker.specs.rules.DurableValues.{durable_of}
 use Rattle.worker.specs.rules.OpenWorkers.{IsOpenOn}
-use Rattle.worker.specs.rules.DurableCalls.{HasCauseOf, IsReplyOf, CallCarries, CallKeeps}
+use Rattle.worker.specs.rules.DurableCalls.{IsReplyOf, CallCarries, CallKeeps, WantedMemory}
 use Rattle.worker.specs.rules.DurableCalls.{invocation}
+use Rattle.worker.specs.rules.DurableFailures.{IsDiskCause, SlicesOnDiskInVain, StopsForMemory}
 use Rattle.worker.specs.rules.Scenes.{scene}
 use Rattle.worker.specs.DurableTurns.{Course, IsBetweenTurns, TurnGoes, TurnEnds, slice_end}
 use Rattle.worker.specs.DurableTurns.{told_lines_of, FlushesTurn, AsksOutside, AsksTurn, WorksOn}
@@ -54,7 +55,7 @@ use Rattle.record_replay.proofs.Joining.{tells_ask_nothing, releases_of_tells}
 use Rattle.worker.proofs.DurableLemmas.OnDisk.{keeps_now}
 use Rattle.worker.proofs.DurableLemmas.Bounds.{bounds_join, on_disk_still}
 use Rattle.worker.proofs.DurableLemmas.Holding.{none_to_tell}
-use Rattle.worker.proofs.DurableLemmas.Ends.{cause_before, done_nothing, stays_on, not_open}
+use Rattle.worker.proofs.DurableLemmas.Ends.{done_nothing, stays_on, not_open}
 use Rattle.worker.proofs.DurableLemmas.Advancing.{with_process, says_abreast, advance_owes}
 use Rattle.worker.proofs.DurableLemmas.Advancing.{advance_asks, advance_spent, advance_over}
 use Rattle.worker.proofs.DurableLemmas.Advancing.{advance_fails}
@@ -105,14 +106,6 @@ module _ {D : Type 0} (medium : D → Medium) (c : Course) (promise : Promise) (
 
       one_on : a.promise'.events ≤ b.between.events → a.promise'.events ≤ b.between.events + 1
       one_on le = omega (arith, le)
-
--- a cause at a later moment is one at an earlier moment
-causes_before : (result : Result Now WorkFault) (guest : Guest) (config : Settings)
-    (v : ProcessValue) (old mid new : Medium) {P : DiskImage → Type 0} → Passes old mid P
-    → HasCauseOf result guest config v mid new → HasCauseOf result guest config v old new
-causes_before (Ok why) guest config v old mid new passes cause = tt
-causes_before (Err why) guest config v old mid new passes cause =
-    cause_before why guest config v old mid new passes.room passes.faults cause
 
 -- ---- exchanges
 
@@ -213,7 +206,6 @@ module _ {D S O : Type 0} (medium : D → Medium) (gives : Giving S) (takes : Ta
         → fuel_of c.act ≡ fuel → c.first ≡ old.process.steps
         → IsBetweenTurns c promise stage p [] w (medium mid) → IsForetold stage ys
         → (reply : Reply) × IsReplyOf result reply
-        × HasCauseOf result c.guest c.config w'.process (medium mid) (medium disk')
         × TurnEnds c promise stage reply ys w' (medium mid) (medium disk'))
         → (medium disk').counted ≤ (medium mid).counted
         + owed (medium disk).sectors w.store.journal.kept + most_saving (medium disk).sectors
@@ -228,14 +220,10 @@ module _ {D S O : Type 0} (medium : D → Medium) (gives : Giving S) (takes : Ta
           let both = parts_are_foretold c.code c.config promise a.promise' stage a.stage' so_far.0
           ys foretold in
           let last = turn c a.promise' a.stage' a.process fuel_is first_is a.running
-          (both.0 a.done) in
-          let onward = a.onward in
-          let leaves = onward.leaves in (
+          (both.0 a.done) in (
             last.0,
             last.1,
-            causes_before result c.guest c.config w'.process (medium disk) (medium mid)
-                (medium disk') leaves.passes last.2,
-            ends_after medium c promise stage so_far.0 ys w w' disk mid disk' a last.0 last.3,
+            ends_after medium c promise stage so_far.0 ys w w' disk mid disk' a last.0 last.2,
           ),
       turns_end (length so_far.0) (length ys) (length (so_far.0 ++ ys))
           (most_calls (medium disk).sectors) (medium disk).counted (medium mid).counted
@@ -278,7 +266,6 @@ module _ {D S O : Type 0} (medium : D → Medium) (gives : Giving S) (takes : Ta
         (λ c promise stage p fuel_is first_is between foretold. (
           Spent,
           refl,
-          tt,
           advance_spent medium c promise stage p [] w v mid between fuel_left
               (fuel_left_of c fuel_is first_is)
               same same_guest refl advances,
@@ -293,7 +280,6 @@ module _ {D S O : Type 0} (medium : D → Medium) (gives : Giving S) (takes : Ta
         (λ c promise stage p fuel_is first_is between foretold. (
           Over (ending_of how),
           refl,
-          tt,
           advance_over medium c promise stage p [] w v mid between fuel_left
               (fuel_left_of c fuel_is first_is)
               same same_guest how refl advances,
@@ -308,7 +294,7 @@ module _ {D S O : Type 0} (medium : D → Medium) (gives : Giving S) (takes : Ta
         (λ c promise stage p fuel_is first_is between foretold.
         let fails = advance_fails medium c promise stage p [] w v mid between fuel_left
         (fuel_left_of c fuel_is first_is) same same_guest why advances in
-        (Fails fails.0, (fails.0, fails.1, refl), fails.2, fails.3)) nothing_called
+        (Fails fails.0, (fails.0, fails.1, refl), fails.2)) nothing_called
 
     -- what is owed
     module _ (advances : AdvancesProcess w.process fuel_left (Ok stops.Owes) v) (w' : RunningWorker)
@@ -342,7 +328,7 @@ module _ {D S O : Type 0} (medium : D → Medium) (gives : Giving S) (takes : Ta
           let owes = advance_owes medium c promise stage p [] w v mid between fuel_left
           (fuel_left_of c fuel_is first_is) same same_guest advances in
           let fails = flushes.2 c promise stage owes.process owes.owing foretold in
-          (Fails fails.0, (fails.0, fails.1, refl), fails.2, fails.3))
+          (Fails fails.0, (fails.0, fails.1, refl), fails.2))
           (let paid = subst (λ (n : ℕ). (medium disk').counted
           ≤ (medium mid).counted + owed n w.store.journal.kept) long pays in omega (arith, paid))
 
@@ -381,7 +367,7 @@ module _ {D S O : Type 0} (medium : D → Medium) (gives : Giving S) (takes : Ta
           (λ c promise stage p fuel_is first_is between foretold.
           let there = advance_asks medium c promise stage p [] w v mid between fuel_left
           (fuel_left_of c fuel_is first_is) same same_guest question (none_held c) advances in
-          (Waits, refl, tt, asks.2 c promise stage there.process there.asking foretold)) called_last
+          (Waits, refl, asks.2 c promise stage there.process there.asking foretold)) called_last
 
       pub works_unasked : (why : WorkFault)
           → AsksTurn medium gives question (asking_scene (with_process w v) mid t) (Err why)
@@ -394,7 +380,7 @@ module _ {D S O : Type 0} (medium : D → Medium) (gives : Giving S) (takes : Ta
           let there = advance_asks medium c promise stage p [] w v mid between fuel_left
           (fuel_left_of c fuel_is first_is) same same_guest question (none_held c) advances in
           let fails = asks.2 c promise stage there.process there.asking foretold in
-          (Fails fails.0, (fails.0, fails.1, refl), fails.2, fails.3)) called_last
+          (Fails fails.0, (fails.0, fails.1, refl), fails.2)) called_last
 
 -- ---- the whole slice
 
@@ -479,18 +465,29 @@ module _ {D : Type 0} (medium : D → Medium) (c : Course) (promise : Promise) (
             );
       }
 
+-- where memory has failed it, it was wanted so
+pub wanted_memory : (guest : Guest) (p : ProcessState) (fuel : ℕ) (made : List Exchange) (n : ℕ)
+    (q : ProcessState) (v : ProcessValue) (why : WorkFault) → ShowsProcess v guest q
+    → (why ≡ Work slice.Memory → StopsForMemory guest p fuel made n q)
+    → WantedMemory {T = Now} (Err why) guest v
+wanted_memory guest p fuel made n q v (Work slice.Memory) shows stops =
+    let stop = stops refl in record { process = q; shows = shows; needs = stop.2 }
+wanted_memory guest p fuel made n q v other shows stops = tt
+
 module _ {D S O : Type 0} (medium : D → Medium) (gives : Giving S) (takes : Taking O)
     (old new : RunningWorker) (replayed fuel : ℕ) (disk disk' : D) (source source' : S)
     (outlet outlet' : O) where
   carries_by : (store : WorkerStore) (result : Result Now WorkFault)
       → ((reply : Reply) → IsReplyOf result reply → phase_ended reply ≡ Open
       → store ≡ new.store)
+      → ((guest : Guest) (p : ProcessState) → ShowsProcess old.process guest p
+      → WantedMemory result guest new.process)
       → WorksOn medium gives takes fuel (scene old disk source outlet) result
       (scene new disk' source' outlet')
       → CallKeeps medium gives takes (Slice fuel)
       (scene (durable_of old replayed) disk source outlet) result
       (scene (durable_of (record new { store = store }) replayed) disk' source' outlet')
-  carries_by store result same worked = (
+  carries_by store result same wanted worked = (
     worked.0,
     worked.1,
     λ m config guest promise stage p acts open_on next_act foretold.
@@ -506,9 +503,9 @@ module _ {D S O : Type 0} (medium : D → Medium) (gives : Giving S) (takes : Ta
         next_act) foretold in (
           ended.0,
           ended.1,
-          ended.2,
+          wanted guest p open_on.shows,
           call_carries medium c promise stage ended.0 worked.0 new store replayed disk disk'
-              ended.3 worked.3 tt (same ended.0 ended.1),
+              ended.2 worked.3 tt (same ended.0 ended.1),
         ),
     tt,
   )
@@ -519,14 +516,23 @@ module _ {D S O : Type 0} (medium : D → Medium) (gives : Giving S) (takes : Ta
       → CallKeeps medium gives takes (Slice fuel)
       (scene (durable_of old replayed) disk source outlet) (Ok why)
       (scene (durable_of new replayed) disk' source' outlet')
-  slice_carries why worked = carries_by new.store (Ok why) (λ reply is over. refl) worked
+  slice_carries why worked =
+      carries_by new.store (Ok why) (λ reply is over. refl) (λ guest p shows. tt) worked
 
   pub slice_fails : (store : WorkerStore) (why : WorkFault)
+      → SlicesOnDiskInVain gives takes old.process fuel why new.process (ports source outlet)
+      (ports source' outlet')
       → WorksOn medium gives takes fuel (scene old disk source outlet) (Err why)
       (scene new disk' source' outlet')
       → CallKeeps medium gives takes (Slice fuel)
       (scene (durable_of old replayed) disk source outlet) (Err why)
       (scene (durable_of (record new { store = store }) replayed) disk' source' outlet')
-  slice_fails store why worked =
+  slice_fails store why failed worked =
       carries_by store (Err why)
-      (λ reply is over. absurd (not_open is.0 (ap phase_ended (sym is.2) ∙ over))) worked
+      (λ reply is over. absurd (not_open is.0 (ap phase_ended (sym is.2) ∙ over)))
+      (λ guest p shows.
+      let k = failed guest p shows in
+      let did = k.0 in
+      wanted_memory guest p fuel did.exchanges did.steps did.process new.process why did.shows
+      (λ is. subst (λ e. IsDiskCause guest p fuel did.exchanges did.steps did.process e) is k.1))
+      worked

@@ -8,7 +8,6 @@ use Rattle.wasi_abi.specs.rules.Configs.{Settings}
 use Rattle.process_rules.specs.Processes.{ProcessState, Guest}
 use Rattle.state_image.specs.rules.ProcessImage.{Saved}
 use Rattle.state_image.specs.rules.Saving.{saved_of}
-use Rattle.process.specs.rules.Values.{ProcessValue}
 use Rattle.sector_disk.specs.rules.DiskImage.{DiskImage}
 use Rattle.sector_disk.specs.rules.Medium.{Medium, Passes}
 use Rattle.record_replay.specs.rules.Calls.{Exchange}
@@ -28,17 +27,18 @@ use Rattle.worker_store.proofs.LawLemmas.Passing.{crashed_in_the_end}
 use Rattle.record_replay.specs.declared.slices.now.Now.{Now}
 use Rattle.record_replay.specs.declared.slices.now.Now.TheVariants as now
 use Rattle.worker.specs.declared.fault.WorkFault.{WorkFault}
-use Rattle.worker.specs.declared.fault.WorkFault.TheVariants.{Disk, Work, Store, Upgrade}
+use Rattle.worker.specs.declared.fault.WorkFault.TheVariants.{Disk}
 use Rattle.worker.specs.declared.recover_fault.RecoverFault.{RecoverFault}
 use Rattle.worker.specs.declared.recover_fault.RecoverFault.TheVariants.{Worker}
 use Rattle.worker.specs.rules.CallCounts.{CallsForEvents}
 use Rattle.worker.specs.rules.DurableValues.{DurableValue}
 use Rattle.worker.specs.rules.OpenWorkers.{IsOpenOn}
-use Rattle.worker.specs.rules.DurableCalls.{Answered, CallCarries, ComesOf, HasCauseAt, IsFailureOf}
+use Rattle.worker.specs.rules.DurableCalls.{Answered, CallCarries, ComesOf, IsFailureOf}
 use Rattle.worker.specs.rules.DurableCalls.{IsReplyOf, IsReplyTo, TakesTooFew, invocation}
-use Rattle.worker.specs.rules.OneLife.{opened_in}
+use Rattle.worker.specs.rules.OneLife.{HasActCause, opened_in}
 use Rattle.worker.specs.laws.OneLife.{IsLater, released_in}
 use Rattle.worker.proofs.CallCountLemmas.{calls_longer}
+use Rattle.worker.proofs.CauseLemmas.{open_disk_cause}
 use Rattle.worker.proofs.LifeLemmas.Joined.{events_as_many, stage_join, promised_join, kept_split}
 use Rattle.worker.proofs.LifeLemmas.Joined.{told_join, opened_behind, told_are, none_opens}
 use Rattle.worker.proofs.LifeLemmas.Joined.{acts_stay, opened_stays}
@@ -85,14 +85,16 @@ cause_since config (Worker (Disk fault)) old mid new later (inr failed) =
     let faults = later.faults in inr (omega (arith, faults, failed))
 cause_since config other old mid new later cause = tt
 
--- what a call says of its error
-pub cause_of_call : (why : WorkFault) (guest : Guest) (config : Settings) (v : ProcessValue)
-    (old new : Medium) → HasCauseAt why guest config v old new
-    → HasDiskCause config (Worker why) old new
-cause_of_call (Disk fault) guest config v old new cause = cause
-cause_of_call (Work fault) guest config v old new cause = tt
-cause_of_call (Store fault) guest config v old new cause = tt
-cause_of_call (Upgrade fault) guest config v old new cause = tt
+-- a call of a worker that is open says it of its error
+pub cause_of_call : {D : Type 0} (medium : D → Medium) (m : Module) (config : Settings)
+    (guest : Guest) (promise : Promise) (stage : Stage) (p : ProcessState) (act : Act)
+    (w w' : DurableValue) (old new : D) (why : WorkFault)
+    → IsOpenOn m config guest promise stage p w (medium old)
+    → HasActCause act w why w' (medium old) (medium new)
+    → HasDiskCause config (Worker why) (medium old) (medium new)
+cause_of_call medium m config guest promise stage p act w w' old new (Disk fault) opened cause =
+    open_disk_cause medium m config guest promise stage p w old new opened act w' fault cause
+cause_of_call medium m config guest promise stage p act w w' old new other opened cause = tt
 
 -- ---- a call without an error
 

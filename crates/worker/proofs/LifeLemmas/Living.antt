@@ -35,6 +35,7 @@ use Rattle.worker_store.specs.restart_theorem.Between.{IsLivedOn}
 use Rattle.worker_store.proofs.RestartLemmas.Promised.{calls_join}
 use Rattle.worker_store.proofs.RestartLemmas.Pleas.{fails_or_open, fails_or_last}
 use Rattle.worker_store.specs.laws.Carried.{PromisesNoMore}
+use Rattle.worker_store.specs.laws.Laws.{ProcessImagesFitAreas}
 use Rattle.worker_store.proofs.LawLemmas.Carrying.{less_is_held}
 use Rattle.worker_store.proofs.LawLemmas.Pieces.{parts_are_foretold}
 use Rattle.worker_store.specs.declared.fault.StoreFault.TheVariants as store
@@ -534,14 +535,15 @@ told_alone gives takes source outlet outlet' told released = record {
   released = subst (λ z. Releases takes outlet z outlet') (sym (releases_of_tells told)) released;
 }
 
-module _ {D S O : Type 0} (medium : D → Medium) (gives : Giving S) (takes : Taking O) where
+module _ {D S O : Type 0} (medium : D → Medium) (gives : Giving S) (takes : Taking O)
+    (fit : ProcessImagesFitAreas) where
   pub calls_make_lives : CallsMakeLives medium gives takes
   calls_make_lives m config bytes so_far acts found one accepted
       (opened {begins = begins} {w = w} {disk = disk} {outlet = inside} {undone = undone}
       {last = last} starts calls) keeps bounded =
       let o = opening m config so_far medium takes bytes found.disk found.outlet
       (site disk inside) begins (Ok w) accepted keeps bounded starts in
-      let c = calls_make medium gives takes acts (scene w disk found.source inside) undone last
+      let c = calls_make medium gives takes fit acts (scene w disk found.source inside) undone last
       calls
       in (
         map Tells o.0 ++ c.0,

@@ -15,6 +15,7 @@ use Rattle.worker_store.specs.restart_theorem.Courses.{Stage, Open, stage_after,
 use Rattle.worker_store.specs.restart_theorem.Promises.{Promise, after, promised, IsKept, AreKept}
 use Rattle.worker_store.specs.restart_theorem.Holds.{KeepsPromise, KeepsBounds}
 use Rattle.worker_store.proofs.RestartLemmas.Promised.{calls_join}
+use Rattle.worker_store.specs.laws.Laws.{ProcessImagesFitAreas}
 use Rattle.worker_store.specs.rules.BetweenCalls.{IsForetold}
 use Rattle.worker_store.proofs.LawLemmas.Pieces.{parts_are_foretold}
 use Rattle.worker.specs.declared.fault.WorkFault.{WorkFault}
@@ -197,7 +198,8 @@ call_then m config guest promise stage act reply acts w first rest undone old mi
     (more (promised promise call.events) (stage_after stage call.events) call.process call.opened
     (call.acts ∙ ap without_first acts_are) (call.foretold rest foretold) call.keeps call.bounded)
 
-module _ {D S O : Type 0} (medium : D → Medium) (gives : Giving S) (takes : Taking O) where
+module _ {D S O : Type 0} (medium : D → Medium) (gives : Giving S) (takes : Taking O)
+    (fit : ProcessImagesFitAreas) where
   pub calls_make : (acts : List Act) (before : Scene D S O)
       (undone : Result (List Act) RecoverFault) (last : Surroundings D S O)
       → CallsInOrder medium gives takes acts before undone last
@@ -236,11 +238,10 @@ module _ {D S O : Type 0} (medium : D → Medium) (gives : Giving S) (takes : Ta
             calls_end m config promise stage why call.0 (medium before.disk) (medium after.disk)
             (call_fails m config guest promise stage act failure.0 why after.worker call.0
             (medium before.disk) (medium after.disk) failure.1
-            (call_widens_none act m config guest promise stage p before.worker after.worker why
-            failure.0 (medium before.disk) (medium after.disk) call.0 open_on failure.1 fails
-            call.3)
-            (cause_of_call why guest config after.worker.process (medium before.disk)
-            (medium after.disk) did.2) open_on.opened
+            (call_widens_none medium m config guest promise stage p before.worker after.worker why
+            failure.0 before.disk after.disk open_on failure.1 fit act fails call.0 call.3)
+            (cause_of_call medium m config guest promise stage p act before.worker after.worker
+            before.disk after.disk why open_on fails.cause) open_on.opened
             (subst (λ (r : Reply). CallCarries (invocation m config guest act) promise stage r
             after.worker (medium before.disk) (medium after.disk) call.0) failure.2 did.3)),
       )

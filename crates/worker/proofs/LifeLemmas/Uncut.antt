@@ -5,6 +5,7 @@ use Rattle.std.specs.Prelude.{Result}
 use Rattle.sector_disk.specs.rules.Medium.{Medium}
 use Rattle.record_replay.specs.rules.Calls.{Giving, Taking, Exchange}
 use Rattle.worker_store.specs.restart_theorem.Lives.{Act, told_in}
+use Rattle.worker_store.specs.laws.Laws.{ProcessImagesFitAreas}
 use Rattle.worker.specs.declared.recover_fault.RecoverFault.{RecoverFault}
 use Rattle.worker.specs.laws.OneLife.{IsLifeOver, EndsBy, released_in}
 use Rattle.worker.specs.laws.Uncut.{uncut, LivesGoOnUncut}
@@ -19,10 +20,10 @@ over_still acts exchanges (Ok (act ∷ others)) over = absurd over
 over_still acts exchanges (Err why) over = tt
 
 pub lives_go_on_uncut : {D S O : Type 0} (medium : D → Medium) (gives : Giving S)
-    (takes : Taking O) → LivesGoOnUncut medium gives takes
-lives_go_on_uncut medium gives takes m config bytes so_far acts found one accepted calls over
+    (takes : Taking O) → ProcessImagesFitAreas → LivesGoOnUncut medium gives takes
+lives_go_on_uncut medium gives takes fit m config bytes so_far acts found one accepted calls over
     sectors room keeps bounded =
-    let made = calls_make_lives medium gives takes m config bytes so_far acts found one accepted
+    let made = calls_make_lives medium gives takes fit m config bytes so_far acts found one accepted
     calls keeps bounded in
     let l = made.2 (uncut acts made.0) 1 refl (record {
       foretold = anything_comes_true made.0;

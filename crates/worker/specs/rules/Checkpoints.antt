@@ -1,9 +1,6 @@
 -- What a checkpoint does to a worker and its disk (this project's own).
 use Rattle.std.specs.Prelude.{◌≡◌, ◌⊎◌, ◌+◌, ◌-◌, ◌*◌, ◌≤◌, ◌<◌, List, ◌++◌, length, true, Result}
-use Rattle.wasm_syntax.specs.declared.module.Module.{Module}
 use Rattle.wasi_abi.specs.declared.numbers.TheConstants.{NUMBERS_END}
-use Rattle.wasi_abi.specs.rules.Configs.{Settings}
-use Rattle.process_rules.specs.Processes.{ProcessState, Guest}
 use Rattle.state_image.specs.rules.ProcessImage.{process_image}
 use Rattle.state_image.specs.rules.Saving.{saved_of}
 use Rattle.sector_disk.specs.declared.disk_call.DiskCall.{DiskCall}
@@ -14,14 +11,11 @@ use Rattle.journal.specs.rules.Packed.{sectors_for}
 use Rattle.journal.specs.rules.Steps.{barrier_calls}
 use Rattle.snapshot.specs.declared.writing.Writing.TheVariants.{Changes}
 use Rattle.snapshot.specs.rules.Calls.{AreStores, with_head}
-use Rattle.worker_store.specs.restart_theorem.Courses.{Stage}
-use Rattle.worker_store.specs.restart_theorem.Promises.{Promise}
 use Rattle.worker_store.specs.declared.fault.StoreFault.TheVariants as store
 use Rattle.record_replay.specs.declared.slices.fault.SliceFault.TheVariants as slice
 use Rattle.worker.specs.declared.fault.WorkFault.{WorkFault}
 use Rattle.worker.specs.declared.fault.WorkFault.TheVariants.{Work, Disk, Store}
 use Rattle.worker.specs.rules.DurableValues.{DurableValue}
-use Rattle.worker.specs.rules.OpenWorkers.{IsOpenOn}
 
 -- the same worker but for its store, which is one generation on
 pub record IsSavedIn (old new : DurableValue) : Type 0 where
@@ -40,25 +34,10 @@ CheckpointCalls w result old new = (stores : List DiskCall)
     × PerformsCalls (with_head (w.store.journal.generation + 1) stores
     ++ barrier_calls w.store.geometry w.store.journal) result old new
 
--- When each error comes of a worker that is open. The number of the generation is at its end, or
--- the disk failed, or it surely takes too few writes between two syncs.
-abbrev pub IsCheckpointFault : DurableValue → Medium → Medium → WorkFault → Type 0
-IsCheckpointFault w old new (Store store.TooBig) = NUMBERS_END ≤ w.store.journal.generation + 1
-IsCheckpointFault w old new (Disk fault) =
-    (old.room < sectors_for (length w.store.journal.kept))
-    ⊎ (old.room < w.store.geometry.area_sectors) ⊎ (old.room ≡ 0) ⊎ (old.faults < new.faults)
-IsCheckpointFault w old new other = ⊥
-
--- so it is whatever was promised of it
-abbrev pub CheckpointFails : DurableValue → Medium → Medium → WorkFault → Type 0
-CheckpointFails w old new fault =
-    (m : Module) (config : Settings) (guest : Guest) (promise : Promise) (stage : Stage)
-    (p : ProcessState) → IsOpenOn m config guest promise stage p w old
-    → IsCheckpointFault w old new fault
-
--- When each error comes, whatever is on the disk. Then the journal may also have too few sectors
--- for the pending records, and the area for the image. The disk may have taken writes since its
--- last good sync. The worker says that it has failed only where it had failed before.
+-- When each error comes, whatever is on the disk. The number of the generation is at its end, or
+-- the area has too few sectors for the image, or the journal for the pending records. The disk
+-- failed, or before its next good sync it surely takes too few writes. The worker says that it has
+-- failed only where it had failed before.
 abbrev pub HasCheckpointCause : DurableValue → Medium → Medium → WorkFault → Type 0
 HasCheckpointCause w old new (Work slice.Failed) = w.has_failed ≡ true
 HasCheckpointCause w old new (Store store.TooBig) = (NUMBERS_END ≤ w.store.journal.generation + 1)

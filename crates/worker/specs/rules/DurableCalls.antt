@@ -83,7 +83,7 @@ IsReplyTo (Batch fuel most) result reply = IsReplyOf result reply
 IsReplyTo Checkpoint result reply = IsReplyOfSaving result reply
 IsReplyTo upgrading result reply = IsReplyOfSaving result reply
 
--- ---- why a disk fails it
+-- ---- why it fails
 
 -- Between two syncs the disk surely takes fewer writes than a journal or an area has sectors.
 abbrev pub TakesTooFew : Settings → Medium → Type 0
@@ -97,21 +97,11 @@ pub record NeedsMemory (guest : Guest) (v : ProcessValue) : Type 0 where
   pub needs : CallsHost guest process ⊎ ((question : Question)
       × (next_of guest process None ≡ Wants question))
 
--- Why a call fails after which this process is shown. The disk has failed since, or takes too few
--- writes. Memory was wanted for the next step, or to keep its answer.
-abbrev pub HasCauseAt : WorkFault → Guest → Settings → ProcessValue → Medium → Medium → Type 0
-HasCauseAt (Disk fault) guest config v old new =
-    TakesTooFew config old ⊎ (old.faults < new.faults)
-HasCauseAt (Work slice.Memory) guest config v old new = NeedsMemory guest v
-HasCauseAt (Work other) guest config v old new = Unit {0}
-HasCauseAt (Store fault) guest config v old new = Unit {0}
-HasCauseAt (Upgrade fault) guest config v old new = Unit {0}
-
--- where there is one
-abbrev pub HasCauseOf : {T : Type 0} → Result T WorkFault → Guest → Settings → ProcessValue
-    → Medium → Medium → Type 0
-HasCauseOf (Ok done) guest config v old new = Unit {0}
-HasCauseOf (Err why) guest config v old new = HasCauseAt why guest config v old new
+-- Where memory has failed a call, it was wanted for the next step of the process that is then
+-- shown, or to keep its answer.
+abbrev pub WantedMemory : {T : Type 0} → Result T WorkFault → Guest → ProcessValue → Type 0
+WantedMemory (Err (Work slice.Memory)) guest v = NeedsMemory guest v
+WantedMemory other guest v = Unit {0}
 
 -- ---- a call
 
@@ -158,8 +148,7 @@ ActCarries act exchanges old result new disk disk' =
     (m : Module) (config : Settings) (guest : Guest) (promise : Promise) (stage : Stage)
     (p : ProcessState) (acts : List Act) → IsOpenOn m config guest promise stage p old disk
     → stage.acts ≡ act ∷ acts → IsForetold stage exchanges
-    → (reply : Reply) × IsReplyTo act result reply
-    × HasCauseOf result guest config new.process disk disk'
+    → (reply : Reply) × IsReplyTo act result reply × WantedMemory result guest new.process
     × CallCarries (invocation m config guest act) promise stage reply new disk disk' exchanges
 
 -- a checkpoint and an upgrade ask no source, and tell no line

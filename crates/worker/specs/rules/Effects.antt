@@ -1,6 +1,5 @@
 -- What becomes of a worker and of its disk by each of its calls (this project's own).
-use Rattle.std.specs.Prelude.{◌≡◌, ◌≢◌, ◌⊎◌, ℕ, ◌≤◌, false, true, Result, IfErr, IfOk, OnErr}
-use Rattle.std.specs.Prelude.{OnOk, []}
+use Rattle.std.specs.Prelude.{◌≡◌, ◌≢◌, ℕ, ◌≤◌, false, true, Result, IfErr, IfOk, OnErr, OnOk, []}
 use Rattle.process.specs.rules.Values.{IsProcess}
 use Rattle.sector_disk.specs.rules.Medium.{Medium, CallsUpTo}
 use Rattle.disk_layout.specs.rules.Places.{total_sectors}
@@ -13,8 +12,7 @@ use Rattle.worker_store.specs.restart_theorem.Lives.Act.{Upgrade as upgrading}
 use Rattle.worker.specs.declared.fault.WorkFault.{WorkFault}
 use Rattle.worker.specs.declared.recover_fault.RecoverFault.{RecoverFault}
 use Rattle.worker.specs.rules.CallCounts.{most_recovering, most_saving}
-use Rattle.worker.specs.rules.Checkpoints.{CheckpointCalls, CheckpointFails, HasCheckpointCause}
-use Rattle.worker.specs.rules.Checkpoints.{IsSavedIn}
+use Rattle.worker.specs.rules.Checkpoints.{CheckpointCalls, HasCheckpointCause, IsSavedIn}
 use Rattle.worker.specs.rules.DurableCalls.{ActCarries, CallKeeps}
 use Rattle.worker.specs.rules.DurableFailures.{HasSliceCause, SlicesOnDiskInVain}
 use Rattle.worker.specs.rules.DurableValues.{DurableValue, without_disk}
@@ -24,8 +22,8 @@ use Rattle.worker.specs.rules.ShownDisks.{Recovers}
 use Rattle.worker.specs.rules.Scenes.{Scene, ports_of}
 use Rattle.worker.specs.rules.SliceCalls.{SliceCalls}
 use Rattle.worker.specs.rules.Unsynced.{CountsInRecovery, CountsInSlice}
-use Rattle.worker.specs.rules.Upgrades.{EndsInTwo, HasUpgradeCause, IsUpgradedIn, UpgradeCalls}
-use Rattle.worker.specs.rules.Upgrades.{UpgradeFails, upgraded}
+use Rattle.worker.specs.rules.Upgrades.{EndsInTwo, HasUpgradeCause, IsUpgradedIn, LeavesProcess}
+use Rattle.worker.specs.rules.Upgrades.{UpgradeCalls}
 
 -- A recovery: the worker that the disk stands for goes on.
 pub record RecoversWorker {D O : Type 0} (medium : D → Medium) (takes : Taking O)
@@ -89,6 +87,8 @@ pub record RunsSlice {D S O : Type 0} (medium : D → Medium) (gives : Giving S)
 -- What each call keeps that saves a worker: a checkpoint, or an upgrade.
 pub record KeepsInSaving (before after : DurableValue) (result : Result (Unit {0}) WorkFault)
     (old new : Medium) : Type 0 where
+  -- until a call has failed the worker shows a process, whose numbers can be counted
+  pub shows : before.has_failed ≡ false → IsProcess before.process
   -- after an error the worker has failed, and its generation is as it was
   pub fails : OnErr result (after.has_failed ≡ true)
   pub unsaved : OnErr result
@@ -113,8 +113,7 @@ pub record SavesWorker (before after : DurableValue) (result : Result (Unit {0})
   pub keeps : KeepsInSaving before after result old new
   -- its calls are those of a barrier, and then those of a commit; after an error these are begun
   pub calls : CheckpointCalls before result old new
-  -- each error has its cause, of a worker that is open on the disk and of any other
-  pub cause : IfErr result (λ e. CheckpointFails before old new e)
+  -- whatever is on the disk, each error has its cause
   pub on_any_disk : IfErr result (λ e. HasCheckpointCause before old new e)
 
 -- An upgrade: the process is saved in version 2, as a snapshot of the next generation.
@@ -127,11 +126,9 @@ pub record UpgradesWorker (before after : DurableValue) (result : Result (Unit {
   pub ends : OnOk result (EndsInTwo before old new)
   -- the process is in version 2, and else as it was; after an error it may be
   pub done : OnOk result (IsUpgradedIn before after)
-  pub after_fault : OnErr result ((after.process ≡ before.process)
-      ⊎ (after.process ≡ upgraded before.process))
+  pub leaves : IfErr result (λ e. LeavesProcess before e after.process)
   pub keeps : KeepsInSaving before after result old new
   -- its calls are those of a barrier, and then those of a commit; after an error these are begun
   pub calls : UpgradeCalls before result old new
-  -- each error has its cause, of a worker that is open on the disk and of any other
-  pub cause : IfErr result (λ e. UpgradeFails before after.process old new e)
+  -- whatever is on the disk, each error has its cause
   pub on_any_disk : IfErr result (λ e. HasUpgradeCause before old new e)

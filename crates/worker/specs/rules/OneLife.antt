@@ -1,6 +1,8 @@
 -- The calls of one life, each as its clause says (this project's own).
 use Rattle.std.specs.Prelude.{◌≡◌, ℕ, List, [], ◌∷◌, Option, Some, None, Result, Ok, Err, IfErr}
+use Rattle.std.specs.Prelude.{false}
 use Rattle.wasi_abi.specs.rules.Configs.{Settings}
+use Rattle.process.specs.rules.Values.{IsProcess}
 use Rattle.state_image.specs.rules.ProcessImage.{Saved}
 use Rattle.state_image.specs.rules.Saving.{saved_of}
 use Rattle.sector_disk.specs.rules.DiskImage.{DiskImage}
@@ -16,9 +18,10 @@ use Rattle.worker.specs.declared.recover_fault.RecoverFault.{RecoverFault}
 use Rattle.worker.specs.declared.recover_fault.RecoverFault.TheVariants as recover
 use Rattle.worker.specs.rules.DurableValues.{DurableValue}
 use Rattle.worker.specs.rules.DurableCalls.{Answered, CallKeeps, ComesOf}
-use Rattle.worker.specs.rules.Checkpoints.{CheckpointFails}
-use Rattle.worker.specs.rules.Upgrades.{UpgradeFails}
+use Rattle.worker.specs.rules.Checkpoints.{HasCheckpointCause}
+use Rattle.worker.specs.rules.Upgrades.{HasUpgradeCause, LeavesProcess}
 use Rattle.worker.specs.rules.DurableCreations.{CreationKeeps, IsNotCreatedOn}
+use Rattle.worker.specs.rules.DurableFailures.{HasSliceCause}
 use Rattle.worker.specs.rules.RecoverFaults.{LayerWantsMemory}
 use Rattle.worker.specs.rules.Recoveries.{SaysNoWorker, RecoveryCarries}
 use Rattle.worker.specs.rules.ShownDisks.{Recovers}
@@ -27,12 +30,20 @@ use Rattle.worker.specs.rules.Scenes.{surroundings_of}
 
 -- ---- the calls of a life
 
--- A checkpoint and an upgrade also say why they fail.
-abbrev pub FailsBy : Act → DurableValue → WorkFault → DurableValue → Medium → Medium → Type 0
-FailsBy (Slice fuel) old why new disk disk' = Unit {0}
-FailsBy (Batch fuel most) old why new disk disk' = Unit {0}
-FailsBy Checkpoint old why new disk disk' = CheckpointFails old disk disk' why
-FailsBy Upgrade old why new disk disk' = UpgradeFails old new.process disk disk' why
+-- When each error of a call comes, whatever is on the disk. An upgrade also says what it leaves.
+abbrev pub HasActCause : Act → DurableValue → WorkFault → DurableValue → Medium → Medium → Type 0
+HasActCause (Slice fuel) old why new disk disk' = HasSliceCause old disk disk' why
+HasActCause (Batch fuel most) old why new disk disk' = HasSliceCause old disk disk' why
+HasActCause Checkpoint old why new disk disk' = HasCheckpointCause old disk disk' why
+HasActCause Upgrade old why new disk disk' =
+    HasUpgradeCause old disk disk' why × LeavesProcess old why new.process
+
+-- a call of this act fails
+pub record FailsBy (act : Act) (old : DurableValue) (why : WorkFault) (new : DurableValue)
+    (disk disk' : Medium) : Type 0 where
+  -- until a call has failed the worker shows a process, whose numbers can be counted
+  pub shows : old.has_failed ≡ false → IsProcess old.process
+  pub cause : HasActCause act old why new disk disk'
 
 -- Slices, batches, checkpoints and upgrades of a worker that is open, one after another, each as
 -- its clause says. After an error there is no other one. What is then still to be done, or that

@@ -1,7 +1,9 @@
 -- What an upgrade does to a worker and its disk: how a worker of version 1 becomes one of version 2
 -- (this project's own).
-use Rattle.std.specs.Prelude.{◌≡◌, ◌⊎◌, ℕ, ◌+◌, false, [], ◌∷◌, ◌++◌, take, Result, Err}
+use Rattle.std.specs.Prelude.{◌≡◌, ◌⊎◌, ℕ, ◌+◌, ◌*◌, ◌<◌, false, [], ◌∷◌, ◌++◌, length, take}
+use Rattle.std.specs.Prelude.{Result, Err}
 use Rattle.wasm_syntax.specs.declared.module.Module.{Module}
+use Rattle.wasi_abi.specs.declared.numbers.TheConstants.{NUMBERS_END}
 use Rattle.wasi_abi.specs.declared.version.Version.{Version}
 use Rattle.wasi_abi.specs.declared.version.Version.TheVariants.{One, Two}
 use Rattle.wasi_abi.specs.rules.Configs.{Settings}
@@ -9,6 +11,9 @@ use Rattle.wasi_calls.specs.rules.Held.{held_widened}
 use Rattle.process_rules.specs.Processes.{ProcessState, Guest}
 use Rattle.process_rules.specs.Runs.{Wider, widened, Runs}
 use Rattle.process.specs.rules.Values.{ProcessValue, ShowsProcess}
+use Rattle.state_image.specs.rules.ProcessImage.{process_image}
+use Rattle.state_image.specs.rules.Saving.{saved_of}
+use Rattle.sector_disk.specs.declared.sector.TheConstants.{SECTOR_SIZE}
 use Rattle.sector_disk.specs.rules.DiskImage.{DiskImage}
 use Rattle.sector_disk.specs.rules.Medium.{Medium, LeavesOnly}
 use Rattle.disk_layout.specs.rules.Journal.{TakesRecords}
@@ -16,12 +21,13 @@ use Rattle.journal.specs.rules.Steps.{barrier_calls}
 use Rattle.worker_store.specs.restart_theorem.Stands.{StandsFor}
 use Rattle.worker_store.specs.restart_theorem.Courses.{Stage}
 use Rattle.worker_store.specs.restart_theorem.Promises.{Promise, HoldsAll}
+use Rattle.worker_store.specs.declared.fault.StoreFault.TheVariants as store
 use Rattle.worker.specs.declared.fault.WorkFault.{WorkFault}
-use Rattle.worker.specs.declared.fault.WorkFault.TheVariants.{Disk, Upgrade}
+use Rattle.worker.specs.declared.fault.WorkFault.TheVariants.{Disk, Store, Upgrade}
 use Rattle.worker.specs.declared.upgrade_fault.UpgradeFault.{UpgradeFault}
 use Rattle.worker.specs.declared.upgrade_fault.UpgradeFault.TheVariants.{JournalTooSmall}
 use Rattle.worker.specs.declared.upgrade_fault.UpgradeFault.TheVariants.{NotCaughtUp}
-use Rattle.worker.specs.rules.Checkpoints.{CheckpointCalls, HasCheckpointCause, IsCheckpointFault}
+use Rattle.worker.specs.rules.Checkpoints.{CheckpointCalls, HasCheckpointCause}
 use Rattle.worker.specs.rules.DurableValues.{DurableValue}
 use Rattle.worker.specs.rules.OpenWorkers.{IsOpenOn}
 
@@ -81,28 +87,20 @@ RefusesUpgrade old result new disk disk' =
     (why : UpgradeFault) → old.has_failed ≡ false → IsInTheWay why old
     → (result ≡ Err (Upgrade why)) × (new.process ≡ old.process) × (disk' ≡ disk)
 
--- When each error comes of a worker that is open: of these two, first the first one; else as of a
--- checkpoint. No memory is taken.
-abbrev pub IsUpgradeFault : DurableValue → Medium → Medium → WorkFault → Type 0
-IsUpgradeFault w old new (Upgrade why) = IsInTheWay why w
-IsUpgradeFault w old new other = IsCheckpointFault w old new other
-
--- After an error the process is as it was. Only where the disk failed may it be widened.
-abbrev pub LeavesProcess : WorkFault → ProcessValue → ProcessValue → Type 0
-LeavesProcess (Disk fault) before after = (after ≡ before) ⊎ (after ≡ upgraded before)
-LeavesProcess other before after = after ≡ before
-
--- so it is whatever was promised of it
-abbrev pub UpgradeFails : DurableValue → ProcessValue → Medium → Medium → WorkFault → Type 0
-UpgradeFails w after old new fault =
-    (m : Module) (config : Settings) (guest : Guest) (promise : Promise) (stage : Stage)
-    (p : ProcessState) → IsOpenOn m config guest promise stage p w old
-    → IsUpgradeFault w old new fault × LeavesProcess fault w.process after
-
 -- When each error comes, whatever is on the disk: else as of a checkpoint in version 2.
 abbrev pub HasUpgradeCause : DurableValue → Medium → Medium → WorkFault → Type 0
 HasUpgradeCause w old new (Upgrade why) = IsInTheWay why w
 HasUpgradeCause w old new other = HasCheckpointCause (with_version_two w) old new other
+
+-- What each error leaves of the process, whatever is on the disk: as it was. It may be widened
+-- where the disk failed; or where its image is then longer than the area, and the next generation
+-- has a number.
+abbrev pub LeavesProcess : DurableValue → WorkFault → ProcessValue → Type 0
+LeavesProcess w (Disk fault) after = (after ≡ w.process) ⊎ (after ≡ upgraded w.process)
+LeavesProcess w (Store store.TooBig) after = (after ≡ w.process) ⊎ ((after ≡ upgraded w.process)
+    × (w.store.journal.generation + 1 < NUMBERS_END)
+    × (SECTOR_SIZE * w.store.geometry.area_sectors < length (process_image (saved_of after))))
+LeavesProcess w other after = after ≡ w.process
 
 -- ---- the disk
 

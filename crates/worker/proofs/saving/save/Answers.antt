@@ -3,8 +3,7 @@ use Rattle.std.proofs.lemmas.Result.{on_err_weaker, on_ok_weaker}
 use Rattle.sector_disk.proofs.Moments.{goes_on}
 use Rattle.worker_store.specs.declared.store.WorkerStore.{WorkerStore}
 use Rattle.worker.proofs.SavingLemmas.{barrier_saves, commit_saves, commit_saved}
-use Rattle.worker.proofs.SavingLemmas.{barrier_calls_begun, commit_calls_behind, barrier_fails}
-use Rattle.worker.proofs.SavingLemmas.{commit_fails, still_room}
+use Rattle.worker.proofs.SavingLemmas.{barrier_calls_begun, commit_calls_behind, still_room}
 use Rattle.worker.proofs.StoreTurnLemmas.{barrier_went, barrier_failed, commit_runs, saves_join}
 use Rattle.worker.proofs.StoreTurnLemmas.{barrier_save_cause, commit_save_cause}
 use Rattle.worker.proofs.saving.save.Goals as goal
@@ -19,11 +18,6 @@ returns-in-Err-clause-calls g c =
     let made = c.in-Err.ensures.stores.calls in
     barrier_calls_begun c.args.store.now c.args.process.now c.in-Err.fault
     (g.D.Disk.medium c.args.disk.now) (g.D.Disk.medium c.barrier.new.disk) made.begun
-
-pub returns-in-Err-clause-cause : goal.returns-in-Err-clause-cause
-returns-in-Err-clause-cause g c =
-    barrier_fails c.args.store.now c.args.process.now (g.D.Disk.medium c.args.disk.now)
-    (g.D.Disk.medium c.barrier.new.disk) c.in-Err.fault c.in-Err.ensures.stores.cause
 
 pub returns-clause-any_moment : goal.returns-clause-any_moment
 returns-clause-any_moment g c =
@@ -51,14 +45,6 @@ returns-clause-calls g c =
     (g.D.Disk.medium c.args.disk.now) (g.D.Disk.medium c.barrier.new.disk)
     (g.D.Disk.medium c.commit.new.disk) c.in_default.ensures.stores.stays made.all
     c.commit.ensures.commits.calls
-
-pub returns-clause-cause : goal.returns-clause-cause
-returns-clause-cause g c =
-    commit_fails c.args.store.now c.barrier.new.self c.args.process.now
-    (g.D.Disk.medium c.args.disk.now) (g.D.Disk.medium c.barrier.new.disk)
-    (g.D.Disk.medium c.commit.new.disk) c.in_default.ensures.stores.durable
-    c.in_default.ensures.stores.stays
-    c.in_default.ensures.stores.passes c.commit.result c.commit.ensures.commits.cause
 
 pub returns-clause-stays : goal.returns-clause-stays
 returns-clause-stays g c =

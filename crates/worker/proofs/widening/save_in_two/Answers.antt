@@ -9,9 +9,8 @@ use Rattle.worker.specs.Savings.{SaveCalls, HasSaveCause}
 use Rattle.worker.specs.rules.Upgrades.{upgraded}
 use Rattle.worker.specs.Upgrading.{AfterFault}
 use Rattle.worker.proofs.SavingLemmas.{barrier_saves, commit_saves, commit_saved}
-use Rattle.worker.proofs.SavingLemmas.{barrier_calls_begun, commit_calls_behind, barrier_fails}
-use Rattle.worker.proofs.SavingLemmas.{commit_fails, still_room}
-use Rattle.worker.proofs.SavingInTwoLemmas.{fault_same, fault_of_commit, late_fails, late_cause}
+use Rattle.worker.proofs.SavingLemmas.{barrier_calls_begun, commit_calls_behind, still_room}
+use Rattle.worker.proofs.SavingInTwoLemmas.{fault_same, fault_of_commit, late_cause}
 use Rattle.worker.proofs.SavingInTwoLemmas.{late_runs, bars_and_commits}
 use Rattle.worker.proofs.StoreTurnLemmas.{barrier_went, barrier_failed, commit_runs, saves_join}
 use Rattle.worker.proofs.StoreTurnLemmas.{barrier_save_cause, commit_save_cause}
@@ -37,11 +36,6 @@ returns-in-Err-clause-calls g c =
     let made = c.in-Err.ensures.stores.calls in
     barrier_calls_begun c.args.store.now (upgraded c.args.process.now) c.in-Err.fault
     (g.D.Disk.medium c.args.disk.now) (g.D.Disk.medium c.barrier.new.disk) made.begun
-
-pub returns-in-Err-clause-cause : goal.returns-in-Err-clause-cause
-returns-in-Err-clause-cause g c =
-    barrier_fails c.args.store.now c.args.process.now (g.D.Disk.medium c.args.disk.now)
-    (g.D.Disk.medium c.barrier.new.disk) c.in-Err.fault c.in-Err.ensures.stores.cause
 
 pub returns-in-Err-clause-runs : goal.returns-in-Err-clause-runs
 returns-in-Err-clause-runs g c =
@@ -80,14 +74,6 @@ returns-in-Err-widen-clause-calls g c =
     let made = c.in_default.ensures.stores.calls in
     barrier_calls_begun c.args.store.now (upgraded c.args.process.now) c.in-Err-widen.fault
     (g.D.Disk.medium c.args.disk.now) (g.D.Disk.medium c.barrier.new.disk) made.begun
-
-pub returns-in-Err-widen-clause-cause : goal.returns-in-Err-widen-clause-cause
-returns-in-Err-widen-clause-cause g c =
-    late_fails c.args.store.now c.barrier.new.self c.widen.new.process
-    (g.D.Disk.medium c.args.disk.now) (g.D.Disk.medium c.barrier.new.disk) c.generation.result
-    c.generation.ensures c.in_default.ensures.stores.stays c.in-Err-widen.ensures.late
-    c.in-Err-widen.fault
-    c.in-Err-widen.ensures.fails
 
 pub returns-in-Err-widen-clause-runs : goal.returns-in-Err-widen-clause-runs
 returns-in-Err-widen-clause-runs g c =
@@ -169,14 +155,6 @@ returns-clause-calls g c =
     c.commit.result (g.D.Disk.medium c.args.disk.now) (g.D.Disk.medium c.barrier.new.disk)
     (g.D.Disk.medium c.commit.new.disk) c.in_default.ensures.stores.stays made.all
     c.commit.ensures.commits.calls)
-
-pub returns-clause-cause : goal.returns-clause-cause
-returns-clause-cause g c =
-    commit_fails c.args.store.now c.barrier.new.self c.widen.new.process
-    (g.D.Disk.medium c.args.disk.now) (g.D.Disk.medium c.barrier.new.disk)
-    (g.D.Disk.medium c.commit.new.disk) c.in_default.ensures.stores.durable
-    c.in_default.ensures.stores.stays
-    c.in_default.ensures.stores.passes c.commit.result c.commit.ensures.commits.cause
 
 pub returns-clause-runs : goal.returns-clause-runs
 returns-clause-runs g c =

@@ -98,7 +98,7 @@ returns g c =
           (batch_fails g.D.Disk.medium g.S.Source.gives g.O.Outlet.takes running new replayed
           c.args.watched.fuel c.args.most c.args.disk.now c.tell_rest.new.disk c.args.source.now
           c.work_in_batch-worked.new.source c.args.outlet.now c.tell_rest.new.outlet
-          c.fail.new.self c.in-Err.fault finished.over);
+          c.fail.new.self c.in-Err.fault finished.failed finished.over);
       failed = λ works. subst (λ (v : DurableValue). BatchFails g.S.Source.gives g.O.Outlet.takes
           v.process c.args.watched.fuel c.in-Err.fault new.process
           (ports c.args.source.now c.args.outlet.now)

@@ -1,8 +1,8 @@
-use Rattle.std.proofs.Common.{sym, ◌∙◌, ap, subst}
+use Rattle.std.proofs.Common.{◌≡◌, false, sym, ◌∙◌, ap, subst}
+use Rattle.process.specs.rules.Values.{IsProcess}
 use Rattle.worker.specs.rules.DurableValues.{DurableValue}
-use Rattle.worker.proofs.CheckpointLemmas.{done_keeps, fault_keeps, fault_cause, room_for}
-use Rattle.worker.proofs.CheckpointLemmas.{room_after, saved_in, cause_on_any_disk, works_inside}
-use Rattle.worker.proofs.CheckpointLemmas.{calls_err, calls_ok}
+use Rattle.worker.proofs.CheckpointLemmas.{done_keeps, fault_keeps, room_for, room_after, saved_in}
+use Rattle.worker.proofs.CheckpointLemmas.{cause_on_any_disk, works_inside, calls_err, calls_ok}
 use Rattle.worker.specs.rules.Unsynced.{CountsInSlice}
 use Rattle.worker.proofs.durable.Worker.checkpoint_within.Goals as goal
 
@@ -25,10 +25,12 @@ returns-in-Err g c =
           c.args.self.now c.self.view_is c.args.disk.now c.save-saved.new.disk
           c.process_images_fit_areas.ensures shows c.save-saved.new.store
           c.in-Err.ensures.any_moment c.in-Err.ensures.asks c.in-Err.fault c.from.result
-          c.from.ensures c.in-Err.ensures.cause;
+          c.from.ensures c.in-Err.ensures.on_any_disk;
       saved = tt;
       process = ap (λ (w : DurableValue). w.process) c.self.view_is;
       keeps = record {
+        shows = subst (λ (w : DurableValue). w.has_failed ≡ false → IsProcess w.process)
+            c.self.view_is durable.shows;
         fails = c.in-Err.ensures.fails;
         unsaved = c.in-Err.ensures.unnumbered
             ∙ ap (λ (w : DurableValue). w.store.journal.generation) c.self.view_is;
@@ -44,11 +46,6 @@ returns-in-Err g c =
       calls = calls_err g.D.Disk.medium running c.self.inside.replayed
           c.args.self.now c.self.view_is c.args.disk.now
           c.save-saved.new.disk c.in-Err.fault c.from.result c.in-Err.ensures.calls;
-      cause = fault_cause g.D.Disk.medium running c.self.inside.replayed
-          c.args.self.now c.self.view_is c.args.disk.now
-          c.save-saved.new.disk c.process_images_fit_areas.ensures shows
-          c.save-saved.new.store c.in-Err.ensures.any_moment c.in-Err.ensures.asks
-          c.in-Err.fault c.from.result c.from.ensures c.in-Err.ensures.cause;
       on_any_disk = cause_on_any_disk g.D.Disk.medium running c.self.inside.replayed
           c.args.self.now c.self.view_is c.args.disk.now
           c.save-saved.new.disk c.in-Err.fault c.from.result c.from.ensures
@@ -74,6 +71,8 @@ returns g c =
           c.save-saved.new.store c.in_default.ensures.numbered (runs.works before ∙ sym before);
       process = ap (λ (w : DurableValue). w.process) c.self.view_is;
       keeps = record {
+        shows = subst (λ (w : DurableValue). w.has_failed ≡ false → IsProcess w.process)
+            c.self.view_is durable.shows;
         fails = tt;
         unsaved = tt;
         replayed = ap (λ (w : DurableValue). w.replayed) c.self.view_is;
@@ -88,6 +87,5 @@ returns g c =
       calls = calls_ok g.D.Disk.medium running c.self.inside.replayed
           c.args.self.now c.self.view_is c.args.disk.now
           c.save-saved.new.disk tt c.in_default.ensures.calls;
-      cause = tt;
       on_any_disk = tt;
     }

@@ -55,7 +55,7 @@ returns-in-Err g c =
           (slice_fails g.D.Disk.medium g.S.Source.gives g.O.Outlet.takes running new replayed
           c.args.fuel c.args.disk.now c.work.new.disk c.args.source.now c.work.new.source
           c.args.outlet.now c.work.new.outlet c.fail.new.self c.in-Err.fault
-          c.in-Err.ensures.works);
+          c.in-Err.ensures.failed c.in-Err.ensures.works);
       failed = λ works. subst (λ (v : DurableValue). SlicesOnDiskInVain g.S.Source.gives
           g.O.Outlet.takes v.process c.args.fuel c.in-Err.fault new.process
           (ports c.args.source.now c.args.outlet.now)

@@ -1,4 +1,5 @@
-use Rattle.std.proofs.Common.{◌≤◌, sym, ◌∙◌, ap, subst, refl, inl, Err}
+use Rattle.std.proofs.Common.{◌≡◌, ◌≤◌, false, sym, ◌∙◌, ap, subst, refl, Err}
+use Rattle.process.specs.rules.Values.{IsProcess}
 use Rattle.disk_layout.specs.rules.Places.{total_sectors}
 use Rattle.worker_store.specs.declared.store.WorkerStore.{WorkerStore}
 use Rattle.worker.specs.declared.fault.WorkFault.TheVariants.{Upgrade}
@@ -12,9 +13,9 @@ use Rattle.worker.proofs.RecoveryCallLemmas.{none_called}
 use Rattle.worker.proofs.TurnCounts.{counts_none}
 use Rattle.worker.proofs.UpgradeLemmas.{no_upgrade_calls}
 use Rattle.worker.proofs.UpgradeTestLemmas.{is_said, nothing_is, refusal_cause}
-use Rattle.worker.proofs.UpgradeViews.{refused_carries, refused_fails, migrates_so, ends_so}
-use Rattle.worker.proofs.UpgradeViews.{done_carries, fault_carries, fault_fails, upgraded_so}
-use Rattle.worker.proofs.UpgradeViews.{faults_so, calls_err_so, calls_ok_so, cause_so}
+use Rattle.worker.proofs.UpgradeViews.{refused_carries, migrates_so, ends_so, done_carries}
+use Rattle.worker.proofs.UpgradeViews.{fault_carries, leaves_so, upgraded_so, calls_err_so}
+use Rattle.worker.proofs.UpgradeViews.{calls_ok_so, cause_so}
 use Rattle.worker.proofs.durable.Worker.upgrade_within.Goals as goal
 
 -- ---- it has failed before
@@ -34,8 +35,10 @@ returns-in-Err-clause-upgrades g c =
           c.in-Err.ensures.refused c.process_images_fit_areas.ensures refl;
       ends = tt;
       done = tt;
-      after_fault = inl (ap (λ (v : DurableValue). v.process) c.self.view_is);
+      leaves = ap (λ (v : DurableValue). v.process) c.self.view_is;
       keeps = record {
+        shows = subst (λ (v : DurableValue). v.has_failed ≡ false → IsProcess v.process)
+            c.self.view_is durable.shows;
         fails = ap (λ (t : WorkerStore). t.journal.has_failed) c.fail.ensures;
         unsaved = ap (λ (t : WorkerStore). t.journal.generation) c.fail.ensures
             ∙ ap (λ (v : DurableValue). v.store.journal.generation) c.self.view_is;
@@ -48,9 +51,6 @@ returns-in-Err-clause-upgrades g c =
         counts = counts_none w.store.geometry disk;
       };
       calls = no_upgrade_calls w (Upgrade c.in-Err.fault) disk;
-      cause = refused_fails g.D.Disk.medium running after replayed w c.self.view_is
-          c.args.disk.now c.args.disk.now shows c.in-Err.fault
-          c.in-Err.ensures.refused refl;
       on_any_disk = refusal_cause running w replayed c.self.view_is c.in-Err.fault
           c.in-Err.ensures.refused disk disk;
     }
@@ -90,19 +90,22 @@ returns-in-Err-saved-clause-upgrades g c =
     let disk = g.D.Disk.medium c.args.disk.now in
     let disk' = g.D.Disk.medium c.save_in_two-saved.new.disk in
     let durable = c.self.invariant in
-    let shows = durable.shows (works_inside c.self.view_is c.requires.works) in
+    let before = works_inside c.self.view_is c.requires.works in
     let saved = c.in-Err-saved.ensures in
     let runs = c.in-Err-saved.ensures.runs in
     record {
       carries = fault_carries g.D.Disk.medium running after replayed w c.self.view_is
-          c.args.disk.now c.save_in_two-saved.new.disk shows
+          c.args.disk.now c.save_in_two-saved.new.disk (durable.shows before)
           c.process_images_fit_areas.ensures c.in_default.ensures.may saved.any_moment saved.asks
-          c.in-Err-saved.fault c.from.result c.from.ensures saved.cause saved.after_fault;
+          c.in-Err-saved.fault c.from.result c.from.ensures saved.on_any_disk saved.after_fault;
       ends = tt;
       done = tt;
-      after_fault = faults_so running after replayed w c.self.view_is c.in-Err-saved.fault
-          saved.after_fault;
+      leaves = leaves_so running replayed w c.self.view_is disk disk'
+          c.save_in_two-saved.new.process c.in-Err-saved.fault c.from.result c.from.ensures before
+          saved.on_any_disk saved.after_fault;
       keeps = record {
+        shows = subst (λ (v : DurableValue). v.has_failed ≡ false → IsProcess v.process)
+            c.self.view_is durable.shows;
         fails = ap (λ (t : WorkerStore). t.journal.has_failed) c.fail-in-Err-saved.ensures;
         unsaved = ap (λ (t : WorkerStore). t.journal.generation) c.fail-in-Err-saved.ensures
             ∙ saved.unnumbered
@@ -118,10 +121,6 @@ returns-in-Err-saved-clause-upgrades g c =
       };
       calls = calls_err_so running replayed w c.self.view_is disk disk' c.in-Err-saved.fault
           c.from.result saved.calls;
-      cause = fault_fails g.D.Disk.medium running after replayed w c.self.view_is
-          c.args.disk.now c.save_in_two-saved.new.disk shows
-          c.process_images_fit_areas.ensures c.in_default.ensures.may saved.any_moment saved.asks
-          c.in-Err-saved.fault c.from.result c.from.ensures saved.cause saved.after_fault;
       on_any_disk = cause_so running replayed w c.self.view_is disk disk' c.in-Err-saved.fault
           c.from.result c.from.ensures saved.on_any_disk;
     }
@@ -170,8 +169,10 @@ returns-clause-upgrades g c =
           c.process_images_fit_areas.ensures c.in_default.ensures.may saved.durable saved.done;
       done = upgraded_so running after replayed w c.self.view_is saved.done refl saved.numbered
           (runs.works before ∙ sym before);
-      after_fault = tt;
+      leaves = tt;
       keeps = record {
+        shows = subst (λ (v : DurableValue). v.has_failed ≡ false → IsProcess v.process)
+            c.self.view_is durable.shows;
         fails = tt;
         unsaved = tt;
         replayed = ap (λ (v : DurableValue). v.replayed) c.self.view_is;
@@ -183,7 +184,6 @@ returns-clause-upgrades g c =
             c.self.view_is runs.counts;
       };
       calls = calls_ok_so running replayed w c.self.view_is disk disk' tt saved.calls;
-      cause = tt;
       on_any_disk = tt;
     }
 

@@ -10,7 +10,7 @@ returns-in_err-save-clause-unmade g c =
     let p = err_from_is_err_and c.from_residual.result c.from_residual.ensures.1 in
     rw (p.1, p.2) (makes_no_room g.D.Disk.medium c.args.self.now c.save.new.store c.args.disk.now
     c.save.new.disk c.process_images_fit_areas.ensures c.requires.shown
-    c.in_err-save.ensures.any_moment c.in_err-save.field-0.0 c.in_err-save.ensures.cause
+    c.in_err-save.ensures.any_moment c.in_err-save.field-0.0 c.in_err-save.ensures.on_any_disk
     (λ room. absurd (let test = c.if-room-longest_record.false in let is = c.room.ensures in
     let long = c.longest_record.ensures
     ∙ ap (λ v. longest_record v) c.version-version.ensures in omega (arith, test, is, long, room))))

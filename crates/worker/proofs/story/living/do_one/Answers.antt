@@ -13,7 +13,8 @@ pub returns-in-Err-clause-does : goal.returns-in-Err-clause-does
 returns-in-Err-clause-does g c =
     let runs = c.in-Err.ensures.runs c.requires in
     rw c.in-Slice.is (call_fails g.D.Disk.medium g.S.Source.gives g.O.Outlet.takes
-    (Slice c.in-Slice.fuel) _ _ _ _ _ _ _ _ c.in-Err.fault runs.carries tt)
+    (Slice c.in-Slice.fuel) _ _ _ _ _ _ _ _ c.in-Err.fault runs.carries
+    (record { shows = runs.steps.shows; cause = runs.steps.on_any_disk }))
 
 pub returns-in-Ok-batch-clause-does : goal.returns-in-Ok-batch-clause-does
 returns-in-Ok-batch-clause-does g c =
@@ -25,7 +26,8 @@ pub returns-in-Err-batch-clause-does : goal.returns-in-Err-batch-clause-does
 returns-in-Err-batch-clause-does g c =
     let runs = c.in-Err-batch.ensures.runs c.requires in
     rw c.in-Batch.is (call_fails g.D.Disk.medium g.S.Source.gives g.O.Outlet.takes
-    (Batch c.in-Batch.fuel c.in-Batch.most) _ _ _ _ _ _ _ _ c.in-Err-batch.fault runs.carries tt)
+    (Batch c.in-Batch.fuel c.in-Batch.most) _ _ _ _ _ _ _ _ c.in-Err-batch.fault runs.carries
+    (record { shows = runs.steps.shows; cause = runs.steps.on_any_disk }))
 
 pub returns-in-Ok-checkpoint-clause-does : goal.returns-in-Ok-checkpoint-clause-does
 returns-in-Ok-checkpoint-clause-does g c =
@@ -38,7 +40,7 @@ returns-in-Err-checkpoint-clause-does g c =
     let saves = c.in-Err-checkpoint.ensures.saves c.requires in
     rw (c.in-Checkpoint.is, c.in-Err-checkpoint.ensures.quiet) (quiet_fails g.D.Disk.medium
     g.S.Source.gives g.O.Outlet.takes Checkpoint _ _ _ _ _ _ refl c.in-Err-checkpoint.fault
-    saves.carries saves.cause)
+    saves.carries (record { shows = saves.keeps.shows; cause = saves.on_any_disk }))
 
 pub returns-in-Ok-upgrade-clause-does : goal.returns-in-Ok-upgrade-clause-does
 returns-in-Ok-upgrade-clause-does g c =
@@ -51,4 +53,5 @@ returns-in-Err-upgrade-clause-does g c =
     let upgrades = c.in-Err-upgrade.ensures.upgrades c.requires in
     rw (c.in-Upgrade.is, c.in-Err-upgrade.ensures.quiet) (quiet_fails g.D.Disk.medium
     g.S.Source.gives g.O.Outlet.takes Upgrade _ _ _ _ _ _ refl c.in-Err-upgrade.fault
-    upgrades.carries upgrades.cause)
+    upgrades.carries
+    (record { shows = upgrades.keeps.shows; cause = (upgrades.on_any_disk, upgrades.leaves) }))
