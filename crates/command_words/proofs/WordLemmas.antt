@@ -5,4 +5,3 @@ pub mod Uses
 pub mod Lines
 pub mod Cuts
 pub mod Meets
-pub mod ExamplesHold

@@ -6,19 +6,13 @@
 //!   with numbers in their ranges; over a hundred command lines. What `--version` is told of the
 //!   program is `version_words` (`HasVersion`).
 
-ghost use Rattle.command_words.specs.laws.Examples.{CreateOrderExamples, HelpExamples};
-ghost use Rattle.command_words.specs.laws.Examples.{OptionMistakes, PathExamples, PathMistakes};
-ghost use Rattle.command_words.specs.laws.Examples.{RunOrderExamples, StoryOrderExamples};
-ghost use Rattle.command_words.specs.laws.Examples.{SweepOrderExamples};
+ghost use Rattle.command_words.specs.laws.Examples.{HelpExamples, MeaningExamples, OptionMistakes};
+ghost use Rattle.command_words.specs.laws.Examples.{PathMistakes};
 ghost use Rattle.command_words.specs.laws.Words.{FaultlessWordsMean};
 
 /// Command lines, and what they mean.
 pub fn worked_examples()
-    ensures paths { PathExamples }
-    ensures creations { CreateOrderExamples }
-    ensures runs { RunOrderExamples }
-    ensures stories { StoryOrderExamples }
-    ensures sweeps { SweepOrderExamples }
+    ensures meanings { MeaningExamples }
     ensures wrong_paths { PathMistakes }
     ensures wrong_options { OptionMistakes }
     ensures help { HelpExamples }

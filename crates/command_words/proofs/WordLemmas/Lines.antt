@@ -1,5 +1,5 @@
 -- Words for which no fault is listed name one of the eleven commands, with what it needs.
-use Rattle.std.proofs.Common.{◌≡◌, ◌<◌, ◌≤◌, ◌^◌, ℕ, Bool, ◌||◌, not, cond, true, false, arith}
+use Rattle.std.proofs.Common.{◌≡◌, ◌+◌, ◌<◌, ◌≤◌, ◌^◌, ℕ, Bool, ◌||◌, not, cond, true, false, arith}
 use Rattle.std.proofs.Common.{refl, sym, subst, List, [], ◌∷◌, Option, Some, None}
 use Rattle.std.proofs.Common.{codes, true≢false, ◌⊎◌, inl, inr}
 use Rattle.std.specs.List.{AllByRecursion as Each, find, fold}
@@ -70,11 +70,22 @@ abbrev AsksForPaths : Shape → Type 0
 AsksForPaths s = (rows : List Row) → Each IsGood rows → check_fault s rows false ≡ []
     → HasPaths s.name rows
 
+-- rows stay good by each use of the argument, and by what stands for it where there is none
+abbrev KeepsRows : Bool → Rule → Type 0
+KeepsRows again a = Keeps IsGood again a × HasGoodDefault a
+
+each_keeps : (again : Bool) (c : List Rule) → Each (KeepsRows again) c
+    → Each (Keeps IsGood again) c × Each HasGoodDefault c
+each_keeps again [] h = (tt, tt)
+each_keeps again (a ∷ c) h =
+    let later = each_keeps again c h.1 in ((h.0.0, later.0), (h.0.1, later.1))
+
 -- a subcommand for whose own words no fault is listed
-below_taken : (s : Shape) (words : List Text) → Each (Keeps IsGood s.args_override_self) s.rules
-    → Each HasGoodDefault s.rules → AsksForPaths s
-    → level_fault s [] nothing_held words false [] ≡ [] → IsTaken (rows_at s words)
-below_taken s words keeps plain asks e =
+below_taken : (s : Shape) (words : List Text) → level_fault s [] nothing_held words false [] ≡ []
+    → AsksForPaths s → Each (KeepsRows s.args_override_self) s.rules → IsTaken (rows_at s words)
+below_taken s words e asks each =
+    let keeps : Each (Keeps IsGood s.args_override_self) s.rules × Each HasGoodDefault s.rules =
+    each_keeps s.args_override_self s.rules each in
     let end : Held = (walk s.rules [] nothing_held words).held in
     let walks : walk_fault s [] (walk_from nothing_held) words ≡ [] =
     no_first (walk_fault s [] (walk_from nothing_held) words) _ e in
@@ -87,10 +98,10 @@ below_taken s words keeps plain asks e =
     no_second (defaults_fault (settled s.rules end).rows s.rules) _
     (no_second (settle_fault s.rules s.args_override_self end) _ after) in
     let good : Each IsGood (settled s.rules end).rows =
-    settled_good IsGood s.rules s.args_override_self keeps end settles
-    (walk_good IsGood s [] keeps (walk_from nothing_held) words walks tt) in
+    settled_good IsGood s.rules s.args_override_self keeps.0 end settles
+    (walk_good IsGood s [] keeps.0 (walk_from nothing_held) words walks tt) in
     let finished_good : Each IsGood (finished s.rules end) =
-    defaults_good s.rules (settled s.rules end).rows plain good in (
+    defaults_good s.rules (settled s.rules end).rows keeps.1 good in (
       asks (finished s.rules end) finished_good checks,
       options_are_taken (finished s.rules end) finished_good,
     )
@@ -111,11 +122,12 @@ wants_second : (a b : Bool)
 wants_second true b e = wants b e
 wants_second false b e = absurd (some_kind _ [] e)
 
--- the argument is there, where no fault is listed
-one_path : (name : Text) (rows : List Row) → Each IsGood rows
-    → cond (not (is_given name rows) || false) (kind.MissingRequiredArgument ∷ []) [] ≡ []
-    → is_some (first_of name rows) ≡ true
-one_path name rows good e = path_is_there name rows good (wants (is_given name rows) e)
+-- the argument of a command is there, where no fault is listed
+one_path : (name path : Text) (rows : List Row) → Each IsGood rows
+    → cond (not (is_given path rows) || false) (kind.MissingRequiredArgument ∷ []) [] ≡ []
+    → (name ≡ name) × (is_some (first_of path rows) ≡ true)
+one_path name path rows good e =
+    (refl, path_is_there path rows good (wants (is_given path rows) e))
 
 -- both arguments of a command are there
 two_paths : (name first second : Text) (rows : List Row) → Each IsGood rows
@@ -141,281 +153,125 @@ abbrev Leads : Text → List Text → Shape → Type 0
 Leads name words s = answers_to name (label_of s) ≡ true
     → level_fault s [] nothing_held words false [] ≡ [] → IsTaken (rows_at s words)
 
+-- what holds of the first member of a list, and of the others
+infixr 5 ◌&◌
+◌&◌ : {A B : Type 0} → A → B → A × B
+a & b = (a, b)
+
+-- one of the commands behind the first five
+after_five : {A B C D E F : Type 0} → F → A ⊎ (B ⊎ (C ⊎ (D ⊎ (E ⊎ F))))
+after_five x = inr (inr (inr (inr (inr x))))
+
 or_false : (b : Bool) → (b || false) ≡ true → b ≡ true
 or_false true e = refl
 or_false false e = e
 
 module _ (name : Text) (words : List Text) (no_help : bytes_eq name (codes "help") ≡ false) where
   each_leads : Each (Leads name words) app.subs
-  each_leads = (
-    λ here e. below_taken _ words (
-      keeps_path 1 (codes "MODULE") (λ v. tt),
-      (
-        keeps_number 2 (codes "pages") 0 (λ v is. is),
-        (keeps_flag 2 (codes "all") (inl refl), (keeps_help, tt)),
-      ),
-    )
-        (unused, (unused, (no_flag (codes "all") (inr refl), (unused, tt))))
-        (λ rows good e. inl (refl, one_path (codes "MODULE") rows good e)) e,
-    (
-      λ here e. below_taken _ words (
-        keeps_path 1 (codes "DISK") (λ v. tt),
-        (
-          keeps_path 2 (codes "MODULE") (λ v. tt),
-          (
-            keeps_number 3 (codes "pages") 0 (λ v is. is),
-            (
-              keeps_number 3 (codes "files") 0 (λ v is. is),
-              (
-                keeps_number 3 (codes "journal") 0
-                    (λ v is. is),
-                (
-                  keeps_env 3,
-                  (
-                    keeps_flag 3 (codes "device") (inl refl),
-                    (keeps_text 3 (codes "from") (λ v. tt), (keeps_help, tt)),
-                  ),
-                ),
-              ),
-            ),
-          ),
-        ),
-      ) (
-        unused,
-        (
-          unused,
-          (
-            unused,
-            (
-              unused,
-              (
-                unused,
-                (unused, (no_flag (codes "device") (inr refl), (unused, (unused, tt)))),
-              ),
-            ),
-          ),
-        ),
-      )
-          (λ rows good e. inr (inl (two_paths (codes "create") (codes "DISK") (codes "MODULE")
-          rows good e))) e,
-      (
-        λ here e. below_taken _ words (
-          keeps_path 1 (codes "DISK") (λ v. tt),
-          (
-            keeps_number 2 (codes "fuel") 1 (λ v is. is),
-            (
-              keeps_number 2 (codes "every") 1
-                  (λ v is. is),
-              (
-                keeps_range 2 (codes "batch") 1 65536 (λ v is. is),
-                (
-                  keeps_text 2 (codes "seed") (λ v. tt),
-                  (
-                    keeps_number 2 (codes "clock") 0 (λ v is. is),
-                    (
-                      keeps_flag 2 (codes "rewrite") (inl refl),
-                      (
-                        keeps_text 2 (codes "status") (λ v. tt),
-                        (
-                          keeps_text 2 (codes "metrics") (λ v. tt),
-                          (
-                            keeps_flag 2 (codes "verbose") (inl refl),
-                            (keeps_text 2 (codes "seed-file") (λ v. tt), (keeps_help, tt)),
-                          ),
-                        ),
-                      ),
-                    ),
-                  ),
-                ),
-              ),
-            ),
-          ),
-        ) (
-          unused,
-          (
-            unused,
-            (
-              unused,
-              (
-                unused,
-                (
-                  unused,
-                  (
-                    unused,
-                    (
-                      no_flag (codes "rewrite") (inr refl),
-                      (
-                        unused,
-                        (
-                          unused,
-                          (
-                            no_flag (codes "verbose") (inr refl),
-                            (unused, (unused, tt)),
-                          ),
-                        ),
-                      ),
-                    ),
-                  ),
-                ),
-              ),
-            ),
-          ),
-        )
-            (λ rows good e. inr (inr (inl (refl, one_path (codes "DISK") rows good e)))) e,
-        (
-          λ here e. below_taken _ words (
-            keeps_path 1 (codes "DISK") (λ v. tt),
-            (keeps_flag 2 (codes "live") (inl refl), (keeps_help, tt)),
-          )
-              (unused, (no_flag (codes "live") (inr refl), (unused, tt)))
-              (λ rows good e. inr (inr (inr (inl (refl, one_path (codes "DISK") rows good e))))) e,
-          (
-            λ here e. below_taken _ words (
-              keeps_path 1 (codes "DISK") (λ v. tt),
-              (
-                keeps_flag 2 (codes "json") (inl refl),
-                (keeps_flag 2 (codes "live") (inl refl), (keeps_help, tt)),
-              ),
-            ) (
-              unused,
-              (
-                no_flag (codes "json") (inr refl),
-                (no_flag (codes "live") (inr refl), (unused, tt)),
-              ),
-            )
-                (λ rows good e. inr (inr (inr (inr (inl (
-                  refl,
-                  one_path (codes "DISK") rows good
-                      e,
-                )))))) e,
-            (
-              λ here e. below_taken _ words (
-                keeps_path 1 (codes "DISK") (λ v. tt),
-                (
-                  keeps_last 2 (codes "PATH") (λ v. tt),
-                  (keeps_folder 3, (keeps_flag 3 (codes "live") (inl refl), (keeps_help, tt))),
-                ),
-              ) (
-                unused,
-                (unused, (unused, (no_flag (codes "live") (inr refl), (unused, tt)))),
-              )
-                  (λ rows good e. inr (inr (inr (inr (inr (inl (
-                    refl,
-                    one_path (codes "DISK") rows
-                        good e,
-                  ))))))) e,
-              (
-                λ here e. below_taken _ words (
-                  keeps_path 1 (codes "DISK") (λ v. tt),
-                  (
-                    keeps_flag 2 (codes "story") (inl refl),
-                    (keeps_flag 2 (codes "live") (inl refl), (keeps_help, tt)),
-                  ),
-                ) (
-                  unused,
-                  (
-                    no_flag (codes "story") (inr refl),
-                    (no_flag (codes "live") (inr refl), (unused, tt)),
-                  ),
-                )
-                    (λ rows good e. inr (inr (inr (inr (inr (inr (inl (
-                      refl,
-                      one_path (codes "DISK") rows good e,
-                    )))))))) e,
-                (
-                  λ here e. below_taken _ words (
-                    keeps_path 1 (codes "DISK") (λ v. tt),
-                    (keeps_help, tt),
-                  )
-                      (unused, (unused, tt))
-                      (λ rows good e. inr (inr (inr (inr (inr (inr (inr (inl (
-                        refl,
-                        one_path (codes "DISK") rows good e,
-                      ))))))))) e,
-                  (
-                    λ here e. below_taken _ words (
-                      keeps_path 1 (codes "DISK") (λ v. tt),
-                      (
-                        keeps_path 2 (codes "COPY") (λ v. tt),
-                        (keeps_flag 3 (codes "live") (inl refl), (keeps_help, tt)),
-                      ),
-                    ) (
-                      unused,
-                      (unused, (no_flag (codes "live") (inr refl), (unused, tt))),
-                    )
-                        (λ rows good e. inr (inr (inr (inr (inr (inr (inr (inr (inl (two_paths
-                        (codes "save") (codes "DISK") (codes "COPY") rows good e)))))))))) e,
-                    (
-                      λ here e. below_taken _ words (
-                        keeps_path 1 (codes "SCRIPT") (λ v. tt),
-                        (
-                          keeps_path 2 (codes "MODULE") (λ v. tt),
-                          (
-                            keeps_number 3 (codes "pages") 0 (λ v is. is),
-                            (
-                              keeps_number 3 (codes "files") 0 (λ v is. is),
-                              (keeps_number 3 (codes "journal") 0 (λ v is. is), (keeps_help, tt)),
-                            ),
-                          ),
-                        ),
-                      )
-                          (unused, (unused, (unused, (unused, (unused, (unused, tt))))))
-                          (λ rows good e. inr (inr (inr (inr (inr (inr (inr (inr (inr (inl
-                          (two_paths (codes "story") (codes "SCRIPT") (codes "MODULE") rows
-                          good e))))))))))) e,
-                      (
-                        λ here e. below_taken _ words (
-                          keeps_path 1 (codes "SCRIPT") (λ v. tt),
-                          (
-                            keeps_path 2 (codes "MODULE") (λ v. tt),
-                            (
-                              keeps_number 3 (codes "pages") 0 (λ v is. is),
-                              (
-                                keeps_number 3 (codes "files") 0 (λ v is. is),
-                                (
-                                  keeps_number 3 (codes "journal") 0 (λ v is. is),
-                                  (
-                                    keeps_text 3 (codes "fronts") (λ v. tt),
-                                    (
-                                      keeps_number 3 (codes "life") 1 (λ v is. is),
-                                      (keeps_help, tt),
-                                    ),
-                                  ),
-                                ),
-                              ),
-                            ),
-                          ),
-                        ) (
-                          unused,
-                          (
-                            unused,
-                            (
-                              unused,
-                              (
-                                unused,
-                                (unused, (unused, (unused, (unused, tt)))),
-                              ),
-                            ),
-                          ),
-                        )
-                            (λ rows good e. inr (inr (inr (inr (inr (inr (inr (inr (inr (inr
-                            (two_paths (codes "sweep") (codes "SCRIPT") (codes "MODULE") rows
-                            good e))))))))))) e,
-                        (
-                          λ here e. absurd (is_help (or_false (bytes_eq (codes "help") name) here)),
-                          tt,
-                        ),
-                      ),
-                    ),
-                  ),
-                ),
-              ),
-            ),
-          ),
-        ),
-      ),
-    ),
-  )
+  each_leads =
+      (λ here e. below_taken _ words e
+      (λ rows good e. inl (one_path (codes "check") (codes "MODULE") rows good e))
+      ((keeps_path 1 (codes "MODULE") (λ v. tt), unused)
+      & (keeps_number 2 (codes "pages") 0 (λ v is. is), unused)
+      & (keeps_flag 2 (codes "all") (inl refl), no_flag (codes "all") (inr refl))
+      & (keeps_help, unused)
+      & tt))
+      & (λ here e. below_taken _ words e
+      (λ rows good e. inr (inl
+      (two_paths (codes "create") (codes "DISK") (codes "MODULE") rows good e)))
+      ((keeps_path 1 (codes "DISK") (λ v. tt), unused)
+      & (keeps_path 2 (codes "MODULE") (λ v. tt), unused)
+      & (keeps_number 3 (codes "pages") 0 (λ v is. is), unused)
+      & (keeps_number 3 (codes "files") 0 (λ v is. is), unused)
+      & (keeps_number 3 (codes "journal") 0 (λ v is. is), unused)
+      & (keeps_env 3, unused)
+      & (keeps_flag 3 (codes "device") (inl refl), no_flag (codes "device") (inr refl))
+      & (keeps_text 3 (codes "from") (λ v. tt), unused)
+      & (keeps_help, unused)
+      & tt))
+      & (λ here e. below_taken _ words e
+      (λ rows good e. inr (inr (inl (one_path (codes "run") (codes "DISK") rows good e))))
+      ((keeps_path 1 (codes "DISK") (λ v. tt), unused)
+      & (keeps_number 2 (codes "fuel") 1 (λ v is. is), unused)
+      & (keeps_number 2 (codes "every") 1 (λ v is. is), unused)
+      & (keeps_range 2 (codes "batch") 1 65536 (λ v is. is), unused)
+      & (keeps_text 2 (codes "seed") (λ v. tt), unused)
+      & (keeps_number 2 (codes "clock") 0 (λ v is. is), unused)
+      & (keeps_flag 2 (codes "rewrite") (inl refl), no_flag (codes "rewrite") (inr refl))
+      & (keeps_text 2 (codes "status") (λ v. tt), unused)
+      & (keeps_text 2 (codes "metrics") (λ v. tt), unused)
+      & (keeps_flag 2 (codes "verbose") (inl refl), no_flag (codes "verbose") (inr refl))
+      & (keeps_text 2 (codes "seed-file") (λ v. tt), unused)
+      & (keeps_help, unused)
+      & tt))
+      & (λ here e. below_taken _ words e
+      (λ rows good e. inr (inr (inr (inl (one_path (codes "show") (codes "DISK") rows good e)))))
+      ((keeps_path 1 (codes "DISK") (λ v. tt), unused)
+      & (keeps_flag 2 (codes "live") (inl refl), no_flag (codes "live") (inr refl))
+      & (keeps_help, unused)
+      & tt))
+      & (λ here e. below_taken _ words e
+      (λ rows good e. inr (inr (inr (inr (inl
+      (one_path (codes "inspect") (codes "DISK") rows good e))))))
+      ((keeps_path 1 (codes "DISK") (λ v. tt), unused)
+      & (keeps_flag 2 (codes "json") (inl refl), no_flag (codes "json") (inr refl))
+      & (keeps_flag 2 (codes "live") (inl refl), no_flag (codes "live") (inr refl))
+      & (keeps_help, unused)
+      & tt))
+      & (λ here e. below_taken _ words e
+      (λ rows good e. after_five (inl (one_path (codes "files") (codes "DISK") rows good e)))
+      ((keeps_path 1 (codes "DISK") (λ v. tt), unused)
+      & (keeps_last 2 (codes "PATH") (λ v. tt), unused)
+      & (keeps_folder 3, unused)
+      & (keeps_flag 3 (codes "live") (inl refl), no_flag (codes "live") (inr refl))
+      & (keeps_help, unused)
+      & tt))
+      & (λ here e. below_taken _ words e
+      (λ rows good e. after_five (inr (inl
+      (one_path (codes "history") (codes "DISK") rows good e))))
+      ((keeps_path 1 (codes "DISK") (λ v. tt), unused)
+      & (keeps_flag 2 (codes "story") (inl refl), no_flag (codes "story") (inr refl))
+      & (keeps_flag 2 (codes "live") (inl refl), no_flag (codes "live") (inr refl))
+      & (keeps_help, unused)
+      & tt))
+      & (λ here e. below_taken _ words e
+      (λ rows good e. after_five (inr (inr (inl
+      (one_path (codes "upgrade") (codes "DISK") rows good e)))))
+      ((keeps_path 1 (codes "DISK") (λ v. tt), unused)
+      & (keeps_help, unused)
+      & tt))
+      & (λ here e. below_taken _ words e
+      (λ rows good e. after_five (inr (inr (inr (inl
+      (two_paths (codes "save") (codes "DISK") (codes "COPY") rows good e))))))
+      ((keeps_path 1 (codes "DISK") (λ v. tt), unused)
+      & (keeps_path 2 (codes "COPY") (λ v. tt), unused)
+      & (keeps_flag 3 (codes "live") (inl refl), no_flag (codes "live") (inr refl))
+      & (keeps_help, unused)
+      & tt))
+      & (λ here e. below_taken _ words e
+      (λ rows good e. after_five (inr (inr (inr (inr (inl
+      (two_paths (codes "story") (codes "SCRIPT") (codes "MODULE") rows good e)))))))
+      ((keeps_path 1 (codes "SCRIPT") (λ v. tt), unused)
+      & (keeps_path 2 (codes "MODULE") (λ v. tt), unused)
+      & (keeps_number 3 (codes "pages") 0 (λ v is. is), unused)
+      & (keeps_number 3 (codes "files") 0 (λ v is. is), unused)
+      & (keeps_number 3 (codes "journal") 0 (λ v is. is), unused)
+      & (keeps_help, unused)
+      & tt))
+      & (λ here e. below_taken _ words e
+      (λ rows good e. after_five (after_five
+      (two_paths (codes "sweep") (codes "SCRIPT") (codes "MODULE") rows good e)))
+      ((keeps_path 1 (codes "SCRIPT") (λ v. tt), unused)
+      & (keeps_path 2 (codes "MODULE") (λ v. tt), unused)
+      & (keeps_number 3 (codes "pages") 0 (λ v is. is), unused)
+      & (keeps_number 3 (codes "files") 0 (λ v is. is), unused)
+      & (keeps_number 3 (codes "journal") 0 (λ v is. is), unused)
+      & (keeps_text 3 (codes "fronts") (λ v. tt), unused)
+      & (keeps_number 3 (codes "life") 1 (λ v is. is), unused)
+      & (keeps_help, unused)
+      & tt))
+      & (λ here e. absurd (is_help (or_false (bytes_eq (codes "help") name) here)))
+      & tt
     where
       is_help : bytes_eq (codes "help") name ≡ true → ⊥
       is_help here =
@@ -494,32 +350,16 @@ check_has_numbers : (rows : List Row) (path : Text) → TakesOptions rows
 check_has_numbers rows path taken =
     (number_fits 0 256 (codes "pages") rows taken.pages (omega arith) (omega arith)).1
 
-create_has_numbers : (rows : List Row) (arguments : List Text) (disk path : Text)
-    → TakesOptions rows → NumbersFit (create (create_in rows arguments disk path))
-create_has_numbers rows arguments disk path taken =
-    let pages = number_fits 0 16 (codes "pages") rows taken.pages (omega arith) (omega arith) in
-    let files = number_fits 0 16 (codes "files") rows taken.files (omega arith) (omega arith) in
-    let journal =
-    number_fits 0 256 (codes "journal") rows taken.journal (omega arith) (omega arith) in
-    (pages.1, files.1, journal.1)
-
-story_has_numbers : (rows : List Row) (script path : Text) → TakesOptions rows
-    → NumbersFit (story (story_in rows script path))
-story_has_numbers rows script path taken =
-    let pages = number_fits 0 1 (codes "pages") rows taken.pages (omega arith) (omega arith) in
-    let files = number_fits 0 1 (codes "files") rows taken.files (omega arith) (omega arith) in
-    let journal =
-    number_fits 0 64 (codes "journal") rows taken.journal (omega arith) (omega arith) in
-    (pages.1, files.1, journal.1)
-
-sweep_has_numbers : (rows : List Row) (script path : Text) → TakesOptions rows
-    → NumbersFit (sweep (sweep_in rows script path))
-sweep_has_numbers rows script path taken =
-    let pages = number_fits 0 1 (codes "pages") rows taken.pages (omega arith) (omega arith) in
-    let files = number_fits 0 1 (codes "files") rows taken.files (omega arith) (omega arith) in
-    let journal =
-    number_fits 0 64 (codes "journal") rows taken.journal (omega arith) (omega arith) in
-    (pages.1, files.1, journal.1)
+-- the sizes of a worker, or what stands for them
+sizes_fit : (pages units sectors : ℕ) (rows : List Row) → TakesOptions rows
+    → pages + units + sectors < 2 ^ 64 → (number_or (codes "pages") pages rows < 2 ^ 64)
+    × (number_or (codes "files") units rows < 2 ^ 64)
+    × (number_or (codes "journal") sectors rows < 2 ^ 64)
+sizes_fit pages units sectors rows taken few = (
+  (number_fits 0 pages (codes "pages") rows taken.pages (omega arith) (omega arith)).1,
+  (number_fits 0 units (codes "files") rows taken.files (omega arith) (omega arith)).1,
+  (number_fits 0 sectors (codes "journal") rows taken.journal (omega arith) (omega arith)).1,
+)
 
 path_means : (means : Text → Meaning) (path : Option Text) → is_some path ≡ true
     → ((text : Text) → NumbersFit (means text)) → IsSomeAnd (option_map means path) NumbersFit
@@ -532,69 +372,43 @@ paths_mean : (means : Text → Text → Meaning) (disk path : Option Text) → i
 paths_mean means None path d e has = absurd (true≢false (sym d))
 paths_mean means (Some disk) path d e has = path_means (means disk) path e (has disk)
 
-scripts_mean : (arguments : List Text) (name : Text) (rows : List Row) → TakesOptions rows
-    → ((name ≡ codes "story") × (is_some (script_in rows) ≡ true)
-    × (is_some (module_in rows) ≡ true))
-    ⊎ ((name ≡ codes "sweep") × (is_some (script_in rows) ≡ true)
-    × (is_some (module_in rows) ≡ true))
-    → IsSomeAnd (meaning_below arguments (name, rows)) NumbersFit
-scripts_mean arguments name rows taken (inl p) =
-    subst (λ (t : Text). IsSomeAnd (meaning_below arguments (t, rows)) NumbersFit)
-    (sym p.0) (paths_mean (λ d path. story (story_in rows d path)) (script_in rows)
-    (module_in rows) p.1 p.2 (λ d path. story_has_numbers rows d path taken))
-scripts_mean arguments name rows taken (inr p) =
-    subst (λ (t : Text). IsSomeAnd (meaning_below arguments (t, rows)) NumbersFit)
-    (sym p.0) (paths_mean (λ d path. sweep (sweep_in rows d path)) (script_in rows)
-    (module_in rows) p.1 p.2 (λ d path. sweep_has_numbers rows d path taken))
+module _ (arguments : List Text) (rows : List Row) (options : TakesOptions rows) where
+  -- what the command of this name means has numbers that fit
+  abbrev Fits : Text → Type 0
+  Fits name = IsSomeAnd (meaning_below arguments (name, rows)) NumbersFit
 
-taken_means : (arguments : List Text) (name : Text) (rows : List Row) → IsTaken (name, rows)
-    → IsSomeAnd (meaning_below arguments (name, rows)) NumbersFit
-taken_means arguments name rows taken = elim taken.0 [
-  | inl p ↦ subst (λ (t : Text). IsSomeAnd (meaning_below arguments (t, rows)) NumbersFit)
-      (sym p.0) (path_means (λ path. check path (number_or (codes "pages") 256 rows)
-      (flag_in (codes "all") rows)) (module_in rows) p.1
-      (λ path. check_has_numbers rows path taken.1))
-  | inr others ↦ elim others [
-    | inl p ↦ subst (λ (t : Text). IsSomeAnd (meaning_below arguments (t, rows)) NumbersFit)
-        (sym p.0) (paths_mean (λ d path. create (create_in rows arguments d path)) (disk_in rows)
-        (module_in rows) p.1 p.2 (λ d path. create_has_numbers rows arguments d path taken.1))
-    | inr later ↦ elim later [
-      | inl p ↦ subst (λ (t : Text). IsSomeAnd (meaning_below arguments (t, rows)) NumbersFit)
-          (sym p.0) (path_means (λ path. run (run_in rows path)) (disk_in rows) p.1
-          (λ path. run_has_numbers rows path taken.1))
-      | inr last ↦ elim last [
-        | inl p ↦ subst (λ (t : Text). IsSomeAnd (meaning_below arguments (t, rows)) NumbersFit)
-            (sym p.0) (path_means (λ d. show d (live_in rows)) (disk_in rows) p.1 (λ path. tt))
-        | inr looks ↦ elim looks [
-          | inl p ↦ subst (λ (t : Text). IsSomeAnd (meaning_below arguments (t, rows)) NumbersFit)
-              (sym p.0) (path_means (inspect_in rows) (disk_in rows) p.1 (λ path. tt))
-          | inr listed ↦ elim listed [
-            | inl p ↦ subst (λ (t : Text). IsSomeAnd (meaning_below arguments (t, rows)) NumbersFit)
-                (sym p.0) (path_means (λ d. files d (files_in rows) (live_in rows)) (disk_in rows)
-                p.1 (λ path. tt))
-            | inr given ↦ elim given [
-              | inl p ↦ subst (λ (t : Text). IsSomeAnd (meaning_below arguments
-                  (t, rows)) NumbersFit)
-                  (sym p.0) (path_means (history_in rows) (disk_in rows) p.1 (λ path. tt))
-              | inr kept ↦ elim kept [
-                | inl p ↦ subst (λ (t : Text). IsSomeAnd (meaning_below arguments
-                    (t, rows)) NumbersFit)
-                    (sym p.0) (path_means upgrade (disk_in rows) p.1 (λ path. tt))
-                | inr copied ↦ elim copied [
-                  | inl p ↦ subst (λ (t : Text). IsSomeAnd (meaning_below arguments
-                      (t, rows)) NumbersFit)
-                      (sym p.0) (paths_mean (λ d copy. save d copy (live_in rows)) (disk_in rows)
-                      (copy_in rows) p.1 p.2 (λ disk copy. tt))
-                  | inr scripts ↦ scripts_mean arguments name rows taken.1 scripts
-                ]
-              ]
-            ]
-          ]
-        ]
-      ]
-    ]
-  ]
-]
+  named : {word name : Text} → name ≡ word → Fits word → Fits name
+  named is = subst Fits (sym is)
+
+  taken_means : (name : Text) → HasPaths name rows → Fits name
+  taken_means name (inl p) = named p.0 (path_means
+      (λ path. check path (number_or (codes "pages") 256 rows) (flag_in (codes "all") rows))
+      (module_in rows) p.1 (λ path. check_has_numbers rows path options))
+  taken_means name (inr (inl p)) = named p.0 (paths_mean
+      (λ disk path. create (create_in rows arguments disk path)) (disk_in rows) (module_in rows)
+      p.1 p.2 (λ disk path. sizes_fit 16 16 256 rows options (omega arith)))
+  taken_means name (inr (inr (inl p))) = named p.0 (path_means
+      (λ disk. run (run_in rows disk)) (disk_in rows) p.1
+      (λ disk. run_has_numbers rows disk options))
+  taken_means name (inr (inr (inr (inl p)))) = named p.0
+      (path_means (λ disk. show disk (live_in rows)) (disk_in rows) p.1 (λ disk. tt))
+  taken_means name (inr (inr (inr (inr (inl p))))) = named p.0
+      (path_means (inspect_in rows) (disk_in rows) p.1 (λ disk. tt))
+  taken_means name (inr (inr (inr (inr (inr (inl p)))))) = named p.0 (path_means
+      (λ disk. files disk (files_in rows) (live_in rows)) (disk_in rows) p.1 (λ disk. tt))
+  taken_means name (inr (inr (inr (inr (inr (inr (inl p))))))) = named p.0
+      (path_means (history_in rows) (disk_in rows) p.1 (λ disk. tt))
+  taken_means name (inr (inr (inr (inr (inr (inr (inr (inl p)))))))) = named p.0
+      (path_means upgrade (disk_in rows) p.1 (λ disk. tt))
+  taken_means name (inr (inr (inr (inr (inr (inr (inr (inr (inl p))))))))) = named p.0 (paths_mean
+      (λ disk copy. save disk copy (live_in rows)) (disk_in rows) (copy_in rows) p.1 p.2
+      (λ disk copy. tt))
+  taken_means name (inr (inr (inr (inr (inr (inr (inr (inr (inr (inl p)))))))))) = named p.0
+      (paths_mean (λ script path. story (story_in rows script path)) (script_in rows)
+      (module_in rows) p.1 p.2 (λ script path. sizes_fit 1 1 64 rows options (omega arith)))
+  taken_means name (inr (inr (inr (inr (inr (inr (inr (inr (inr (inr p)))))))))) = named p.0
+      (paths_mean (λ script path. sweep (sweep_in rows script path)) (script_in rows)
+      (module_in rows) p.1 p.2 (λ script path. sizes_fit 1 1 64 rows options (omega arith)))
 
 pub faultless_words_mean : FaultlessWordsMean
 faultless_words_mean words e =
@@ -604,4 +418,4 @@ faultless_words_mean words e =
     go : (o : Option (Text × List Row)) → IsSomeAnd o IsTaken
         → IsSomeAnd (option_and_then (meaning_below (guest_words words)) o) NumbersFit
     go None h = absurd h
-    go (Some met) h = taken_means (guest_words words) met.0 met.1 h
+    go (Some met) h = taken_means (guest_words words) met.1 h.1 met.0 h.0

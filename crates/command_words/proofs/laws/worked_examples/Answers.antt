@@ -1,29 +1,33 @@
-use Rattle.command_words.proofs.WordLemmas.ExamplesHold.{create_examples, help_examples}
-use Rattle.command_words.proofs.WordLemmas.ExamplesHold.{option_mistakes, path_examples}
-use Rattle.command_words.proofs.WordLemmas.ExamplesHold.{path_mistakes, run_examples}
-use Rattle.command_words.proofs.WordLemmas.ExamplesHold.{story_examples, sweep_examples}
+use Rattle.std.proofs.Common.{refl}
+use Rattle.clap.proofs.OnLiterals.{clap_on_literals}
+use Rattle.command_words.specs.rules.Pieces.{pieces_of}
 use Rattle.command_words.proofs.laws.worked_examples.Goals as goal
 
-pub returns-clause-paths : goal.returns-clause-paths
-returns-clause-paths c = path_examples
-
-pub returns-clause-creations : goal.returns-clause-creations
-returns-clause-creations c = create_examples
-
-pub returns-clause-runs : goal.returns-clause-runs
-returns-clause-runs c = run_examples
-
-pub returns-clause-stories : goal.returns-clause-stories
-returns-clause-stories c = story_examples
-
-pub returns-clause-sweeps : goal.returns-clause-sweeps
-returns-clause-sweeps c = sweep_examples
+pub returns-clause-meanings : goal.returns-clause-meanings
+unfolding clap_on_literals pieces_of
+returns-clause-meanings c =
+    record { paths = refl; creations = refl; runs = refl; stories = refl; sweeps = refl }
 
 pub returns-clause-wrong_paths : goal.returns-clause-wrong_paths
-returns-clause-wrong_paths c = path_mistakes
+unfolding clap_on_literals pieces_of
+returns-clause-wrong_paths c = record {
+  no_command = refl;
+  unknown_command = refl;
+  too_few = refl;
+  too_many = refl;
+  path_and_folder = refl;
+}
 
 pub returns-clause-wrong_options : goal.returns-clause-wrong_options
-returns-clause-wrong_options c = option_mistakes
+unfolding clap_on_literals pieces_of
+returns-clause-wrong_options c = record {
+  without_value = refl;
+  other_value = refl;
+  value_of_a_flag = refl;
+  twice = refl;
+  of_another_command = refl;
+}
 
 pub returns-clause-help : goal.returns-clause-help
-returns-clause-help c = help_examples
+unfolding clap_on_literals pieces_of
+returns-clause-help c = record { help = refl; version = refl; version_of_a_run = refl }
