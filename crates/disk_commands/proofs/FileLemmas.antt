@@ -9,19 +9,19 @@ use Rattle.sector_disk.specs.rules.Answered.{file_calls, unsynced_of}
 use Rattle.sector_disk.specs.rules.Calls.{synced_writes}
 use Rattle.sector_disk.specs.rules.File.{answers_of, file_medium}
 use Rattle.sector_disk.specs.rules.Known.{KnownFiles, KnownHandles}
-use Rattle.sector_disk.specs.rules.Medium.{IsAllSynced, spare}
+use Rattle.sector_disk.specs.rules.Medium.{IsAllSynced, Medium, spare}
 use Rattle.sector_disk.specs.rules.Memory.{memory_medium}
 use Rattle.sector_disk.specs.rules.Open.{IsOpenedAt}
 use Rattle.sector_disk.specs.rules.Rewrite.{AddsNothing}
 use Rattle.command_words.specs.declared.telling.Obstacle.TheVariants.{Unread}
-use Rattle.command_words.specs.rules.Printers.{PrinterState, printers}
+use Rattle.command_words.specs.rules.Printers.{PrinterState, Printers, printers}
 use Rattle.command_words.specs.rules.Reports.{SaysLine, obstacle_words}
 use Rattle.command_words.specs.declared.status.Status.{Status}
 use Rattle.command_words.specs.declared.status.Status.TheVariants as exit
 use Rattle.disk_commands.specs.rules.LivePictures.{IsPictureAt}
-use Rattle.disk_commands.specs.rules.Openings.{IsWrittenBack, IsOpenedFor, SaysUnopened}
-use Rattle.disk_commands.specs.declared.on_disk.disk_file.Look.{Look}
-use Rattle.disk_commands.specs.rules.LookedFiles.{TellsLook, TellsOpened, TellsPicture}
+use Rattle.disk_commands.specs.rules.Openings.{CommandRun, command_run, IsWrittenBack, IsOpenedFor}
+use Rattle.disk_commands.specs.rules.Openings.{SaysUnopened}
+use Rattle.disk_commands.specs.rules.SeenDisks.{DoesSeen}
 
 -- what is known of a path is known of the same path
 pub known_at : (known : List ℕ → Bool) (there path : List ℕ) → there ≡ path → IsTrue (known there)
@@ -91,40 +91,32 @@ module _ {F : Type 0} (handles : KnownHandles F) (files : KnownFiles F) (rewrite
     },
   )
 
--- what is said of a disk that was opened at a path, and of whose opening nothing was said
-pub tells_opened : {F : Type 0} (handles : KnownHandles F) (files : KnownFiles F) (what : Look)
-    (path : List ℕ) (opened disk : FileDisk F) (out out' err between err' : PrinterState)
-    (status : Status) → IsOpenedAt handles files path opened → IsTrue (files.closed disk)
-    → between ≡ err
-    → TellsLook what (file_medium opened) (file_medium disk) (printers out between)
-    (printers out' err') status
-    → TellsOpened handles files what path (printers out err) (printers out' err') status
-tells_opened handles files what path opened disk out out' err between err' status at closed quiet
-    tells =
-    inl (
-      opened,
-      disk,
-      at,
-      closed,
-      subst (λ old. TellsLook what (file_medium opened) (file_medium disk) (printers out old)
-          (printers out' err') status)
-          quiet tells,
-    )
+module _ {F : Type 0} (handles : KnownHandles F) (files : KnownFiles F) (path : List ℕ)
+    (Does : (D : Type 0) → (D → Medium) → D → D → CommandRun → Type 0) (is_live : Bool)
+    (out err mid : PrinterState) (after : Printers) (status : Status) (quiet : mid ≡ err) where
+  -- what is done with a disk that was opened at a path, and of whose opening nothing was said
+  pub does_opened : (opened disk : FileDisk F) → is_live ≡ false
+      → IsOpenedAt handles files path opened → IsTrue (files.closed disk)
+      → Does (FileDisk F) file_medium opened disk (command_run (printers out mid) after status)
+      → DoesSeen handles files path Does (command_run (printers out err) after status) is_live
+  does_opened opened disk is at closed does = rw is (inl (
+    opened,
+    disk,
+    at,
+    closed,
+    subst (λ old. Does (FileDisk F) file_medium opened disk
+        (command_run (printers out old) after status)) quiet does,
+  ))
 
--- what is said of a picture that was had of a path, and of whose taking nothing was said
-pub tells_picture : {F : Type 0} (handles : KnownHandles F) (files : KnownFiles F) (what : Look)
-    (path : List ℕ) (picture after : MemDisk) (out out' err between err' : PrinterState)
-    (status : Status) → IsPictureAt handles files path (Ok picture) → between ≡ err
-    → TellsLook what (memory_medium picture) (memory_medium after) (printers out between)
-    (printers out' err') status
-    → TellsPicture handles files what path (printers out err) (printers out' err') status
-tells_picture handles files what path picture after out out' err between err' status pictured quiet
-    tells =
-    inl (
-      picture,
-      after,
-      pictured,
-      subst (λ old. TellsLook what (memory_medium picture) (memory_medium after)
-          (printers out old) (printers out' err')
-          status) quiet tells,
-    )
+  -- what is done with a picture that was had of a path, and of whose taking nothing was said
+  pub does_pictured : (picture looked : MemDisk) → is_live ≡ true
+      → IsPictureAt handles files path (Ok picture)
+      → Does MemDisk memory_medium picture looked (command_run (printers out mid) after status)
+      → DoesSeen handles files path Does (command_run (printers out err) after status) is_live
+  does_pictured picture looked is pictured does = rw is (inl (
+    picture,
+    looked,
+    pictured,
+    subst (λ old. Does MemDisk memory_medium picture looked
+        (command_run (printers out old) after status)) quiet does,
+  ))

@@ -228,19 +228,21 @@ module _ {D S O : Type 0} (medium : D → Medium) (gives : Giving S) (takes : Ta
         → IfErr result (λ why. IsBrokenRound medium gives takes act every from why
         (surroundings disk' source outlet))
     broken some within heard taken breaks (Ok told) rests = tt
-    broken some within heard taken breaks (Err fault) rests = record {
-      count = n;
-      some = some;
-      within = within;
-      heard = asked_so_far gives (MayRefuse act (Err (recover.Worker fault))) from.source source
-          heard;
-      heeded = inl (taken, saving_is_other w (medium disk) (medium disk') fault rests.2);
-      done = leads.behind (Checkpoint ∷ []) (Err (recover.Worker fault))
-          (surroundings disk' source outlet)
-          (call_failed {after = scene w' disk' source outlet} (rest_keeps (Err fault) rests.0)
-          rests.1);
-      broken = breaks fault;
-    }
+    broken some within heard taken breaks (Err fault) rests =
+        let fails = rests.1 in
+        record {
+          count = n;
+          some = some;
+          within = within;
+          heard = asked_so_far gives (MayRefuse act (Err (recover.Worker fault))) from.source source
+              heard;
+          heeded = inl (taken, saving_is_other w (medium disk) (medium disk') fault fails.cause);
+          done = leads.behind (Checkpoint ∷ []) (Err (recover.Worker fault))
+              (surroundings disk' source outlet)
+              (call_failed {after = scene w' disk' source outlet} (rest_keeps (Err fault) rests.0)
+              fails);
+          broken = breaks fault;
+        }
 
   -- So many of these acts were done in a round from there on, each of which has spent its fuel. No
   -- question was refused, and no line.

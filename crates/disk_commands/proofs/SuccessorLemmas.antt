@@ -27,7 +27,7 @@ use Rattle.command_words.proofs.PrinterLemmas.{heeds_err}
 use Rattle.disk_commands.specs.declared.on_disk.fault.OnDiskFault.{OnDiskFault}
 use Rattle.disk_commands.specs.rules.Creations.{NewDiskValue, created_line}
 use Rattle.disk_commands.specs.rules.DiskStatuses.{status_of_call, status_on_disk, call_fault}
-use Rattle.disk_commands.specs.rules.SuccessorDisks.{MakesSuccessor, SucceedsDisk, crowded_words}
+use Rattle.disk_commands.specs.rules.SuccessorDisks.{BeginsOnDisk, SucceedsDisk, crowded_words}
 use Rattle.disk_commands.specs.rules.SuccessorDisks.{dropped_line, goes_on_line, restless_words}
 use Rattle.disk_commands.specs.rules.SuccessorDisks.{succession_of, successor_text, units_for}
 use Rattle.disk_commands.specs.SuccessorDisks.{IsTakenOver, SucceedsOpened, TakesLegacy}
@@ -65,8 +65,8 @@ module _ {F : Type 0} (handles : KnownHandles F) (files : KnownFiles F) (from : 
       (status : Status)
       → IsTakenOver from made.prepared.config (file_medium old) (file_medium new) err (Ok left)
       between
-      → MakesSuccessor handles files on_device made left (printers out between)
-      (printers out' err') status
+      → BeginsOnDisk handles files made (Some left) (printers out between) (printers out' err')
+      status on_device
       → Opened out out' err err' status
   succeeds_taken left out out' err between err' status taken makes =
       go taken.left taken.reads taken.takes
@@ -81,10 +81,10 @@ module _ {F : Type 0} (handles : KnownHandles F) (files : KnownFiles F) (from : 
         reads = reads;
         goes_on = inr (
           takes.1,
-          subst (λ (l : Handover). MakesSuccessor handles files on_device made l
-              (printers out err) (printers out' err') status) takes.0
-              (subst (λ (e : PrinterState). MakesSuccessor handles files on_device made left
-              (printers out e) (printers out' err') status) takes.2 makes),
+          subst (λ (l : Handover). BeginsOnDisk handles files made (Some l) (printers out err)
+              (printers out' err') status on_device) takes.0
+              (subst (λ (e : PrinterState). BeginsOnDisk handles files made (Some left)
+              (printers out e) (printers out' err') status on_device) takes.2 makes),
         );
       }
 

@@ -23,8 +23,8 @@ use Rattle.worker.specs.rules.DurableFailures.{HasSliceCause}
 use Rattle.worker.specs.rules.LifeWords.{Slice, Upgrade}
 use Rattle.worker.specs.rules.Outlets.{TakesEach, HeedsOutlet, IsOutletFault, SaysOutletFault}
 use Rattle.worker.specs.rules.Effects.{RecoversWorker}
-use Rattle.worker.specs.rules.Upgrades.{UpgradeFails, HasUpgradeCause, IsNotCaughtUp}
-use Rattle.worker.specs.rules.OneLife.{CallsInOrder, no_more, called, call_failed}
+use Rattle.worker.specs.rules.Upgrades.{HasUpgradeCause, IsNotCaughtUp, LeavesProcess}
+use Rattle.worker.specs.rules.OneLife.{CallsInOrder, FailsBy, no_more, called, call_failed}
 use Rattle.worker.specs.rules.OneLife.{recovered, opened}
 use Rattle.worker.specs.rules.Outcomes.{outcome_after}
 use Rattle.worker.proofs.OutletLemmas.{takes_both, heeds_on, each_taken}
@@ -181,13 +181,13 @@ module _ {D S O : Type 0} (medium : D → Medium) (gives : Giving S) (takes : Ta
       abreast = abreast;
     }
 
-    pub come_broken : (why : WorkFault) → Slicing (Err why)
+    pub come_broken : (why : WorkFault) → Slicing (Err why) → Shows
         → AsksUnless gives (IsOfSource (Err (recover.Worker why))) here.source source'
         → HeedsOutlet takes (IsOutletsCall why) here.outlet outlet'
         → BreaksInSliceFrom gives takes fuel fuel here why source' outlet'
         → HasSliceCause here.worker (medium here.disk) (medium disk') why
         → ComesUp medium gives takes fuel from (Err why) (scene w' disk' source' outlet')
-    come_broken why carries heard heeded breaks cause = record {
+    come_broken why carries shows heard heeded breaks cause = record {
       count = so_far.count + 1;
       heard = asked_on gives (IsOfSource (Err (recover.Worker why))) from.source here.source
           source' so_many.heard heard;
@@ -206,7 +206,8 @@ module _ {D S O : Type 0} (medium : D → Medium) (gives : Giving S) (takes : Ta
           (replicate (so_far.count + 1) (Slice fuel) ++ rest)
           (turned so_far.count (Slice fuel) rest)
           (so_many.leads.behind (Slice fuel ∷ rest) (Err (recover.Worker why))
-          (surroundings_of reached) (call_failed {after = reached} carries tt));
+          (surroundings_of reached) (call_failed {after = reached} carries
+          (record { shows = shows; cause = cause })));
       caught_up = of_slice here.worker (medium here.disk) (medium disk') why cause;
     }
 
@@ -262,17 +263,20 @@ module _ {D S O : Type 0} (medium : D → Medium) (gives : Giving S) (takes : Ta
 
     pub then_ended : (result : Result (Unit {0}) WorkFault) (outlet' : O) → outlet' ≡ to.outlet
         → ActCarries Upgrade [] to.worker result w' (medium to.disk) (medium disk')
-        → IfErr result (UpgradeFails to.worker w'.process (medium to.disk) (medium disk'))
-        → IfErr result (HasUpgradeCause to.worker (medium to.disk) (medium disk'))
+        → (to.worker.has_failed ≡ false → IsProcess to.worker.process)
+        → IfErr result (λ why. HasUpgradeCause to.worker (medium to.disk) (medium disk') why)
+        → IfErr result (λ why. LeavesProcess to.worker why w'.process)
         → IsUpgradedFrom medium gives takes from result disk' outlet'
-    then_ended (Ok done) outlet' quiet carries fails cause =
+    then_ended (Ok done) outlet' quiet carries shows cause leaves =
         rw quiet (ended (Ok done)
         (called {after = upgraded_to} done (keeps_so (Ok done) carries) no_more) (λ told. told)
         (run_on (Ok done) (called {after = upgraded_to} done (keeps_so (Ok done) carries) no_more)
         refl) tt)
-    then_ended (Err why) outlet' quiet carries fails cause =
+    then_ended (Err why) outlet' quiet carries shows cause leaves =
         let is : IsOfUpgrade why =
         of_upgrade to.worker (medium to.disk) (medium disk') why comes.unfailed cause in
+        let fails : FailsBy Upgrade to.worker why w' (medium to.disk) (medium disk') =
+        record { shows = shows; cause = (cause, leaves) } in
         rw quiet (ended (Err why)
         (call_failed {after = upgraded_to} (keeps_so (Err why) carries) fails)
         (upgrade_is_other why is) (inr (

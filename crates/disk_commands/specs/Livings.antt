@@ -14,10 +14,9 @@ use Rattle.worker.specs.declared.recover_fault.RecoverFault.{RecoverFault}
 use Rattle.worker.specs.declared.recover_fault.RecoverFault.TheVariants as recover
 use Rattle.worker.specs.rules.DurableValues.{DurableValue, without_disk}
 use Rattle.worker.specs.rules.DurableCalls.{ActCarries}
-use Rattle.worker.specs.rules.Checkpoints.{CheckpointFails, HasCheckpointCause}
 use Rattle.worker.specs.rules.LifeWords.{Act, Checkpoint, fuel_of}
 use Rattle.worker.specs.rules.Outlets.{TakesEach, HeedsOutlet, IsOutletFault, SaysOutletFault}
-use Rattle.worker.specs.rules.OneLife.{CallsInOrder}
+use Rattle.worker.specs.rules.OneLife.{CallsInOrder, FailsBy}
 use Rattle.worker.specs.rules.Scenes.{Scene, scene, ports_of, Surroundings, surroundings}
 use Rattle.command_words.specs.Lines.Answers.{SourceState}
 use Rattle.command_words.specs.rules.Printers.{PrinterState, IsSaid, TellsPerson}
@@ -135,7 +134,7 @@ IsRested why (Ok told) old new disk disk' = (told ≡ why)
     × ActCarries Checkpoint [] old (Ok tt) new disk disk' × (new.process ≡ old.process)
 IsRested why (Err fault) old new disk disk' =
     ActCarries Checkpoint [] old (Err fault) new disk disk'
-    × CheckpointFails old disk disk' fault × HasCheckpointCause old disk disk' fault
+    × FailsBy Checkpoint old fault new disk disk'
 
 -- The scene of a worker that was given a job. Its source begins after the requests that it has
 -- taken.

@@ -23,6 +23,7 @@ pub mod DiskFacts
 pub mod Inspectings
 pub mod Histories
 pub mod LivePictures
+pub mod SeenDisks
 pub mod LookedFiles
 pub mod SavedCopies
 pub mod NewTrees

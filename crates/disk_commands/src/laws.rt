@@ -28,6 +28,7 @@ ghost use Rattle.disk_commands.specs.rules.ServedOnDisk.{handing};
 
 use record_replay::Outlet;
 use sector_disk::Disk;
+use worker::laws::process_images_fit_areas;
 
 /// A picture has room for the disk of each worker whose settings and module are within their
 /// limits.
@@ -53,7 +54,9 @@ pub fn unwritten_is_a_failed_write()
 pub fn lives_on_disk_go_on<D: Disk, O: Outlet>()
     ensures goes_on { LivesGoOnUncut D.medium handing O.takes }
     ensures ended { LivesEndAsSaid D.medium handing O.takes }
-{}
+{
+    process_images_fit_areas();
+}
 
 /// Of all that is asked in a life on a disk, the answered requests are those of the reader's lines
 /// after the ones that the worker has taken, in order and none left out. Times are the fixed one,

@@ -16,10 +16,10 @@
 //!
 //! Each is in full at the head of its module, and with its clauses in `docs/PROMISES.md`.
 //!
-//! - `create_disk`, `create_file`, `create_device`, `create_on`: `Done` only if the worker is
-//!   created and `created N sectors` printed. A file that was made is left at its path where the
-//!   status is `Done`, and else removed again. Of a worker that succeeds another one `create_disk`
-//!   says `Done` only if it goes on from what that has left. The old disk is only synced and read.
+//! - `create_disk`, `create_on`: `Done` only if the worker is created and `created N sectors`
+//!   printed. A file that was made is left at its path where the status is `Done`, and else removed
+//!   again. Of a worker that succeeds another one `create_disk` says `Done` only if it goes on from
+//!   what that has left. The old disk is only synced and read.
 //! - `run_file`, `serve`: all that is done of a worker is one life that goes on, in slices of the
 //!   fuel and checkpoints of the pace. Each status has its cause, and the last words are true.
 //! - `upgrade_file`, `upgrade_worker`: one life without an answer, and an upgrade in it; `Done`
@@ -55,9 +55,9 @@
 //!
 //! `wasmhost` calls this crate. Lives are run by `worker`, and all is read and said by
 //! `command_words`. A disk is lent to each call of a worker on it. Beside these only `open_disk`,
-//! `create_file`, `create_device`, `save_file`, `live` and `succession` touch one. These six,
-//! `WatchedPaths`, `StatusFile` and `NewTrees` are the places here that open a file. `WatchedPaths`
-//! also reads the module of a worker that has trapped. `WatchFiles` reads the machine's clock.
+//! `create_disk`, `save_file`, `live` and `succession` touch one. These five, `WatchedPaths`,
+//! `StatusFile` and `NewTrees` are the places here that open a file. `WatchedPaths` also reads the
+//! module of a worker that has trapped. `WatchFiles` reads the machine's clock.
 #![tactic(auto)]
 
 mod inspecting;
@@ -66,10 +66,10 @@ mod on_disk;
 
 pub use inspecting::{inspect_disk, list_files, tell_history};
 pub use on_disk::{
-    Drive, FoundFile, Look, NewDisk, NewTree, NewTrees, Pace, Seen, Sighting, StatusFile, System,
-    Upgraded, WatchFiles, WatchPaths, WatchedPaths, WatchedState, Watcher, create_device,
-    create_disk, create_file, create_on, extract_file, look_at_file, open_disk, report_input,
-    report_open, report_unread, run_file, save_file, save_on, serve, spelled_metrics,
-    spelled_status, status_file_of, survey, upgrade_file, upgrade_worker, watch_files_of,
+    Drive, FoundFile, Look, NewTree, NewTrees, Pace, Seen, Sighting, StatusFile, System, Upgraded,
+    WatchFiles, WatchPaths, WatchedPaths, WatchedState, Watcher, create_disk, create_on,
+    extract_file, look_at_file, open_disk, report_input, report_open, report_unread, run_file,
+    save_file, save_on, serve, spelled_metrics, spelled_status, status_file_of, survey,
+    upgrade_file, upgrade_worker, watch_files_of,
 };
 pub use worker::Worker;

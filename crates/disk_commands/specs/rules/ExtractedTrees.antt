@@ -7,13 +7,8 @@ use Rattle.std.specs.List.{count_by}
 use Rattle.std.specs.List.Sorted.{IsPermutation}
 use Rattle.std.specs.declared.io.ErrorKind.{ErrorKind}
 use Rattle.std.specs.declared.io.ErrorKind.TheVariants.{OutOfMemory}
-use Rattle.sector_disk.specs.declared.file.FileDisk.{FileDisk}
-use Rattle.sector_disk.specs.declared.memory.MemDisk.{MemDisk}
-use Rattle.sector_disk.specs.rules.File.{file_medium}
 use Rattle.sector_disk.specs.rules.Known.{KnownFiles, KnownHandles}
 use Rattle.sector_disk.specs.rules.Medium.{Medium}
-use Rattle.sector_disk.specs.rules.Memory.{memory_medium}
-use Rattle.sector_disk.specs.rules.Open.{IsOpenedAt}
 use Rattle.file_tree.specs.rules.Files.{Files, bytes_of_node}
 use Rattle.file_listing.specs.declared.listed.ListedNode.{ListedNode}
 use Rattle.file_listing.specs.rules.Listed.{listing_in}
@@ -26,9 +21,9 @@ use Rattle.command_words.specs.rules.Reports.{SaysLine, SaysOnOutput, obstacle_w
 use Rattle.command_words.specs.declared.status.Status.{Status}
 use Rattle.command_words.specs.declared.status.Status.TheVariants as exit
 use Rattle.disk_commands.specs.rules.Inspectings.{SaysRefusal}
-use Rattle.disk_commands.specs.rules.LivePictures.{IsPictureAt, SaysUnseen}
 use Rattle.disk_commands.specs.rules.NewTrees.{KnownTrees, below}
-use Rattle.disk_commands.specs.rules.Openings.{CommandRun, SaysUnopened, SaysUnread}
+use Rattle.disk_commands.specs.rules.Openings.{CommandRun, SaysUnread}
+use Rattle.disk_commands.specs.rules.SeenDisks.{DoesSeen}
 
 -- how many of these nodes are directories
 abbrev pub directories_in : List ListedNode → ℕ
@@ -107,29 +102,13 @@ module _ (trees : KnownTrees) where
       pub inspects : Inspects result disk disk'
       pub extracts : ExtractsTold result before after status
 
-module _ {F : Type 0} (handles : KnownHandles F) (files : KnownFiles F) (trees : KnownTrees)
-    (path folder : List ℕ) (run : CommandRun) where
-  -- So it is with a disk in a file, which no other host has meanwhile. Or it is said why it isn't
-  -- opened.
-  abbrev pub ExtractsOpened : Type 0
-  ExtractsOpened =
-      ((disk : FileDisk F) × (disk' : FileDisk F) × IsOpenedAt handles files path disk
-      × IsTrue (files.closed disk')
-      × ExtractsDisk trees folder (file_medium disk) (file_medium disk') run.before run.after
-      run.status) ⊎ (SaysUnopened handles files false path run.before.err run.status run.after.err
-      × (run.after.out ≡ run.before.out))
+    -- so it is with a disk of any type
+    abbrev pub ExtractsSeen : (D : Type 0) → (D → Medium) → D → D → CommandRun → Type 0
+    ExtractsSeen D medium disk disk' run =
+        ExtractsDisk (medium disk) (medium disk') run.before run.after run.status
 
-  -- So it is with a picture of a disk, which another host may have. Or it is said why there is
-  -- none.
-  abbrev pub ExtractsPicture : Type 0
-  ExtractsPicture =
-      ((picture : MemDisk) × (picture' : MemDisk) × IsPictureAt handles files path (Ok picture)
-      × ExtractsDisk trees folder (memory_medium picture) (memory_medium picture') run.before
-      run.after run.status)
-      ⊎ (SaysUnseen handles files path run.before.err run.status run.after.err
-      × (run.after.out ≡ run.before.out))
-
-  -- the disk is looked at while it is live, or while nobody else has it
-  abbrev pub ExtractsFile : Bool → Type 0
-  ExtractsFile true = ExtractsPicture
-  ExtractsFile false = ExtractsOpened
+-- and with the disk in a file, live or not
+abbrev pub ExtractsFile : {F : Type 0} → KnownHandles F → KnownFiles F → KnownTrees → List ℕ
+    → List ℕ → CommandRun → Bool → Type 0
+ExtractsFile handles files trees path folder =
+    DoesSeen handles files path (ExtractsSeen trees folder)

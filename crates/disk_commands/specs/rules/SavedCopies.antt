@@ -5,15 +5,13 @@ use Rattle.std.specs.Prelude.{IsTrue, Result, Ok, Err, OnOk, IfErr}
 use Rattle.std.specs.Fmt.{decimal}
 use Rattle.sector_disk.specs.declared.copying.CopyFault.{CopyFault}
 use Rattle.sector_disk.specs.declared.file.FileDisk.{FileDisk}
-use Rattle.sector_disk.specs.declared.memory.MemDisk.{MemDisk}
 use Rattle.sector_disk.specs.declared.open_fault.OpenFault.{OpenFault}
 use Rattle.sector_disk.specs.rules.Copying.{FailsToCopy, IsCopied, WasOnlyRead, copying_writes}
 use Rattle.sector_disk.specs.rules.DiskImage.{DiskImage, zeros}
 use Rattle.sector_disk.specs.rules.File.{file_medium}
 use Rattle.sector_disk.specs.rules.Known.{KnownFiles, KnownHandles}
 use Rattle.sector_disk.specs.rules.Medium.{IsAllSynced, LeavesOnly, Medium, PerformsCalls}
-use Rattle.sector_disk.specs.rules.Memory.{memory_medium}
-use Rattle.sector_disk.specs.rules.Open.{IsMadeAt, IsOpenedAt, IsUnmade}
+use Rattle.sector_disk.specs.rules.Open.{IsMadeAt, IsUnmade}
 use Rattle.disk_layout.specs.rules.Places.{total_sectors}
 use Rattle.disk_layout.specs.rules.Sectors.{HasMarks}
 use Rattle.worker.specs.declared.inspection.Inspection.{Inspection}
@@ -25,8 +23,8 @@ use Rattle.command_words.specs.rules.Reports.{SaysLine, SaysOnOutput, obstacle_w
 use Rattle.command_words.specs.declared.status.Status.{Status}
 use Rattle.command_words.specs.declared.status.Status.TheVariants as exit
 use Rattle.disk_commands.specs.rules.Inspectings.{SaysRefusal}
-use Rattle.disk_commands.specs.rules.LivePictures.{IsPictureAt, SaysUnseen}
-use Rattle.disk_commands.specs.rules.Openings.{CommandRun, SaysUnopened, open_words}
+use Rattle.disk_commands.specs.rules.Openings.{CommandRun, open_words}
+use Rattle.disk_commands.specs.rules.SeenDisks.{DoesSeen}
 
 -- the line that is printed of a copy
 abbrev pub saved_line : ℕ → List ℕ
@@ -100,27 +98,8 @@ module _ {F : Type 0} (handles : KnownHandles F) (files : KnownFiles F) (path : 
       × Inspects answer (medium disk) (medium read)
       × SavesTold medium answer read disk' run
 
-module _ {F : Type 0} (handles : KnownHandles F) (files : KnownFiles F) (path copy : List ℕ)
-    (run : CommandRun) where
-  -- The disk at the first path is opened, and its worker saved at the second one. Or it is said why
-  -- no disk is opened.
-  abbrev pub SavesOpened : Type 0
-  SavesOpened =
-      ((disk : FileDisk F) × (disk' : FileDisk F) × IsOpenedAt handles files path disk
-      × IsTrue (files.closed disk')
-      × SavesInspected handles files copy file_medium disk disk' run)
-      ⊎ (SaysUnopened handles files false path run.before.err run.status run.after.err
-      × (run.after.out ≡ run.before.out))
-
-  -- A picture of it is had, and its worker saved there. Or it is said why there is no picture.
-  abbrev pub SavesPicture : Type 0
-  SavesPicture =
-      ((picture : MemDisk) × (picture' : MemDisk) × IsPictureAt handles files path (Ok picture)
-      × SavesInspected handles files copy memory_medium picture picture' run)
-      ⊎ (SaysUnseen handles files path run.before.err run.status run.after.err
-      × (run.after.out ≡ run.before.out))
-
-  -- the disk is saved while it is live, or while nobody else has it
-  abbrev pub SavesFile : Bool → Type 0
-  SavesFile true = SavesPicture
-  SavesFile false = SavesOpened
+-- The worker on the disk in a file, live or not, is so saved at the second path.
+abbrev pub SavesFile : {F : Type 0} → KnownHandles F → KnownFiles F → List ℕ → List ℕ
+    → CommandRun → Bool → Type 0
+SavesFile handles files path copy =
+    DoesSeen handles files path (λ (D : Type 0). SavesInspected handles files copy {D = D})

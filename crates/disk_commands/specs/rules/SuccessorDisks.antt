@@ -1,7 +1,7 @@
--- A worker that a command creates to succeed another one, and what is said of both disks (this
--- project's own).
+-- A worker that a command creates on a new disk, fresh or to succeed another one, and what is said
+-- of both disks (this project's own).
 use Rattle.std.specs.Prelude.{◌≡◌, ◌≢◌, ◌⊎◌, ℕ, ◌+◌, ◌*◌, ◌<◌, ◌≤◌, ◌/◌, ◌%◌, Bool, true, false}
-use Rattle.std.specs.Prelude.{List, [], ◌++◌, Option, Result, Ok, Err, IsTrue, codes}
+use Rattle.std.specs.Prelude.{List, [], ◌++◌, Option, Some, None, Result, Ok, Err, IsTrue, codes}
 use Rattle.std.specs.Prelude.{if◌then◌else◌, ◌==◌}
 use Rattle.std.specs.Io.KnownBytes.{Appends}
 use Rattle.wasi_abi.specs.rules.Configs.{Settings}
@@ -28,8 +28,8 @@ use Rattle.command_words.specs.rules.Reports.{SaysLine, obstacle_words}
 use Rattle.command_words.specs.rules.Texts.{named_number}
 use Rattle.command_words.specs.declared.status.Status.{Status}
 use Rattle.command_words.specs.declared.status.Status.TheVariants as exit
-use Rattle.disk_commands.specs.rules.Creations.{HasDiskFailed, IsCreationRefused, NewDiskValue}
-use Rattle.disk_commands.specs.rules.Creations.{created_line}
+use Rattle.disk_commands.specs.rules.Creations.{CreatesOn, HasDiskFailed, IsCreationRefused}
+use Rattle.disk_commands.specs.rules.Creations.{NewDiskValue, created_line}
 use Rattle.disk_commands.specs.rules.DiskStatuses.{opening_fault, status_on_disk}
 use Rattle.disk_commands.specs.rules.Openings.{SaysUnopened, open_words}
 
@@ -154,6 +154,60 @@ SaysRoomless config left old status new =
 
 -- ---- the new disk in a file, or on a device
 
+-- a fresh worker is created on the disk, or one that goes on from what was handed over
+abbrev pub BeginsOn : {D : Type 0} → (D → Medium) → NewDiskValue → Option Handover → D → D
+    → Printers → Printers → Status → Type 0
+BeginsOn medium new None = CreatesOn medium new.bytes new.prepared.config
+BeginsOn medium new (Some left) =
+    SucceedsOn medium (successor new.bytes new.prepared.config left)
+
+module _ {F : Type 0} (handles : KnownHandles F) (files : KnownFiles F) (new : NewDiskValue)
+    (left : Option Handover) (before after : Printers) (status : Status) where
+  -- The disk was made in a new file at this path, of as many sectors as are needed, the worker was
+  -- created on it, and it was closed. Its file is left there where the status is `Done`, and else
+  -- it was to be removed.
+  pub record HasBegunInFile : Type 0 where
+    pub disk : FileDisk F
+    pub disk' : FileDisk F
+    pub made : IsMadeAt handles files new.path new.prepared.sectors disk
+    pub closed : IsTrue (files.closed disk')
+    pub begins : BeginsOn file_medium new left disk disk' before after status
+    pub keeps : status ≡ exit.Done → IsTrue (files.kept new.path)
+    pub removes : status ≢ exit.Done → IsTrue (files.removed new.path)
+
+  -- No file is made at this path, or none is left, and it is said why. Or one is made, and the
+  -- worker created on it.
+  abbrev pub BeginsInFile : Type 0
+  BeginsInFile =
+      ((why : OpenFault) × IsUnmade handles files new.path new.prepared.sectors why
+      × SaysLine (open_words new.path why) exit.IoError before.err status after.err
+      × (after.out ≡ before.out))
+      ⊎ HasBegunInFile
+
+  -- The disk is on the block device at this path, of as many sectors as are needed, the worker was
+  -- created on it, and it was closed.
+  pub record HasBegunOnDevice : Type 0 where
+    pub disk : FileDisk F
+    pub disk' : FileDisk F
+    pub taken : IsTakenAt handles files new.path new.prepared.sectors disk
+    pub closed : IsTrue (files.closed disk')
+    pub begins : BeginsOn file_medium new left disk disk' before after status
+
+  -- It is said why the path can't be taken. Or the worker is created on the device that it names.
+  abbrev pub BeginsOnDevice : Type 0
+  BeginsOnDevice =
+      ((why : OpenFault) × IsUntaken handles files new.path new.prepared.sectors why
+      × SaysLine (open_words new.path why) exit.IoError before.err status after.err
+      × (after.out ≡ before.out))
+      ⊎ HasBegunOnDevice
+
+  -- on a device that is there, where that is asked for, and in a new file where not
+  abbrev pub BeginsOnDisk : Bool → Type 0
+  BeginsOnDisk true = BeginsOnDevice
+  BeginsOnDisk false = BeginsInFile
+
+-- ---- both disks
+
 -- what a succession is given: the path of the old disk, whether the new disk is on a device that
 -- is there, and the new disk
 pub record SuccessionValue : Type 0 where
@@ -166,58 +220,6 @@ abbrev pub succession_of : List ℕ → Bool → NewDiskValue → SuccessionValu
 succession_of from on_device new = record { from = from; on_device = on_device; new = new }
 
 module _ {F : Type 0} (handles : KnownHandles F) (files : KnownFiles F) where
-  -- The disk was made in a new file at this path, of as many sectors as are needed, the worker was
-  -- created on it, and it was closed. Its file is left there where the status is `Done`, and else
-  -- it was to be removed.
-  pub record IsSuccessorInFile (new : NewDiskValue) (left : Handover) (before after : Printers)
-      (status : Status) : Type 0 where
-    pub disk : FileDisk F
-    pub disk' : FileDisk F
-    pub made : IsMadeAt handles files new.path new.prepared.sectors disk
-    pub closed : IsTrue (files.closed disk')
-    pub succeeds :
-        SucceedsOn file_medium (successor new.bytes new.prepared.config left) disk disk' before
-        after status
-    pub keeps : status ≡ exit.Done → IsTrue (files.kept new.path)
-    pub removes : status ≢ exit.Done → IsTrue (files.removed new.path)
-
-  -- No file is made at this path, or none is left, and it is said why. Or one is made, and the
-  -- worker created on it.
-  abbrev pub SucceedsInFile : NewDiskValue → Handover → Printers → Printers → Status → Type 0
-  SucceedsInFile new left before after status =
-      ((why : OpenFault) × IsUnmade handles files new.path new.prepared.sectors why
-      × SaysLine (open_words new.path why) exit.IoError before.err status after.err
-      × (after.out ≡ before.out))
-      ⊎ IsSuccessorInFile new left before after status
-
-  -- The disk is on the block device at this path, of as many sectors as are needed, the worker was
-  -- created on it, and it was closed.
-  pub record IsSuccessorOnDevice (new : NewDiskValue) (left : Handover) (before after : Printers)
-      (status : Status) : Type 0 where
-    pub disk : FileDisk F
-    pub disk' : FileDisk F
-    pub taken : IsTakenAt handles files new.path new.prepared.sectors disk
-    pub closed : IsTrue (files.closed disk')
-    pub succeeds :
-        SucceedsOn file_medium (successor new.bytes new.prepared.config left) disk disk' before
-        after status
-
-  -- It is said why the path can't be taken. Or the worker is created on the device that it names.
-  abbrev pub SucceedsOnDevice : NewDiskValue → Handover → Printers → Printers → Status → Type 0
-  SucceedsOnDevice new left before after status =
-      ((why : OpenFault) × IsUntaken handles files new.path new.prepared.sectors why
-      × SaysLine (open_words new.path why) exit.IoError before.err status after.err
-      × (after.out ≡ before.out))
-      ⊎ IsSuccessorOnDevice new left before after status
-
-  -- on a device that is there, where that is asked for, and in a new file where not
-  abbrev pub MakesSuccessor : Bool → NewDiskValue → Handover → Printers → Printers → Status
-      → Type 0
-  MakesSuccessor true new left before after status = SucceedsOnDevice new left before after status
-  MakesSuccessor false new left before after status = SucceedsInFile new left before after status
-
-  -- ---- both disks
-
   -- What the old disk leaves is said to be nothing, or not to fit. Or the new worker goes on from
   -- it.
   abbrev pub SucceedsAsLeft : SuccessionValue → Result Handover LeaveFault → Printers → Printers
@@ -228,7 +230,7 @@ module _ {F : Type 0} (handles : KnownHandles F) (files : KnownFiles F) where
       (SaysRoomless given.new.prepared.config left.legacy before.err status after.err
       × (after.out ≡ before.out))
       ⊎ (HasRoomFor given.new.prepared.config left.legacy
-      × MakesSuccessor given.on_device given.new left before after status)
+      × BeginsOnDisk handles files given.new (Some left) before after status given.on_device)
 
   -- The old disk was opened at its path, only synced and read, and closed.
   pub record SucceedsFrom (given : SuccessionValue) (before after : Printers) (status : Status)

@@ -12,12 +12,13 @@
 
 ghost use Rattle.std.specs.Prelude.{◌≡◌, ◌<◌, [], IfErr, IfOk, IsTrue, OnOk};
 ghost use Rattle.sector_disk.specs.rules.File.{answers_of, file_medium};
+ghost use Rattle.sector_disk.specs.rules.Known.{MayOpen};
 ghost use Rattle.command_words.specs.rules.Reports.{SaysLine, obstacle_words};
 ghost use Rattle.command_words.specs.declared.status.Status.TheVariants as exit;
 ghost use Rattle.command_words.specs.rules.Printers.{printers};
 ghost use Rattle.disk_commands.specs.rules.Openings.{IsOpenedFor, IsWrittenBack, SaysUnopened};
-ghost use Rattle.disk_commands.specs.rules.LookedFiles.{TellsFile, TellsLook, TellsOpened};
-ghost use Rattle.disk_commands.specs.rules.LookedFiles.{TellsPicture};
+ghost use Rattle.disk_commands.specs.rules.Openings.{command_run};
+ghost use Rattle.disk_commands.specs.rules.LookedFiles.{TellsFile, TellsLook};
 
 use crate::inspecting::{inspect_disk, list_files, tell_history};
 use crate::on_disk::live::picture_of;
@@ -57,16 +58,13 @@ fn written_back<F: DiskFile, R: DiskFiles<File = F>, E: Write + Drop>(
 /// Opens the file of a disk for a command. Where `rewrites` says so, every sector is written back
 /// as it is read, and synced, before anything else is done with it. Without it nothing is written.
 /// An error is the exit status, and says why there is no disk.
-pub fn open_disk<F, R, E>(
+pub fn open_disk<F: DiskFile, R: DiskFiles<File = F>, E: Write + Drop>(
     files: &R,
     path: &str,
     rewrites: bool,
     err: &mut Printer<E>,
 ) -> Result<FileDisk<F>, Status>
-where
-    F: DiskFile,
-    R: DiskFiles<File = F>,
-    E: Write + Drop,
+    requires { IsTrue ((R.known files.now).may_write path.now) }
     ensures opened { IfOk result (IsOpenedFor F.known (R.known files.now) rewrites path.now) }
     ensures quiet { OnOk result (err.new ≡ err.old) }
     ensures said { IfErr result (λ status. SaysUnopened F.known (R.known files.now) rewrites
@@ -114,62 +112,6 @@ fn look_at<D: Disk, W: Write + Drop, E: Write + Drop>(
     }
 }
 
-/// Opens the disk in a file, which no other host may have meanwhile, says what is asked for, and
-/// closes it. Returns the exit status.
-fn look_at_opened<F, R, W, E>(
-    alloc: Global,
-    files: &R,
-    path: &str,
-    look: Look<'_>,
-    out: &mut Printer<W>,
-    err: &mut Printer<E>,
-) -> Status
-where
-    F: DiskFile,
-    R: DiskFiles<File = F>,
-    W: Write + Drop,
-    E: Write + Drop,
-    ensures { TellsOpened F.known (R.known files.now) look.entry path.now
-        (printers out.old err.old) (printers out.new err.new) result }
-{
-    match open_disk(files, path, false, err) {
-        Ok(mut disk) => {
-            let status = look_at(alloc, &mut disk, look, out, err);
-            files.close(disk);
-            status
-        }
-        Err(status) => status,
-    }
-}
-
-/// Takes a picture of the disk in a file, which another host may have, and says what is asked for.
-/// Returns the exit status.
-fn look_at_picture<F, R, W, E>(
-    alloc: Global,
-    files: &R,
-    path: &str,
-    look: Look<'_>,
-    out: &mut Printer<W>,
-    err: &mut Printer<E>,
-) -> Status
-where
-    F: DiskFile,
-    R: DiskFiles<File = F>,
-    W: Write + Drop,
-    E: Write + Drop,
-    ensures { TellsPicture F.known (R.known files.now) look.entry path.now
-        (printers out.old err.old) (printers out.new err.new) result }
-{
-    match picture_of(alloc, files, path, err) {
-        Ok(mut picture) => {
-            let status = look_at(alloc, &mut picture, look, out, err);
-            drop(picture);
-            status
-        }
-        Err(status) => status,
-    }
-}
-
 /// The disk in a file that is to be looked at.
 #[derive(Clone, Copy, Debug, PartialEq, Eq)]
 pub struct Seen<'a> {
@@ -181,7 +123,7 @@ pub struct Seen<'a> {
 
 /// `wasmhost show`, `inspect`, `files` and `history` of the disk in a file: it is opened, only
 /// looked at, and closed. Returns the exit status.
-pub fn look_at_file<F, R, W, E>(
+pub fn look_at_file<F: DiskFile, R: DiskFiles<File = F>, W: Write + Drop, E: Write + Drop>(
     alloc: Global,
     files: &R,
     seen: Seen<'_>,
@@ -189,16 +131,28 @@ pub fn look_at_file<F, R, W, E>(
     out: &mut Printer<W>,
     err: &mut Printer<E>,
 ) -> Status
-where
-    F: DiskFile,
-    R: DiskFiles<File = F>,
-    W: Write + Drop,
-    E: Write + Drop,
+    requires { MayOpen (R.known files.now) seen.is_live seen.path.now }
     ensures { TellsFile F.known (R.known files.now) look.entry seen.entry.path.now
-        (printers out.old err.old) (printers out.new err.new) result seen.entry.is_live }
+        (command_run (printers out.old err.old) (printers out.new err.new) result)
+        seen.entry.is_live }
 {
     if seen.is_live {
-        return look_at_picture(alloc, files, seen.path, look, out, err);
+        match picture_of(alloc, files, seen.path, err) {
+            Ok(mut picture) => {
+                let status = look_at(alloc, &mut picture, look, out, err);
+                drop(picture);
+                status
+            }
+            Err(status) => status,
+        }
+    } else {
+        match open_disk(files, seen.path, false, err) {
+            Ok(mut disk) => {
+                let status = look_at(alloc, &mut disk, look, out, err);
+                files.close(disk);
+                status
+            }
+            Err(status) => status,
+        }
     }
-    look_at_opened(alloc, files, seen.path, look, out, err)
 }

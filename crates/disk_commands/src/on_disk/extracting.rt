@@ -21,13 +21,12 @@ ghost use Rattle.std.specs.Prelude.{true, length, string_bytes};
 ghost use Rattle.std.specs.IoError.{error_kind};
 ghost use Rattle.std.specs.List.Sorted.{IsPermutation};
 ghost use Rattle.file_listing.specs.rules.Listed.{HaveNames, IsPathText, listing_in};
+ghost use Rattle.sector_disk.specs.rules.Known.{MayOpen};
 ghost use Rattle.command_words.specs.rules.Printers.{IsPrinted, printers};
 ghost use Rattle.command_words.specs.rules.Reports.{SaysOnOutput};
 ghost use Rattle.command_words.specs.declared.status.Status.TheVariants as exit;
-ghost use Rattle.disk_commands.specs.rules.ExtractedTrees.{ExtractsDisk, ExtractsFile};
-ghost use Rattle.disk_commands.specs.rules.ExtractedTrees.{ExtractsOpened, ExtractsPicture};
-ghost use Rattle.disk_commands.specs.rules.ExtractedTrees.{FailsToMake, FillsFolder, IsMade};
-ghost use Rattle.disk_commands.specs.rules.ExtractedTrees.{IsMadeBelow};
+ghost use Rattle.disk_commands.specs.rules.ExtractedTrees.{ExtractsDisk, ExtractsFile, FailsToMake};
+ghost use Rattle.disk_commands.specs.rules.ExtractedTrees.{FillsFolder, IsMade, IsMadeBelow};
 ghost use Rattle.disk_commands.specs.rules.ExtractedTrees.{SaysUnmade, SaysUnmadeOf, WritesTree};
 ghost use Rattle.disk_commands.specs.rules.ExtractedTrees.{directories_in, written_line};
 ghost use Rattle.disk_commands.specs.rules.NewTrees.{IsBelow, IsListedBelow, below};
@@ -251,70 +250,12 @@ fn extract_disk<D: Disk, R: NewTrees, W: Write + Drop, E: Write + Drop>(
     }
 }
 
-/// Opens the disk in a file, which no other host may have meanwhile, and writes its files into a
-/// new folder. Returns the exit status.
-fn extract_opened<F, R, W, E>(
-    alloc: Global,
-    files: &R,
-    path: &str,
-    folder: &str,
-    out: &mut Printer<W>,
-    err: &mut Printer<E>,
-) -> Status
-where
-    F: DiskFile,
-    R: NewTrees<File = F>,
-    W: Write + Drop,
-    E: Write + Drop,
-    requires { IsTrue ((R.trees files.now).allowed folder.now) }
-    ensures { ExtractsOpened F.known (R.known files.now) (R.trees files.now) path.now folder.now
-        (command_run (printers out.old err.old) (printers out.new err.new) result) }
-{
-    match open_disk(files, path, false, err) {
-        Ok(mut disk) => {
-            let status = extract_disk(alloc, files, &mut disk, folder, out, err);
-            files.close(disk);
-            status
-        }
-        Err(status) => status,
-    }
-}
-
-/// Takes a picture of the disk in a file, which another host may have, and writes its files into a
-/// new folder. Returns the exit status.
-fn extract_picture<F, R, W, E>(
-    alloc: Global,
-    files: &R,
-    path: &str,
-    folder: &str,
-    out: &mut Printer<W>,
-    err: &mut Printer<E>,
-) -> Status
-where
-    F: DiskFile,
-    R: NewTrees<File = F>,
-    W: Write + Drop,
-    E: Write + Drop,
-    requires { IsTrue ((R.trees files.now).allowed folder.now) }
-    ensures { ExtractsPicture F.known (R.known files.now) (R.trees files.now) path.now folder.now
-        (command_run (printers out.old err.old) (printers out.new err.new) result) }
-{
-    match picture_of(alloc, files, path, err) {
-        Ok(mut picture) => {
-            let status = extract_disk(alloc, files, &mut picture, folder, out, err);
-            drop(picture);
-            status
-        }
-        Err(status) => status,
-    }
-}
-
 /// `wasmhost files --all`: the files of the worker on the disk in a file are written into a new
 /// folder. Returns the exit status: `Done` where all are written, `Refused` for a disk that is
 /// refused, `IoError` where a file or folder can't be opened or made, a disk fails or a live one
 /// has changed, `OutOfMemory`, `Unwritten` where a write of a printer has failed. Where it isn't
 /// `Done`, the folder is removed again.
-pub fn extract_file<F, R, W, E>(
+pub fn extract_file<F: DiskFile, R: NewTrees<File = F>, W: Write + Drop, E: Write + Drop>(
     alloc: Global,
     files: &R,
     seen: Seen<'_>,
@@ -322,18 +263,29 @@ pub fn extract_file<F, R, W, E>(
     out: &mut Printer<W>,
     err: &mut Printer<E>,
 ) -> Status
-where
-    F: DiskFile,
-    R: NewTrees<File = F>,
-    W: Write + Drop,
-    E: Write + Drop,
-    requires { IsTrue ((R.trees files.now).allowed folder.now) }
+    requires disk { MayOpen (R.known files.now) seen.is_live seen.path.now }
+    requires folder { IsTrue ((R.trees files.now).allowed folder.now) }
     ensures { ExtractsFile F.known (R.known files.now) (R.trees files.now) seen.entry.path.now
         folder.now (command_run (printers out.old err.old) (printers out.new err.new) result)
         seen.entry.is_live }
 {
     if seen.is_live {
-        return extract_picture(alloc, files, seen.path, folder, out, err);
+        match picture_of(alloc, files, seen.path, err) {
+            Ok(mut picture) => {
+                let status = extract_disk(alloc, files, &mut picture, folder, out, err);
+                drop(picture);
+                status
+            }
+            Err(status) => status,
+        }
+    } else {
+        match open_disk(files, seen.path, false, err) {
+            Ok(mut disk) => {
+                let status = extract_disk(alloc, files, &mut disk, folder, out, err);
+                files.close(disk);
+                status
+            }
+            Err(status) => status,
+        }
     }
-    extract_opened(alloc, files, seen.path, folder, out, err)
 }

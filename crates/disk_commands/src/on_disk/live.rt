@@ -18,7 +18,7 @@
 //!   again is left to the caller, who may wait between.
 //! - **At most `MOST_SECTORS` are read**, so a device is not read to its end.
 
-ghost use Rattle.std.specs.Prelude.{◌≡◌, IfErr, IfOk, Ok, OnOk};
+ghost use Rattle.std.specs.Prelude.{◌≡◌, IfErr, IfOk, IsTrue, Ok, OnOk};
 ghost use Rattle.sector_disk.specs.rules.Open.{IsUnseenAt};
 ghost use Rattle.command_words.specs.rules.Reports.{SaysLine};
 ghost use Rattle.command_words.specs.declared.status.Status.TheVariants as exit;
@@ -74,14 +74,12 @@ fn say_unpictured<E: Write + Drop>(err: &mut Printer<E>, path: &str, fault: Pict
 }
 
 /// A picture of the disk in a file, or why there is none. The file is closed again.
-fn take_at<F, R>(
+fn take_at<F: DiskFile, R: DiskFiles<File = F>>(
     alloc: Global,
     files: &R,
     path: &str,
 ) -> Result<Result<MemDisk, PictureFault>, OpenFault>
-where
-    F: DiskFile,
-    R: DiskFiles<File = F>,
+    requires { IsTrue ((R.known files.now).may_read path.now) }
     ensures taken { IfOk result (IsPictureAt F.known (R.known files.now) path.now) }
     ensures unseen { IfErr result (IsUnseenAt F.known (R.known files.now) path.now) }
 {
@@ -93,16 +91,13 @@ where
 
 /// A picture of the disk in a file, which another host may have. An error is the exit status, and
 /// says why there is none.
-pub(super) fn picture_of<F, R, E>(
+pub(super) fn picture_of<F: DiskFile, R: DiskFiles<File = F>, E: Write + Drop>(
     alloc: Global,
     files: &R,
     path: &str,
     err: &mut Printer<E>,
 ) -> Result<MemDisk, Status>
-where
-    F: DiskFile,
-    R: DiskFiles<File = F>,
-    E: Write + Drop,
+    requires { IsTrue ((R.known files.now).may_read path.now) }
     ensures pictured { IfOk result (λ picture.
         IsPictureAt F.known (R.known files.now) path.now (Ok picture)) }
     ensures quiet { OnOk result (err.new ≡ err.old) }

@@ -37,7 +37,7 @@ pub(crate) use fault::{OnDiskFault, say_disk_fault};
 pub use found_file::FoundFile;
 pub use leaving::report_input;
 pub use living::Pace;
-pub use making::{NewDisk, create_device, create_disk, create_file};
+pub use making::create_disk;
 pub use new_trees::{NewTree, NewTrees};
 pub use opening::{report_open, report_unread};
 pub use running::{System, run_file, upgrade_file};

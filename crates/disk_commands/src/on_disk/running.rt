@@ -5,6 +5,7 @@
 //! - **What the words of a command say is handed over whole**, and one function makes the job of a
 //!   run of it (`job_of`). The program then has no number to pass, and each is in a clause.
 
+ghost use Rattle.std.specs.Prelude.{IsTrue};
 ghost use Rattle.std.specs.Int.NonZero.{non_zero_u64_get};
 ghost use Rattle.std.specs.Io.Buffered.{reader_remaining};
 ghost use Rattle.command_words.specs.rules.Commands.{run_said};
@@ -149,47 +150,11 @@ where
     }
 }
 
-/// Does what the words say of a run, with this seed. The disk is opened, and written back where
-/// they ask for it. The files that they name to say where the worker is must have free paths. Then
-/// the worker goes on, as `serve` says, and it is said what is left of the input. Returns the exit
-/// status.
-fn run_seeded<F, R, I, C, O, E>(
-    alloc: Global,
-    system: System<'_, R, I, C>,
-    order: &RunOrder<'_>,
-    seed: [u8; 32],
-    outlet: &mut O,
-    err: &mut Printer<E>,
-) -> Status
-where
-    F: DiskFile + Read + Write + Seek,
-    R: DiskFiles<File = F> + Files<File = F> + Clock,
-    I: Read + Drop,
-    C: RealTime + Drop,
-    O: Outlet,
-    E: Write + Drop,
-    requires { IsSeedFrom (run_said order.now).seed_file (run_said order.now).seed seed }
-    ensures { RunsFile F.known (R.known system.entry.files.now) O.takes (run_said order.now)
-        (run_input (reader_remaining I.remaining system.entry.lines.reader)
-        system.entry.lines.has_failed) (outputs outlet.old err.old) (outputs outlet.new err.new)
-        result }
-{
-    let job = job_of(order, seed);
-    let files = system.files;
-    match open_disk(files, order.disk, order.rewrites, err) {
-        Ok(mut disk) => {
-            err.read_along(order.is_verbose);
-            let status = run_job(alloc, &mut disk, job, system, outlet, err);
-            files.close(disk);
-            status
-        }
-        Err(status) => status,
-    }
-}
-
 /// `wasmhost run` of the disk in a file, as the words say: with their fuel, their pace, their seed
 /// and their clock, or else the machine's. A seed that is none is told before the disk is opened.
-/// Returns the exit status.
+/// That is written back where they ask for it. The files that they name to say where the worker is
+/// must have free paths. Then the worker goes on, as `serve` says, and it is said what is left of
+/// the input. Returns the exit status.
 pub fn run_file<F, R, I, C, O, E>(
     alloc: Global,
     system: System<'_, R, I, C>,
@@ -204,13 +169,25 @@ where
     C: RealTime + Drop,
     O: Outlet,
     E: Write + Drop,
+    requires { IsTrue ((R.known system.files.now).may_write order.now.disk.now) }
     ensures { RunsFile F.known (R.known system.entry.files.now) O.takes (run_said order.now)
         (run_input (reader_remaining I.remaining system.entry.lines.reader)
         system.entry.lines.has_failed) (outputs outlet.old err.old) (outputs outlet.new err.new)
         result }
 {
-    match seed_for(alloc, system.files, order, err) {
-        Ok(seed) => run_seeded(alloc, system, order, seed, outlet, err),
+    let seed = match seed_for(alloc, system.files, order, err) {
+        Ok(seed) => seed,
+        Err(status) => return status,
+    };
+    let job = job_of(order, seed);
+    let files = system.files;
+    match open_disk(files, order.disk, order.rewrites, err) {
+        Ok(mut disk) => {
+            err.read_along(order.is_verbose);
+            let status = run_job(alloc, &mut disk, job, system, outlet, err);
+            files.close(disk);
+            status
+        }
         Err(status) => status,
     }
 }
@@ -218,18 +195,14 @@ where
 /// `wasmhost upgrade` of the disk in a file: it is opened, and not written back. Its worker comes
 /// to version 2, as `upgrade_worker` says, and after its lines the outlet's writer gets the result.
 /// Returns the exit status.
-pub fn upgrade_file<F, R, W, E>(
+pub fn upgrade_file<F: DiskFile, R: DiskFiles<File = F>, W: Write + Drop, E: Write + Drop>(
     alloc: Global,
     files: &R,
     path: &str,
     outlet: &mut LineOutlet<W>,
     err: &mut Printer<E>,
 ) -> Status
-where
-    F: DiskFile,
-    R: DiskFiles<File = F>,
-    W: Write + Drop,
-    E: Write + Drop,
+    requires { IsTrue ((R.known files.now).may_write path.now) }
     ensures { UpgradesFile F.known (R.known files.now) path.now (printers outlet.old err.old)
         (printers outlet.new err.new) result }
 {

@@ -16,14 +16,14 @@
 //! - **A copy is made of a disk that a recovery finds whole.** Of a damaged one it is told what is
 //!   wrong, and `cp` copies it.
 
-ghost use Rattle.std.specs.Prelude.{◌≡◌, true, OnErr, OnOk};
+ghost use Rattle.std.specs.Prelude.{◌≡◌, true, IsTrue, OnErr, OnOk};
+ghost use Rattle.sector_disk.specs.rules.Known.{MayOpen};
 ghost use Rattle.command_words.specs.rules.Printers.{IsPrinted, printers};
 ghost use Rattle.command_words.specs.rules.Reports.{SaysOnOutput};
 ghost use Rattle.command_words.specs.declared.status.Status.TheVariants as exit;
 ghost use Rattle.disk_commands.specs.rules.Openings.{command_run};
 ghost use Rattle.disk_commands.specs.rules.SavedCopies.{MakesCopy, SavesCopy, SavesFile};
-ghost use Rattle.disk_commands.specs.rules.SavedCopies.{SavesInspected, SavesOpened, SavesPicture};
-ghost use Rattle.disk_commands.specs.rules.SavedCopies.{saved_line};
+ghost use Rattle.disk_commands.specs.rules.SavedCopies.{SavesInspected, saved_line};
 
 use crate::on_disk::disk_file::{Seen, open_disk};
 use crate::on_disk::fault::{OnDiskFault, say_disk_fault};
@@ -81,7 +81,7 @@ pub fn save_on<D: Disk, C: Disk, W: Write + Drop, E: Write + Drop>(
 
 /// Makes a new file of so many sectors, and copies those of a disk there. The file is left where
 /// the status is `Done`, and else it is removed.
-fn make_copy<F, R, D, W, E>(
+fn make_copy<F: DiskFile, R: NewFiles<File = F>, D: Disk, W: Write + Drop, E: Write + Drop>(
     files: &R,
     disk: &mut D,
     path: &str,
@@ -89,12 +89,7 @@ fn make_copy<F, R, D, W, E>(
     out: &mut Printer<W>,
     err: &mut Printer<E>,
 ) -> Status
-where
-    F: DiskFile,
-    R: NewFiles<File = F>,
-    D: Disk,
-    W: Write + Drop,
-    E: Write + Drop,
+    requires { IsTrue ((R.known files.now).may_make path.now) }
     ensures { MakesCopy F.known (R.known files.now) path.now sectors (D.medium disk.old)
         (D.medium disk.new)
         (command_run (printers out.old err.old) (printers out.new err.new) result) }
@@ -110,7 +105,7 @@ where
 }
 
 /// Looks into a disk, and copies it to a new file where it is a worker's.
-fn save_worker<F, R, D, W, E>(
+fn save_worker<F: DiskFile, R: NewFiles<File = F>, D: Disk, W: Write + Drop, E: Write + Drop>(
     alloc: Global,
     files: &R,
     disk: &mut D,
@@ -118,12 +113,7 @@ fn save_worker<F, R, D, W, E>(
     out: &mut Printer<W>,
     err: &mut Printer<E>,
 ) -> Status
-where
-    F: DiskFile,
-    R: NewFiles<File = F>,
-    D: Disk,
-    W: Write + Drop,
-    E: Write + Drop,
+    requires { IsTrue ((R.known files.now).may_make copy.now) }
     ensures { SavesInspected F.known (R.known files.now) copy.now D.medium disk.old disk.new
         (command_run (printers out.old err.old) (printers out.new err.new) result) }
 {
@@ -137,67 +127,11 @@ where
     }
 }
 
-/// Opens the disk in a file, which no other host may have meanwhile, and saves its worker. Returns
-/// the exit status.
-fn save_opened<F, R, W, E>(
-    alloc: Global,
-    files: &R,
-    path: &str,
-    copy: &str,
-    out: &mut Printer<W>,
-    err: &mut Printer<E>,
-) -> Status
-where
-    F: DiskFile,
-    R: NewFiles<File = F>,
-    W: Write + Drop,
-    E: Write + Drop,
-    ensures { SavesOpened F.known (R.known files.now) path.now copy.now
-        (command_run (printers out.old err.old) (printers out.new err.new) result) }
-{
-    match open_disk(files, path, false, err) {
-        Ok(mut disk) => {
-            let status = save_worker(alloc, files, &mut disk, copy, out, err);
-            files.close(disk);
-            status
-        }
-        Err(status) => status,
-    }
-}
-
-/// Takes a picture of the disk in a file, which another host may have, and saves its worker.
-/// Returns the exit status.
-fn save_picture<F, R, W, E>(
-    alloc: Global,
-    files: &R,
-    path: &str,
-    copy: &str,
-    out: &mut Printer<W>,
-    err: &mut Printer<E>,
-) -> Status
-where
-    F: DiskFile,
-    R: NewFiles<File = F>,
-    W: Write + Drop,
-    E: Write + Drop,
-    ensures { SavesPicture F.known (R.known files.now) path.now copy.now
-        (command_run (printers out.old err.old) (printers out.new err.new) result) }
-{
-    match picture_of(alloc, files, path, err) {
-        Ok(mut picture) => {
-            let status = save_worker(alloc, files, &mut picture, copy, out, err);
-            drop(picture);
-            status
-        }
-        Err(status) => status,
-    }
-}
-
 /// `wasmhost save`: all sectors of the worker's disk in a file are copied to a new file. Returns
 /// the exit status: `Done` where they are copied, `Refused` for a disk that is refused, `IoError`
 /// where a file can't be opened or made, a disk fails or a live one has changed, `OutOfMemory`,
 /// `Unwritten` where a write of a printer has failed.
-pub fn save_file<F, R, W, E>(
+pub fn save_file<F: DiskFile, R: NewFiles<File = F>, W: Write + Drop, E: Write + Drop>(
     alloc: Global,
     files: &R,
     seen: Seen<'_>,
@@ -205,17 +139,29 @@ pub fn save_file<F, R, W, E>(
     out: &mut Printer<W>,
     err: &mut Printer<E>,
 ) -> Status
-where
-    F: DiskFile,
-    R: NewFiles<File = F>,
-    W: Write + Drop,
-    E: Write + Drop,
+    requires disk { MayOpen (R.known files.now) seen.is_live seen.path.now }
+    requires copy { IsTrue ((R.known files.now).may_make copy.now) }
     ensures { SavesFile F.known (R.known files.now) seen.entry.path.now copy.now
         (command_run (printers out.old err.old) (printers out.new err.new) result)
         seen.entry.is_live }
 {
     if seen.is_live {
-        return save_picture(alloc, files, seen.path, copy, out, err);
+        match picture_of(alloc, files, seen.path, err) {
+            Ok(mut picture) => {
+                let status = save_worker(alloc, files, &mut picture, copy, out, err);
+                drop(picture);
+                status
+            }
+            Err(status) => status,
+        }
+    } else {
+        match open_disk(files, seen.path, false, err) {
+            Ok(mut disk) => {
+                let status = save_worker(alloc, files, &mut disk, copy, out, err);
+                files.close(disk);
+                status
+            }
+            Err(status) => status,
+        }
     }
-    save_opened(alloc, files, seen.path, copy, out, err)
 }

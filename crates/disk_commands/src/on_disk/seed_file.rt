@@ -52,11 +52,11 @@ fn seed_in(bytes: &[u8]) -> Option<[u8; 32]>
 }
 
 /// The first bytes of a file.
-fn read_front<F, R>(alloc: Global, files: &R, path: &str) -> io::Result<Vec<u8>>
-where
-    F: OpenFile + Read + Drop,
-    R: Files<File = F>,
-{
+fn read_front<F: OpenFile + Read + Drop, R: Files<File = F>>(
+    alloc: Global,
+    files: &R,
+    path: &str,
+) -> io::Result<Vec<u8>> {
     let mut front = Vec::new(alloc);
     File::open(files, path)?
         .take(FRONT_BYTES)

@@ -87,7 +87,7 @@ pub struct Drive<'a, T> {
 
 /// Runs a worker that is open on its disk: request lines after those that it has taken, texts as
 /// long as its version has them, random bytes of its generation.
-fn go_on<D, R, C, O, T>(
+fn go_on<D: Disk, R: LineReader + ReadAhead + Drop, C: RealTime + Drop, O: Outlet, T: Watcher>(
     worker: &mut Worker,
     disk: &mut D,
     pace: Pace,
@@ -95,12 +95,6 @@ fn go_on<D, R, C, O, T>(
     outlet: &mut O,
     watcher: &T,
 ) -> Result<Now, OnDiskFault>
-where
-    D: Disk,
-    R: LineReader + ReadAhead + Drop,
-    C: RealTime + Drop,
-    O: Outlet,
-    T: Watcher,
     requires { total_sectors worker.old.store.geometry ≤ (D.medium disk.old).sectors }
     ensures gone { HasGoneOn D.medium O.takes (scene worker.old disk.old (disk_job
         (non_zero_u64_get pace.fuel) (non_zero_u64_get pace.every) (non_zero_u64_get pace.batch)

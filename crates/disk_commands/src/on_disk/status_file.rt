@@ -68,6 +68,7 @@ fn look_at_free<R: WatchedPaths, E: Write + Drop>(
 /// there is removed first.
 fn try_new<R: WatchedPaths>(files: &R, path: &str, here: &FoundFile) -> io::Result<()>
     requires found { IsTrue (R.has_found files.now path.now here.now) }
+    requires may { IsTrue ((R.known files.now).may_make path.now) }
     ensures { OnOk result (IsTrue ((R.known files.now).removed path.now)) }
 {
     if here.is_status_file() {
@@ -87,6 +88,7 @@ fn clear_beside<R: WatchedPaths, E: Write + Drop>(
     path: &str,
     err: &mut Printer<E>,
 ) -> Result<(), Status>
+    requires { IsTrue ((R.known files.now).may_make path.now) }
     ensures free { OnOk result (HasFoundFree (R.has_found files.now path.now)
         × IsTrue ((R.known files.now).removed path.now)) }
     ensures quiet { OnOk result (err.new ≡ err.old) }
@@ -112,7 +114,8 @@ fn clear_paths<R: WatchedPaths, E: Write + Drop>(
     new: &str,
     err: &mut Printer<E>,
 ) -> Result<(), Status>
-    requires { new.now ≡ beside path.now }
+    requires beside { new.now ≡ beside path.now }
+    requires may { IsTrue ((R.known files.now).may_make new.now) }
     ensures free { OnOk result (IsWatchable (R.has_found files.now) (R.known files.now).removed
         path.now) }
     ensures quiet { OnOk result (err.new ≡ err.old) }
@@ -141,11 +144,12 @@ fn write_at_once<W: Write>(out: &mut W, bytes: &[u8]) -> io::Result<()>
 /// A file that says where a worker is. Each text is written beside its path, and then gets the
 /// path, so that whoever reads it finds a whole text. A worker runs on though that fails.
 #[derive(Drop)]
-pub struct StatusFile<'a, R> {
+pub struct StatusFile<'a, R: WatchedPaths> {
     alloc: Global,
     files: &'a R,
     path: &'a str,
     beside: String,
+    ghost may: { IsTrue ((R.known files.now).may_make (string_bytes beside)) },
 }
 
 impl<R: WatchedPaths> StatusFile<'_, R> {
@@ -193,6 +197,7 @@ pub fn status_file_of<'a, R: WatchedPaths, E: Write + Drop>(
     path: Option<&'a str>,
     err: &mut Printer<E>,
 ) -> Result<Option<StatusFile<'a, R>>, Status>
+    requires { IfSome path (λ text. IsTrue ((R.known files.now).may_make (beside text.now))) }
     ensures named { IfOk result (λ file. IsSome file ↔ IsSome path.entry) }
     ensures free { IfSome path.entry (λ text. OnOk result (IsWatchable
         (R.has_found files.entry.now) (R.known files.entry.now).removed text.now)) }

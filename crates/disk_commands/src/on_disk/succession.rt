@@ -17,23 +17,19 @@
 
 ghost use Rattle.std.specs.Prelude.{◌≡◌, ◌↔◌, ◌*◌, ◌≤◌, IfOk, IsTrue};
 ghost use Rattle.file_tree.specs.declared.limits.TheConstants.{UNIT_BYTES};
-ghost use Rattle.file_tree.specs.rules.Files.{used};
+ghost use Rattle.sector_disk.specs.rules.Known.{MayPlace};
 ghost use Rattle.command_words.specs.rules.Printers.{printers};
 ghost use Rattle.disk_commands.specs.SuccessorDisks.{FitsOrSays, IsTakenOver, SucceedsOpened};
 ghost use Rattle.disk_commands.specs.rules.Creations.{new_disk};
-ghost use Rattle.disk_commands.specs.rules.SuccessorDisks.{MakesSuccessor, SucceedsDisk};
-ghost use Rattle.disk_commands.specs.rules.SuccessorDisks.{SucceedsInFile, SucceedsOnDevice};
-ghost use Rattle.disk_commands.specs.rules.SuccessorDisks.{succession_of};
+ghost use Rattle.disk_commands.specs.rules.SuccessorDisks.{SucceedsDisk, succession_of};
 
 use crate::on_disk::disk_file::open_disk;
-use crate::on_disk::making::{NewDisk, keep_if_created};
-use crate::on_disk::opening::report_open;
-use crate::on_disk::successor::succeed_on;
+use crate::on_disk::making::{NewDisk, begin_on_disk};
 use crate::on_disk::unsucceeded::{report_crowded, report_short, report_unleft};
 use command_words::{Printer, Status};
 use disk_layout::takes_records;
 use file_tree::limits::UNIT_BYTES;
-use sector_disk::{Disk, DiskFile, DiskFiles, FileDisk, NewFiles};
+use sector_disk::{Disk, DiskFile, FileDisk, NewFiles};
 use std::alloc::Global;
 use std::io::Write;
 use wasi_abi::Config;
@@ -46,8 +42,6 @@ pub(super) struct Succession<'a> {
     pub(super) from: &'a str,
     /// Its own disk, and what it is created with.
     pub(super) new: NewDisk<'a>,
-    /// Whether that disk is a block device that is there.
-    pub(super) on_device: bool,
 }
 
 /// Whether files of so many bytes fit into those that a configuration allows.
@@ -96,100 +90,8 @@ fn take_over<D: Disk, E: Write + Drop>(
     }
 }
 
-/// The new worker in a new file: that is removed again where the creation fails. Returns the exit
-/// status.
-fn succeed_in_file<F, R, W, E>(
-    alloc: Global,
-    files: &R,
-    new: NewDisk<'_>,
-    handover: Handover,
-    out: &mut Printer<W>,
-    err: &mut Printer<E>,
-) -> Status
-where
-    F: DiskFile,
-    R: NewFiles<File = F>,
-    W: Write + Drop,
-    E: Write + Drop,
-    requires { used handover.legacy.files ≤ new.prepared.now.config.files * UNIT_BYTES }
-    ensures { SucceedsInFile F.known (R.known files.now) (new_disk new.entry.path.now
-        new.entry.wasm.now new.entry.prepared.now) handover (printers out.old err.old)
-        (printers out.new err.new) result }
-{
-    let (mut disk, made) = match FileDisk::create(files, new.path, new.prepared.sectors) {
-        Ok(made) => made,
-        Err(fault) => {
-            handover.close();
-            return report_open(err, new.path, fault);
-        }
-    };
-    let status = succeed_on(alloc, &mut disk, new, handover, out, err);
-    keep_if_created(files, made, status);
-    files.close(disk);
-    status
-}
-
-/// The new worker on a block device that is there. Returns the exit status.
-fn succeed_on_device<F, R, W, E>(
-    alloc: Global,
-    files: &R,
-    new: NewDisk<'_>,
-    handover: Handover,
-    out: &mut Printer<W>,
-    err: &mut Printer<E>,
-) -> Status
-where
-    F: DiskFile,
-    R: DiskFiles<File = F>,
-    W: Write + Drop,
-    E: Write + Drop,
-    requires { used handover.legacy.files ≤ new.prepared.now.config.files * UNIT_BYTES }
-    ensures { SucceedsOnDevice F.known (R.known files.now) (new_disk new.entry.path.now
-        new.entry.wasm.now new.entry.prepared.now) handover (printers out.old err.old)
-        (printers out.new err.new) result }
-{
-    let mut disk = match FileDisk::create_on_device(files, new.path, new.prepared.sectors) {
-        Ok(disk) => disk,
-        Err(fault) => {
-            handover.close();
-            return report_open(err, new.path, fault);
-        }
-    };
-    let status = succeed_on(alloc, &mut disk, new, handover, out, err);
-    files.close(disk);
-    status
-}
-
-/// The new worker on its disk, as that is asked for. Returns the exit status.
-fn make_successor<F, R, W, E>(
-    alloc: Global,
-    files: &R,
-    succession: Succession<'_>,
-    handover: Handover,
-    out: &mut Printer<W>,
-    err: &mut Printer<E>,
-) -> Status
-where
-    F: DiskFile,
-    R: NewFiles<File = F>,
-    W: Write + Drop,
-    E: Write + Drop,
-    requires { used handover.legacy.files
-        ≤ succession.new.prepared.now.config.files * UNIT_BYTES }
-    ensures { MakesSuccessor F.known (R.known files.now) succession.entry.on_device (new_disk
-        succession.entry.new.path.now succession.entry.new.wasm.now
-        succession.entry.new.prepared.now) handover (printers out.old err.old)
-        (printers out.new err.new) result }
-{
-    if succession.on_device {
-        succeed_on_device(alloc, files, succession.new, handover, out, err)
-    } else {
-        succeed_in_file(alloc, files, succession.new, handover, out, err)
-    }
-}
-
 /// The new worker succeeds the one on the old disk, which was opened. Returns the exit status.
-fn succeed_open<F, R, W, E>(
+fn succeed_open<F: DiskFile, R: NewFiles<File = F>, W: Write + Drop, E: Write + Drop>(
     alloc: Global,
     files: &R,
     old: &mut FileDisk<F>,
@@ -197,39 +99,32 @@ fn succeed_open<F, R, W, E>(
     out: &mut Printer<W>,
     err: &mut Printer<E>,
 ) -> Status
-where
-    F: DiskFile,
-    R: NewFiles<File = F>,
-    W: Write + Drop,
-    E: Write + Drop,
+    requires { MayPlace (R.known files.now) succession.new.on_device succession.new.path.now }
     ensures { SucceedsOpened F.known (R.known files.now) (succession_of succession.entry.from.now
-        succession.entry.on_device (new_disk succession.entry.new.path.now
+        succession.entry.new.on_device (new_disk succession.entry.new.path.now
         succession.entry.new.wasm.now succession.entry.new.prepared.now)) old.old old.new
         (printers out.old err.old) (printers out.new err.new) result }
 {
     let config = &succession.new.prepared.config;
     match take_over(alloc, old, succession.from, config, err) {
-        Ok(handover) => make_successor(alloc, files, succession, handover, out, err),
+        Ok(handover) => begin_on_disk(alloc, files, succession.new, Some(handover), out, err),
         Err(status) => status,
     }
 }
 
 /// `wasmhost create --from` of a module and a configuration that were looked at: the new worker
 /// succeeds the one on the old disk, which is only synced and read. Returns the exit status.
-pub(super) fn succeed_disk<F, R, W, E>(
+pub(super) fn succeed_disk<F: DiskFile, R: NewFiles<File = F>, W: Write + Drop, E: Write + Drop>(
     alloc: Global,
     files: &R,
     succession: Succession<'_>,
     out: &mut Printer<W>,
     err: &mut Printer<E>,
 ) -> Status
-where
-    F: DiskFile,
-    R: NewFiles<File = F>,
-    W: Write + Drop,
-    E: Write + Drop,
+    requires old { IsTrue ((R.known files.now).may_write succession.from.now) }
+    requires new { MayPlace (R.known files.now) succession.new.on_device succession.new.path.now }
     ensures { SucceedsDisk F.known (R.known files.now) (succession_of succession.entry.from.now
-        succession.entry.on_device (new_disk succession.entry.new.path.now
+        succession.entry.new.on_device (new_disk succession.entry.new.path.now
         succession.entry.new.wasm.now succession.entry.new.prepared.now))
         (printers out.old err.old) (printers out.new err.new) result }
 {

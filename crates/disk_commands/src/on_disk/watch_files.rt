@@ -20,7 +20,7 @@ ghost use Rattle.std.specs.Prelude.{◌≡◌, ◌↔◌, IfErr, IfOk, IfSome, I
 ghost use Rattle.record_replay.specs.declared.slices.now.Now.TheVariants.{Spent};
 ghost use Rattle.disk_commands.specs.rules.Metrics.{disk_label, metrics_text};
 ghost use Rattle.disk_commands.specs.rules.StatusFiles.{IsWatchable, SaysUnwatchable};
-ghost use Rattle.disk_commands.specs.rules.StatusFiles.{SaysUnwatched, path_named};
+ghost use Rattle.disk_commands.specs.rules.StatusFiles.{SaysUnwatched, beside, path_named};
 ghost use Rattle.disk_commands.specs.rules.Watchings.{sighting_of, watch_line};
 ghost use Rattle.disk_commands.specs.Watchings.{IsDue};
 
@@ -81,14 +81,14 @@ fn is_due(last: Option<u64>, now: u64) -> bool
 
 /// A file of metrics, and the label of the worker's disk.
 #[derive(Drop)]
-struct MetricsFile<'a, R> {
+struct MetricsFile<'a, R: WatchedPaths> {
     file: StatusFile<'a, R>,
     label: Vec<u8>,
 }
 
 /// The files of a run that say where its worker is, as far as they are named, and its disk.
 #[derive(Drop)]
-pub struct WatchFiles<'a, R> {
+pub struct WatchFiles<'a, R: WatchedPaths> {
     alloc: Global,
     files: &'a R,
     status: Option<StatusFile<'a, R>>,
@@ -194,6 +194,7 @@ fn metrics_file_of<'a, R: WatchedPaths, E: Write + Drop>(
     disk: &str,
     err: &mut Printer<E>,
 ) -> Result<Option<MetricsFile<'a, R>>, Status>
+    requires { IfSome path (λ text. IsTrue ((R.known files.now).may_make (beside text.now))) }
     ensures named { IfOk result (λ file. IsSome file ↔ IsSome path.entry) }
     ensures free { IfSome path.entry (λ text. OnOk result (IsWatchable
         (R.has_found files.entry.now) (R.known files.entry.now).removed text.now)) }
@@ -227,6 +228,10 @@ pub fn watch_files_of<'a, R: WatchedPaths, E: Write + Drop>(
     paths: WatchPaths<'a>,
     err: &mut Printer<E>,
 ) -> Result<WatchFiles<'a, R>, Status>
+    requires status { IfSome paths.status (λ text.
+        IsTrue ((R.known files.now).may_make (beside text.now))) }
+    requires metrics { IfSome paths.metrics (λ text.
+        IsTrue ((R.known files.now).may_make (beside text.now))) }
     ensures status { IfSome paths.entry.status (λ text. OnOk result (IsWatchable
         (R.has_found files.entry.now) (R.known files.entry.now).removed text.now)) }
     ensures metrics { IfSome paths.entry.metrics (λ text. OnOk result (IsWatchable

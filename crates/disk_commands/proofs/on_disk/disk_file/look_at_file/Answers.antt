@@ -1,7 +1,30 @@
+use Rattle.std.proofs.Common.{inr, refl}
+use Rattle.command_words.specs.rules.Printers.{printers}
+use Rattle.disk_commands.specs.rules.LookedFiles.{TellsSeen}
+use Rattle.disk_commands.proofs.FileLemmas.{does_opened, does_pictured}
 use Rattle.disk_commands.proofs.on_disk.disk_file.look_at_file.Goals as goal
 
-pub returns-then-seen : goal.returns-then-seen
-returns-then-seen g c = rw c.if-seen.true c.look_at_picture.ensures
+pub returns-in-Ok : goal.returns-in-Ok
+returns-in-Ok g c =
+    let done = c.look_at-status in
+    does_pictured g.F.DiskFile.known (g.R.DiskFiles.known c.args.files.now) c.args.seen.path.now
+    (TellsSeen c.args.look)
+    c.args.seen.is_live c.args.out.now c.args.err.now c.picture_of.new.err
+    (printers done.new.out done.new.err) done.result c.in-Ok.ensures.quiet c.in-Ok.picture
+    done.new.disk c.if-seen.true c.in-Ok.ensures.pictured done.ensures
 
-pub returns : goal.returns
-returns g c = rw c.if-seen.false c.look_at_opened.ensures
+pub returns-in-Err : goal.returns-in-Err
+returns-in-Err g c = rw c.if-seen.true (inr (c.in-Err.ensures.said, refl))
+
+pub returns-in-Ok-open_disk : goal.returns-in-Ok-open_disk
+returns-in-Ok-open_disk g c =
+    let found = c.in-Ok-open_disk in
+    let done = c.look_at-status-in-Ok-open_disk in
+    does_opened g.F.DiskFile.known (g.R.DiskFiles.known c.args.files.now) c.args.seen.path.now
+    (TellsSeen c.args.look)
+    c.args.seen.is_live c.args.out.now c.args.err.now c.open_disk.new.err
+    (printers done.new.out done.new.err) done.result found.ensures.quiet found.disk
+    done.new.disk c.if-seen.false found.ensures.opened c.close.ensures done.ensures
+
+pub returns-in-Err-open_disk : goal.returns-in-Err-open_disk
+returns-in-Err-open_disk g c = rw c.if-seen.false (inr (c.in-Err-open_disk.ensures.said, refl))

@@ -33,7 +33,8 @@ returns-in-Err-clause-failed g c =
           c.args.worker.now.has_failed runs.steps.shows runs.failed
           (λ e. (c.in-Err.ensures.refused e).0) (λ e. (c.in-Err.ensures.refused e).4);
       done = call_fails g.D.Disk.medium g.S.Source.gives g.O.Outlet.takes
-          (Batch c.args.watched.fuel c.args.most) _ _ _ _ _ _ _ _ c.in-Err.fault runs.carries tt;
+          (Batch c.args.watched.fuel c.args.most) _ _ _ _ _ _ _ _ c.in-Err.fault runs.carries
+          (record { shows = runs.steps.shows; cause = runs.steps.on_any_disk });
       broken = batch_breaks_off g.S.Source.gives g.O.Outlet.takes c.args.watched.fuel _ _ _ _
           c.args.worker.now.process c.watched_batch.new.self.process c.in-Err.fault c.args.most
           c.args.worker.now.has_failed runs.failed (λ e. (c.in-Err.ensures.refused e).0)

@@ -9,4 +9,4 @@ returns-in-Ok-clause-rested g c =
 pub returns-in-Err-clause-rested : goal.returns-in-Err-clause-rested
 returns-in-Err-clause-rested g c =
     let saves = c.in-Err.ensures.saves c.requires in
-    (saves.carries, saves.cause, saves.on_any_disk)
+    (saves.carries, record { shows = saves.keeps.shows; cause = saves.on_any_disk })

@@ -33,7 +33,8 @@ returns-in-Err-clause-failed g c =
           c.args.worker.now.has_failed runs.steps.shows runs.failed
           (λ e. (c.in-Err.ensures.refused e).0) (λ e. (c.in-Err.ensures.refused e).4);
       done = call_fails g.D.Disk.medium g.S.Source.gives g.O.Outlet.takes
-          (Slice c.args.fuel) _ _ _ _ _ _ _ _ c.in-Err.fault runs.carries tt;
+          (Slice c.args.fuel) _ _ _ _ _ _ _ _ c.in-Err.fault runs.carries
+          (record { shows = runs.steps.shows; cause = runs.steps.on_any_disk });
       broken = slice_breaks_off g.S.Source.gives g.O.Outlet.takes c.args.fuel _ _ _ _
           c.args.worker.now.process c.watched_slice.new.self.process c.in-Err.fault
           c.args.worker.now.has_failed runs.failed (λ e. (c.in-Err.ensures.refused e).0)

@@ -49,7 +49,7 @@ pub returns-in-Err-clause-comes : goal.returns-in-Err-clause-comes
 returns-in-Err-clause-comes g c =
     let runs = c.in-Err.ensures.runs c.loop-how.invariant.room in
     come_broken g.D.Disk.medium g.S.Source.gives g.O.Outlet.takes _ _ _ c.loop-how.invariant _ _ _ _
-    c.in-Err.fault runs.carries
+    c.in-Err.fault runs.carries runs.steps.shows
     (slice_hears_up_to g.S.Source.gives g.O.Outlet.takes 100000 _ _ _ _
     c.loop-how.worker.process c.slice.new.self.process c.in-Err.fault c.loop-how.worker.has_failed
     runs.steps.shows runs.failed (λ e. (c.in-Err.ensures.refused e).3))

@@ -14,8 +14,8 @@ returns-in-Ok g c =
     c.upgrade.new.disk c.upgrade.new._outlet) none
     (then_ended g.D.Disk.medium from_list g.O.Outlet.takes _ _ _ c.in-Ok.ensures.comes
     c.in-Ok.ensures.over c.upgrade.new.self c.upgrade.new.disk c.upgrade.result
-    c.upgrade.new._outlet c.upgrade.ensures.quiet upgrades.carries
-    upgrades.cause upgrades.on_any_disk)
+    c.upgrade.new._outlet c.upgrade.ensures.quiet upgrades.carries upgrades.keeps.shows
+    upgrades.on_any_disk upgrades.leaves)
 
 pub returns : goal.returns
 returns g c =

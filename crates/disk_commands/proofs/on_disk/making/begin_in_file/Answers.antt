@@ -1,6 +1,6 @@
 use Rattle.std.proofs.Common.{inr}
 use Rattle.disk_commands.proofs.FileLemmas.{known_at}
-use Rattle.disk_commands.proofs.on_disk.making.create_file.Goals as goal
+use Rattle.disk_commands.proofs.on_disk.making.begin_in_file.Goals as goal
 
 pub returns : goal.returns
 returns g c =
@@ -8,10 +8,10 @@ returns g c =
     let path = c.args.new.path.now in
     inr (record {
       disk = c.in-Ok.made.0;
-      disk' = c.create_on-status.new.disk;
+      disk' = c.begin_on-status.new.disk;
       made = c.in-Ok.ensures.made;
       closed = c.close.ensures;
-      creates = c.create_on-status.ensures;
+      begins = c.begin_on-status.ensures;
       keeps = λ is. known_at files.kept c.in-Ok.made.1.path.now path c.in-Ok.ensures.there
           (c.keep_if_created.ensures.keeps is);
       removes = λ other. known_at files.removed c.in-Ok.made.1.path.now path
