@@ -63,18 +63,6 @@ use story_commands::{
 /// It is read to keep a number from other files. It has no bytes, and takes none from a reader.
 const NULL_DEVICE: &str = "/dev/null";
 
-/// Copies the disk of a worker to a new file.
-fn save<R: Files<File = File>, W: Write + Drop, E: Write + Drop>(
-    rt: &R,
-    alloc: Global,
-    seen: Seen<'_>,
-    copy: &str,
-    out: &mut W,
-    err: &mut Printer<E>,
-) -> Status {
-    save_file(alloc, rt, seen, copy, &mut Printer::new(out, false), err)
-}
-
 /// How many bytes of its input a run reads ahead.
 const AHEAD: usize = 8_192;
 
@@ -196,18 +184,6 @@ fn look_at_disk<R: Files<File = File>, W: Write + Drop, E: Write + Drop>(
     report_output(out, status, err)
 }
 
-/// Writes the files of the worker of a disk into a new folder.
-fn extract<R: Files<File = File>, W: Write + Drop, E: Write + Drop>(
-    rt: &R,
-    alloc: Global,
-    seen: Seen<'_>,
-    folder: &str,
-    out: &mut W,
-    err: &mut Printer<E>,
-) -> Status {
-    extract_file(alloc, rt, seen, folder, &mut Printer::new(out, false), err)
-}
-
 /// Says what is asked for of the files of the worker of a disk.
 fn look_at_files<R: Files<File = File>, W: Write + Drop, E: Write + Drop>(
     rt: &R,
@@ -220,7 +196,10 @@ fn look_at_files<R: Files<File = File>, W: Write + Drop, E: Write + Drop>(
     let path = match asked {
         FilesOrder::List => None,
         FilesOrder::File(path) => Some(path),
-        FilesOrder::Tree(folder) => return extract(rt, alloc, seen, folder, out, err),
+        FilesOrder::Tree(folder) => {
+            let out = &mut Printer::new(out, false);
+            return extract_file(alloc, rt, seen, folder, out, err);
+        }
     };
     look_at_disk(rt, alloc, seen, Look::Files { path }, out, err)
 }
@@ -370,16 +349,13 @@ fn explain<W: Write + Drop, E: Write + Drop>(
 }
 
 /// Does what the words ask for. Answers the exit status.
-fn obey<R, W: Write + Drop, E: Write + Drop>(
+fn obey<R: Clock + Files<File = File> + Input, W: Write + Drop, E: Write + Drop>(
     rt: &R,
     alloc: Global,
     order: Order<'_>,
     out: &mut W,
     err: &mut Printer<E>,
-) -> Status
-where
-    R: Clock + Files<File = File> + Input,
-{
+) -> Status {
     match order {
         Order::Check(order) => check(rt, alloc, &order, out, err),
         Order::Create(order) => create(rt, alloc, &order, out, err),
@@ -413,7 +389,10 @@ where
             disk: path,
             copy,
             is_live,
-        } => save(rt, alloc, Seen { path, is_live }, copy, out, err),
+        } => {
+            let out = &mut Printer::new(out, false);
+            save_file(alloc, rt, Seen { path, is_live }, copy, out, err)
+        }
         Order::Story(order) => story(rt, alloc, &order, out, err),
         Order::Sweep(order) => sweep(rt, alloc, &order, out, err),
     }

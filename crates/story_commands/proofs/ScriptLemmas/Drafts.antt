@@ -42,45 +42,40 @@ pub record IsOnto (start : PlannedLife) (lines : List ScriptLine)
       ≡ option_to_list start.refuse ++ flat_map refusal_said lines
   pub tears : at_most_one life.tears ≡ at_most_one start.tears ++ flat_map tears_said lines
 
-abbrev with_stop : PlannedLife → FaultPoint → PlannedLife
-with_stop life point = record {
-  answers = life.answers;
-  acts = life.acts;
-  stop = Some point;
-  fail = life.fail;
-  refuse = life.refuse;
-  tears = life.tears;
+-- so it is by these equations, in order
+pub onto : {start : PlannedLife} {lines : List ScriptLine} {life : PlannedLife}
+    → flat_map life_said lines ≡ [] → life.answers ≡ start.answers ++ flat_map answer_said lines
+    → life.acts ≡ start.acts ++ flat_map act_said lines
+    → option_to_list life.stop ≡ option_to_list start.stop ++ flat_map stop_said lines
+    → option_to_list life.fail ≡ option_to_list start.fail ++ flat_map fail_said lines
+    → option_to_list life.refuse ≡ option_to_list start.refuse ++ flat_map refusal_said lines
+    → at_most_one life.tears ≡ at_most_one start.tears ++ flat_map tears_said lines
+    → IsOnto start lines life
+onto one answers acts stop fail refuse tears = record {
+  one_life = one;
+  answers = answers;
+  acts = acts;
+  stop = stop;
+  fail = fail;
+  refuse = refuse;
+  tears = tears;
 }
+
+-- nothing is said
+pub none_said : {A : Type 0} (xs : List A) → xs ≡ xs ++ []
+none_said xs = sym (append-nil xs)
+
+abbrev with_stop : PlannedLife → FaultPoint → PlannedLife
+with_stop life point = record life { stop = Some point }
 
 abbrev with_fail : PlannedLife → FaultPoint → PlannedLife
-with_fail life point = record {
-  answers = life.answers;
-  acts = life.acts;
-  stop = life.stop;
-  fail = Some point;
-  refuse = life.refuse;
-  tears = life.tears;
-}
+with_fail life point = record life { fail = Some point }
 
 abbrev with_refusal : PlannedLife → ℕ → PlannedLife
-with_refusal life number = record {
-  answers = life.answers;
-  acts = life.acts;
-  stop = life.stop;
-  fail = life.fail;
-  refuse = Some number;
-  tears = life.tears;
-}
+with_refusal life number = record life { refuse = Some number }
 
 abbrev with_tears : PlannedLife → List ℕ → PlannedLife
-with_tears life fronts = record {
-  answers = life.answers;
-  acts = life.acts;
-  stop = life.stop;
-  fail = life.fail;
-  refuse = life.refuse;
-  tears = fronts;
-}
+with_tears life fronts = record life { tears = fronts }
 
 -- one line more in front
 pub step_on : (start mid life : PlannedLife) (line : ScriptLine) (lines : List ScriptLine)
@@ -110,79 +105,37 @@ step_on start mid life line lines one more = record {
       ∙ append_assoc (at_most_one start.tears) (tears_said line) (flat_map tears_said lines);
 }
 
+-- what is put into a life only where nothing was
+put_option : {A : Type 0} (o : Option A) (life mid : PlannedLife)
+    → (if is_none o then Some life else None) ≡ Some mid → (o ≡ None) × (life ≡ mid)
+put_option None life mid e = (refl, ap (λ m. unwrap_or m life) e)
+put_option (Some p) life mid e = cc e
+
 -- what one line puts into a life
 pub put_one : (line : ScriptLine) (start mid : PlannedLife) → IsFull line
     → put_in line start ≡ Some mid → IsOnto start (line ∷ []) mid
 put_one said.Life start mid full e = cc e
 put_one (said.Answer answer) start mid full e =
-    subst (λ m. IsOnto start (said.Answer answer ∷ []) m) (ap (λ o. unwrap_or o start) e) (record {
-      one_life = refl;
-      answers = refl;
-      acts = sym (append-nil start.acts);
-      stop = sym (append-nil (option_to_list start.stop));
-      fail = sym (append-nil (option_to_list start.fail));
-      refuse = sym (append-nil (option_to_list start.refuse));
-      tears = sym (append-nil (at_most_one start.tears));
-    })
+    subst (IsOnto start (said.Answer answer ∷ [])) (ap (λ o. unwrap_or o start) e) (onto refl
+    refl (none_said _) (none_said _) (none_said _) (none_said _) (none_said _))
 put_one (said.Act act) start mid full e =
-    subst (λ m. IsOnto start (said.Act act ∷ []) m) (ap (λ o. unwrap_or o start) e) (record {
-      one_life = refl;
-      answers = sym (append-nil start.answers);
-      acts = refl;
-      stop = sym (append-nil (option_to_list start.stop));
-      fail = sym (append-nil (option_to_list start.fail));
-      refuse = sym (append-nil (option_to_list start.refuse));
-      tears = sym (append-nil (at_most_one start.tears));
-    })
-put_one (said.Stop point) start mid full e = by start.stop refl e
-  where
-    by : (o : Option FaultPoint) → start.stop ≡ o
-        → (if is_none o then Some (with_stop start point) else None) ≡ Some mid
-        → IsOnto start (said.Stop point ∷ []) mid
-    by None n e =
-        subst (λ m. IsOnto start (said.Stop point ∷ []) m) (ap (λ o. unwrap_or o start) e) (record {
-          one_life = refl;
-          answers = sym (append-nil start.answers);
-          acts = sym (append-nil start.acts);
-          stop = sym (ap (λ o. option_to_list o ++ point ∷ []) n);
-          fail = sym (append-nil (option_to_list start.fail));
-          refuse = sym (append-nil (option_to_list start.refuse));
-          tears = sym (append-nil (at_most_one start.tears));
-        })
-    by (Some p) n e = cc e
-put_one (said.Fail point) start mid full e = by start.fail refl e
-  where
-    by : (o : Option FaultPoint) → start.fail ≡ o
-        → (if is_none o then Some (with_fail start point) else None) ≡ Some mid
-        → IsOnto start (said.Fail point ∷ []) mid
-    by None n e =
-        subst (λ m. IsOnto start (said.Fail point ∷ []) m) (ap (λ o. unwrap_or o start) e) (record {
-          one_life = refl;
-          answers = sym (append-nil start.answers);
-          acts = sym (append-nil start.acts);
-          stop = sym (append-nil (option_to_list start.stop));
-          fail = sym (ap (λ o. option_to_list o ++ point ∷ []) n);
-          refuse = sym (append-nil (option_to_list start.refuse));
-          tears = sym (append-nil (at_most_one start.tears));
-        })
-    by (Some p) n e = cc e
-put_one (said.Refuse number) start mid full e = by start.refuse refl e
-  where
-    by : (o : Option ℕ) → start.refuse ≡ o
-        → (if is_none o then Some (with_refusal start number) else None) ≡ Some mid
-        → IsOnto start (said.Refuse number ∷ []) mid
-    by None n e =
-        subst (λ m. IsOnto start (said.Refuse number ∷ []) m) (ap (λ o. unwrap_or o start) e)
-        (record {
-          one_life = refl;
-          answers = sym (append-nil start.answers);
-          acts = sym (append-nil start.acts);
-          stop = sym (append-nil (option_to_list start.stop));
-          fail = sym (append-nil (option_to_list start.fail));
-          refuse = sym (ap (λ o. option_to_list o ++ number ∷ []) n);
-          tears = sym (append-nil (at_most_one start.tears));
-        })
-    by (Some p) n e = cc e
+    subst (IsOnto start (said.Act act ∷ [])) (ap (λ o. unwrap_or o start) e) (onto refl
+    (none_said _) refl (none_said _) (none_said _) (none_said _) (none_said _))
+put_one (said.Stop point) start mid full e =
+    let put = put_option start.stop (with_stop start point) mid e in
+    subst (IsOnto start (said.Stop point ∷ [])) put.1 (onto refl (none_said _) (none_said _)
+    (sym (ap (λ o. option_to_list o ++ point ∷ []) put.0)) (none_said _) (none_said _)
+    (none_said _))
+put_one (said.Fail point) start mid full e =
+    let put = put_option start.fail (with_fail start point) mid e in
+    subst (IsOnto start (said.Fail point ∷ [])) put.1 (onto refl (none_said _) (none_said _)
+    (none_said _) (sym (ap (λ o. option_to_list o ++ point ∷ []) put.0)) (none_said _)
+    (none_said _))
+put_one (said.Refuse number) start mid full e =
+    let put = put_option start.refuse (with_refusal start number) mid e in
+    subst (IsOnto start (said.Refuse number ∷ [])) put.1 (onto refl (none_said _) (none_said _)
+    (none_said _) (none_said _) (sym (ap (λ o. option_to_list o ++ number ∷ []) put.0))
+    (none_said _))
 put_one (said.Tears []) start mid full e = absurd full
 put_one (said.Tears (f ∷ fs)) start mid full e = by start.tears refl e
   where
@@ -190,16 +143,9 @@ put_one (said.Tears (f ∷ fs)) start mid full e = by start.tears refl e
         → (if length ts == 0 then Some (with_tears start (f ∷ fs)) else None) ≡ Some mid
         → IsOnto start (said.Tears (f ∷ fs) ∷ []) mid
     by [] n e =
-        subst (λ m. IsOnto start (said.Tears (f ∷ fs) ∷ []) m) (ap (λ o. unwrap_or o start) e)
-        (record {
-          one_life = refl;
-          answers = sym (append-nil start.answers);
-          acts = sym (append-nil start.acts);
-          stop = sym (append-nil (option_to_list start.stop));
-          fail = sym (append-nil (option_to_list start.fail));
-          refuse = sym (append-nil (option_to_list start.refuse));
-          tears = sym (ap (λ o. at_most_one o ++ (f ∷ fs) ∷ []) n);
-        })
+        subst (IsOnto start (said.Tears (f ∷ fs) ∷ [])) (ap (λ o. unwrap_or o start) e)
+        (onto refl (none_said _) (none_said _) (none_said _) (none_said _) (none_said _)
+        (sym (ap (λ o. at_most_one o ++ (f ∷ fs) ∷ []) n)))
     by (t ∷ ts) n e =
         absurd (none-some _ (sym (cond-false _ _ _ (ne_eqb (length (t ∷ ts)) 0 (λ z. omega
         (arith, z)))) ∙ e))
@@ -209,6 +155,12 @@ put_one (said.Tears (f ∷ fs)) start mid full e = by start.tears refl e
 one_at_most : {A : Type 0} (o : Option A) (a b : A) (l : List A) → option_to_list o ≡ a ∷ b ∷ l → ⊥
 one_at_most None a b l e = cc e
 one_at_most (Some x) a b l e = let n = ap length e in omega (arith, n)
+
+-- where all are kept, none was there before one that was put
+was_none : {A : Type 0} (o kept : Option A) (x : A) (l : List A)
+    → option_to_list kept ≡ option_to_list o ++ x ∷ l → o ≡ None
+was_none None kept x l e = refl
+was_none (Some p) kept x l e = absurd (one_at_most kept p x l e)
 
 one_list : (o a b : List ℕ) (l : List (List ℕ)) → at_most_one o ≡ a ∷ b ∷ l → ⊥
 one_list [] a b l e = cc e
@@ -254,91 +206,34 @@ puts_all [] start life full is = ap Some (same_life start life (sym (is.answers
     (same_list _ _ (sym (is.tears ∙ append-nil (at_most_one start.tears)))))
 puts_all (said.Life ∷ lines) start life full is = let e = is.one_life in cc e
 puts_all (said.Answer answer ∷ lines) start life full is =
-    puts_all lines (with_answers start (start.answers ++ answer ∷ [])) life full.1 (record {
-      one_life = is.one_life;
-      answers = is.answers
-          ∙ sym (append_assoc start.answers (answer ∷ []) (flat_map answer_said lines));
-      acts = is.acts;
-      stop = is.stop;
-      fail = is.fail;
-      refuse = is.refuse;
-      tears = is.tears;
-    })
+    puts_all lines (with_answers start (start.answers ++ answer ∷ [])) life full.1 (onto is.one_life
+    (is.answers ∙ sym (append_assoc start.answers (answer ∷ []) (flat_map answer_said lines)))
+    is.acts is.stop is.fail is.refuse is.tears)
 puts_all (said.Act act ∷ lines) start life full is =
-    puts_all lines (with_acts start (start.acts ++ act ∷ [])) life full.1 (record {
-      one_life = is.one_life;
-      answers = is.answers;
-      acts = is.acts ∙ sym (append_assoc start.acts (act ∷ []) (flat_map act_said lines));
-      stop = is.stop;
-      fail = is.fail;
-      refuse = is.refuse;
-      tears = is.tears;
-    })
-puts_all (said.Stop point ∷ lines) start life full is = by start.stop refl (puts_all lines
-    (with_stop start point) life full.1)
-  where
-    by : (o : Option FaultPoint) → start.stop ≡ o
-        → (IsOnto (with_stop start point) lines life
-        → put_all_in lines (with_stop start point) ≡ Some life)
-        → option_and_then (put_all_in lines) (put_in (said.Stop point) start) ≡ Some life
-    by None n given =
-        ap (λ o. option_and_then (put_all_in lines) (if is_none o then Some
-        (with_stop start point) else None)) n
-        ∙ given (record {
-          one_life = is.one_life;
-          answers = is.answers;
-          acts = is.acts;
-          stop = is.stop ∙ ap (λ o. option_to_list o ++ point ∷ flat_map stop_said lines) n;
-          fail = is.fail;
-          refuse = is.refuse;
-          tears = is.tears;
-        })
-    by (Some p) n given = absurd (one_at_most life.stop p point (flat_map stop_said lines)
-        (is.stop ∙ ap (λ o. option_to_list o ++ point ∷ flat_map stop_said lines) n))
-puts_all (said.Fail point ∷ lines) start life full is = by start.fail refl (puts_all lines
-    (with_fail start point) life full.1)
-  where
-    by : (o : Option FaultPoint) → start.fail ≡ o
-        → (IsOnto (with_fail start point) lines life
-        → put_all_in lines (with_fail start point) ≡ Some life)
-        → option_and_then (put_all_in lines) (put_in (said.Fail point) start) ≡ Some life
-    by None n given =
-        ap (λ o. option_and_then (put_all_in lines) (if is_none o then Some
-        (with_fail start point) else None)) n
-        ∙ given (record {
-          one_life = is.one_life;
-          answers = is.answers;
-          acts = is.acts;
-          stop = is.stop;
-          fail = is.fail ∙ ap (λ o. option_to_list o ++ point ∷ flat_map fail_said lines) n;
-          refuse = is.refuse;
-          tears = is.tears;
-        })
-    by (Some p) n given = absurd (one_at_most life.fail p point (flat_map fail_said lines)
-        (is.fail ∙ ap (λ o. option_to_list o ++ point ∷ flat_map fail_said lines) n))
-puts_all (said.Refuse number ∷ lines) start life full is = by start.refuse refl (puts_all lines
-    (with_refusal start number) life full.1)
-  where
-    by : (o : Option ℕ) → start.refuse ≡ o
-        → (IsOnto (with_refusal start number) lines life
-        → put_all_in lines (with_refusal start number) ≡ Some life)
-        → option_and_then (put_all_in lines) (put_in (said.Refuse number) start) ≡ Some life
-    by None n given =
-        ap (λ o. option_and_then (put_all_in lines) (if is_none o then Some
-        (with_refusal start number) else None)) n
-        ∙ given (record {
-          one_life = is.one_life;
-          answers = is.answers;
-          acts = is.acts;
-          stop = is.stop;
-          fail = is.fail;
-          refuse = is.refuse
-              ∙ ap (λ o. option_to_list o ++ number ∷ flat_map refusal_said lines) n;
-          tears = is.tears;
-        })
-    by (Some p) n given = absurd (one_at_most life.refuse p number
-        (flat_map refusal_said lines)
-        (is.refuse ∙ ap (λ o. option_to_list o ++ number ∷ flat_map refusal_said lines) n))
+    puts_all lines (with_acts start (start.acts ++ act ∷ [])) life full.1 (onto is.one_life
+    is.answers (is.acts ∙ sym (append_assoc start.acts (act ∷ []) (flat_map act_said lines)))
+    is.stop is.fail is.refuse is.tears)
+puts_all (said.Stop point ∷ lines) start life full is =
+    let none = was_none start.stop life.stop point (flat_map stop_said lines) is.stop in
+    ap (λ o. option_and_then (put_all_in lines)
+    (if is_none o then Some (with_stop start point) else None)) none
+    ∙ puts_all lines (with_stop start point) life full.1 (onto is.one_life is.answers is.acts
+    (is.stop ∙ ap (λ o. option_to_list o ++ point ∷ flat_map stop_said lines) none) is.fail
+    is.refuse is.tears)
+puts_all (said.Fail point ∷ lines) start life full is =
+    let none = was_none start.fail life.fail point (flat_map fail_said lines) is.fail in
+    ap (λ o. option_and_then (put_all_in lines)
+    (if is_none o then Some (with_fail start point) else None)) none
+    ∙ puts_all lines (with_fail start point) life full.1 (onto is.one_life is.answers is.acts
+    is.stop (is.fail ∙ ap (λ o. option_to_list o ++ point ∷ flat_map fail_said lines) none)
+    is.refuse is.tears)
+puts_all (said.Refuse number ∷ lines) start life full is =
+    let none = was_none start.refuse life.refuse number (flat_map refusal_said lines) is.refuse in
+    ap (λ o. option_and_then (put_all_in lines)
+    (if is_none o then Some (with_refusal start number) else None)) none
+    ∙ puts_all lines (with_refusal start number) life full.1 (onto is.one_life is.answers is.acts
+    is.stop is.fail
+    (is.refuse ∙ ap (λ o. option_to_list o ++ number ∷ flat_map refusal_said lines) none) is.tears)
 puts_all (said.Tears [] ∷ lines) start life full is = absurd full.0
 puts_all (said.Tears (f ∷ fs) ∷ lines) start life full is =
     by start.tears refl (puts_all lines (with_tears start (f ∷ fs)) life full.1)
@@ -350,14 +245,7 @@ puts_all (said.Tears (f ∷ fs) ∷ lines) start life full is =
     by [] n given =
         ap (λ ts. option_and_then (put_all_in lines)
         (if length ts == 0 then Some (with_tears start (f ∷ fs)) else None)) n
-        ∙ given (record {
-          one_life = is.one_life;
-          answers = is.answers;
-          acts = is.acts;
-          stop = is.stop;
-          fail = is.fail;
-          refuse = is.refuse;
-          tears = is.tears ∙ ap (λ o. at_most_one o ++ (f ∷ fs) ∷ flat_map tears_said lines) n;
-        })
+        ∙ given (onto is.one_life is.answers is.acts is.stop is.fail is.refuse
+        (is.tears ∙ ap (λ o. at_most_one o ++ (f ∷ fs) ∷ flat_map tears_said lines) n))
     by (t ∷ ts) n given = absurd (one_list life.tears (t ∷ ts) (f ∷ fs) (flat_map tears_said lines)
         (is.tears ∙ ap (λ o. at_most_one o ++ (f ∷ fs) ∷ flat_map tears_said lines) n))

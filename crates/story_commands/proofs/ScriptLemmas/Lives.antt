@@ -11,7 +11,7 @@ use Rattle.story_commands.specs.rules.Scripts.{said_by, SpellsLife, AreLivesOf, 
 use Rattle.story_commands.specs.laws.Drafts.{empty_life, draft_start, lives_so_far, put_in}
 use Rattle.story_commands.specs.laws.Drafts.{put_line, put_texts, with_life}
 use Rattle.story_commands.proofs.ScriptLemmas.Drafts.{IsFull, AreFull, IsOnto, put_all_in, step_on}
-use Rattle.story_commands.proofs.ScriptLemmas.Drafts.{put_one, puts_all}
+use Rattle.story_commands.proofs.ScriptLemmas.Drafts.{none_said, onto, put_one, puts_all}
 
 abbrev pub begun : List PlannedLife → PlannedLife → StoryDraft
 begun lives life = record { lives = lives; life = life; is_begun = true }
@@ -33,15 +33,8 @@ pub record GoesOnWith (lines : List ScriptLine) (before : List PlannedLife) (sta
   pub closes : lives_so_far draft ≡ before ++ life ∷ lives
 
 nothing_onto : (start : PlannedLife) → IsOnto start [] start
-nothing_onto start = record {
-  one_life = refl;
-  answers = sym (append-nil start.answers);
-  acts = sym (append-nil start.acts);
-  stop = sym (append-nil (option_to_list start.stop));
-  fail = sym (append-nil (option_to_list start.fail));
-  refuse = sym (append-nil (option_to_list start.refuse));
-  tears = sym (append-nil _);
-}
+nothing_onto start = onto refl (none_said _) (none_said _) (none_said _) (none_said _)
+    (none_said _) (none_said _)
 
 life_of_empty : (own : List ScriptLine) (life : PlannedLife) → IsOnto empty_life own life
     → SpellsLife own life
@@ -57,15 +50,8 @@ life_of_empty own life is = record {
 
 empty_onto : (own : List ScriptLine) (life : PlannedLife) → SpellsLife own life
     → IsOnto empty_life own life
-empty_onto own life is = record {
-  one_life = is.one_life;
-  answers = is.answers;
-  acts = is.acts;
-  stop = is.stop;
-  fail = is.fail;
-  refuse = is.refuse;
-  tears = is.tears;
-}
+empty_onto own life is =
+    onto is.one_life is.answers is.acts is.stop is.fail is.refuse is.tears
 
 -- a line of the life that was begun
 one_on : (line : ScriptLine) (lines : List ScriptLine) (before : List PlannedLife)

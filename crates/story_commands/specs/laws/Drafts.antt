@@ -43,58 +43,21 @@ pub record IsCalmDraft (draft : StoryDraft) : Type 0 where
 -- a life with one line more, if that may be there
 abbrev pub put_in : ScriptLine → PlannedLife → Option PlannedLife
 put_in said.Life life = None
-put_in (said.Answer answer) life = Some (record {
-  answers = life.answers ++ answer ∷ [];
-  acts = life.acts;
-  stop = life.stop;
-  fail = life.fail;
-  refuse = life.refuse;
-  tears = life.tears;
-})
-put_in (said.Act act) life = Some (record {
-  answers = life.answers;
-  acts = life.acts ++ act ∷ [];
-  stop = life.stop;
-  fail = life.fail;
-  refuse = life.refuse;
-  tears = life.tears;
-})
-put_in (said.Stop point) life = if is_none life.stop then Some (record {
-  answers = life.answers;
-  acts = life.acts;
-  stop = Some point;
-  fail = life.fail;
-  refuse = life.refuse;
-  tears = life.tears;
-}) else None
-put_in (said.Fail point) life = if is_none life.fail then Some (record {
-  answers = life.answers;
-  acts = life.acts;
-  stop = life.stop;
-  fail = Some point;
-  refuse = life.refuse;
-  tears = life.tears;
-}) else None
-put_in (said.Refuse number) life = if is_none life.refuse then Some (record {
-  answers = life.answers;
-  acts = life.acts;
-  stop = life.stop;
-  fail = life.fail;
-  refuse = Some number;
-  tears = life.tears;
-}) else None
-put_in (said.Tears fronts) life = if length life.tears == 0 then Some (record {
-  answers = life.answers;
-  acts = life.acts;
-  stop = life.stop;
-  fail = life.fail;
-  refuse = life.refuse;
-  tears = fronts;
-}) else None
+put_in (said.Answer answer) life =
+    Some (record life { answers = life.answers ++ answer ∷ [] })
+put_in (said.Act act) life = Some (record life { acts = life.acts ++ act ∷ [] })
+put_in (said.Stop point) life =
+    if is_none life.stop then Some (record life { stop = Some point }) else None
+put_in (said.Fail point) life =
+    if is_none life.fail then Some (record life { fail = Some point }) else None
+put_in (said.Refuse number) life =
+    if is_none life.refuse then Some (record life { refuse = Some number }) else None
+put_in (said.Tears fronts) life =
+    if length life.tears == 0 then Some (record life { tears = fronts }) else None
 
 -- the draft with another last life
 abbrev pub with_life : StoryDraft → PlannedLife → StoryDraft
-with_life draft life = record { lives = draft.lives; life = life; is_begun = draft.is_begun }
+with_life draft life = record draft { life = life }
 
 -- a draft with one line more that isn't `life`
 abbrev pub put_behind : ScriptLine → StoryDraft → Option StoryDraft

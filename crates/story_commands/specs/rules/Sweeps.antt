@@ -131,14 +131,7 @@ answers_kept (life ∷ lives) told = kept_in told life.answers ++ answers_kept l
 
 -- the same life, with the power cut at this point
 abbrev pub stopped_at : FaultPoint → PlannedLife → PlannedLife
-stopped_at point life = record {
-  answers = life.answers;
-  acts = life.acts;
-  stop = Some point;
-  fail = life.fail;
-  refuse = life.refuse;
-  tears = life.tears;
-}
+stopped_at point life = record life { stop = Some point }
 
 -- the first of these lives, with the power cut at this point
 abbrev pub first_stopped : FaultPoint → List PlannedLife → List PlannedLife
