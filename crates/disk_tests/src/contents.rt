@@ -58,25 +58,15 @@ const ENVIRONMENT: [u8; 25] = *b"\x02\0\0\0\x01\0\0\0\x40\0\0\0\0\0\0\0\x01\0\0\
 
 /// Bytes of configurations. Then such with another number of pages, with a zero after them, and
 /// with no name before the `=`.
+#[rattlefmt::skip]
 static SPELLINGS: [(&[u8], Option<Settings>); 6] = [
     (&ENVIRONMENT, Some((2, 1, 64, b"", b"K=v"))),
     (&SPELLED, Some(WORKER)),
-    (
-        b"\x01\0\0\0\x02\0\0\0\x40\0\0\0\x01\0\0\0\x01\0a\x01\0\0\0\x03\0K=v",
-        Some((1, 2, 64, b"a", b"K=v")),
-    ),
-    (
-        b"\x02\x01\0\0\x01\0\0\0\x40\0\0\0\0\0\0\0\x01\0\0\0\x03\0K=v",
-        None,
-    ),
-    (
-        b"\x02\0\0\0\x01\0\0\0\x40\0\0\0\0\0\0\0\x01\0\0\0\x03\0K=v\0",
-        None,
-    ),
-    (
-        b"\x02\0\0\0\x01\0\0\0\x40\0\0\0\0\0\0\0\x01\0\0\0\x03\0=Kv",
-        None,
-    ),
+    (b"\x01\0\0\0\x02\0\0\0\x40\0\0\0\x01\0\0\0\x01\0a\x01\0\0\0\x03\0K=v",
+        Some((1, 2, 64, b"a", b"K=v"))),
+    (b"\x02\x01\0\0\x01\0\0\0\x40\0\0\0\0\0\0\0\x01\0\0\0\x03\0K=v", None),
+    (b"\x02\0\0\0\x01\0\0\0\x40\0\0\0\0\0\0\0\x01\0\0\0\x03\0K=v\0", None),
+    (b"\x02\0\0\0\x01\0\0\0\x40\0\0\0\0\0\0\0\x01\0\0\0\x03\0=Kv", None),
 ];
 
 /// No front of a configuration is one. `scripts/runs/refused-allocations` refuses each allocation
@@ -87,11 +77,8 @@ fn bytes_of_configurations(rt: HostRuntime) -> Result<(), AllocError> {
         assert_row(&rt, is_spelling(rt.alloc(), bytes, want)?, bytes);
     }
     for len in 0..25 {
-        assert_row(
-            &rt,
-            is_spelling(rt.alloc(), &ENVIRONMENT[..len], &None)?,
-            &len,
-        );
+        let is_none = is_spelling(rt.alloc(), &ENVIRONMENT[..len], &None)?;
+        assert_row(&rt, is_none, &len);
     }
     Ok(())
 }
@@ -110,6 +97,12 @@ enum Change {
     Call(u64),
 }
 
+const NOT_A_WORKER: Option<LayoutFault> = Some(LayoutFault::NotAWorker);
+
+const TOO_SMALL: Option<LayoutFault> = Some(LayoutFault::TooSmall);
+
+const FAILED_READ: Option<LayoutFault> = Some(LayoutFault::Disk(DiskFault::Io));
+
 const OTHER_MODULE_SECTORS: Option<LayoutFault> = Some(LayoutFault::Damaged(Damage::ModuleSectors));
 
 const OTHER_DIGEST: Option<LayoutFault> = Some(LayoutFault::Damaged(Damage::ContentsDigest));
@@ -123,6 +116,7 @@ const OTHER_JOURNAL_SECTORS: Option<LayoutFault> = Some(LayoutFault::Damaged(
 ));
 
 /// What is another, and what is then wrong.
+#[rattlefmt::skip]
 static CHANGES: [(Change, Option<LayoutFault>); 35] = [
     // Bytes of no configuration.
     (Change::Spelling(0, 0), NO_CONFIGURATION),
@@ -139,45 +133,21 @@ static CHANGES: [(Change, Option<LayoutFault>); 35] = [
     // Supers whose numbers aren't those of their configuration, and disks that are too small.
     (Change::Numbers((28, 1, 2304, 64, SECTORS + 1)), None),
     (Change::Numbers((28, 1, 2304, 64, SECTORS)), None),
-    (
-        Change::Numbers((28, 1, 2304, 64, SECTORS - 1)),
-        Some(LayoutFault::TooSmall),
-    ),
-    (
-        Change::Numbers((28, 1, 2304, 64, 3)),
-        Some(LayoutFault::TooSmall),
-    ),
-    (
-        Change::Numbers((28, 1, 2304, 64, 0)),
-        Some(LayoutFault::NotAWorker),
-    ),
-    (
-        Change::Numbers((28, 2, 2304, 64, SECTORS)),
-        OTHER_MODULE_SECTORS,
-    ),
+    (Change::Numbers((28, 1, 2304, 64, SECTORS - 1)), TOO_SMALL),
+    (Change::Numbers((28, 1, 2304, 64, 3)), TOO_SMALL),
+    (Change::Numbers((28, 1, 2304, 64, 0)), NOT_A_WORKER),
+    (Change::Numbers((28, 2, 2304, 64, SECTORS)), OTHER_MODULE_SECTORS),
     (Change::Numbers((28, 2, 2304, 64, 3)), OTHER_MODULE_SECTORS),
     (Change::Numbers((27, 1, 2304, 64, SECTORS)), OTHER_DIGEST),
-    (
-        Change::Numbers((28, 1, 2305, 64, SECTORS)),
-        OTHER_AREA_SECTORS,
-    ),
-    (
-        Change::Numbers((28, 1, 2303, 64, SECTORS - 2)),
-        OTHER_AREA_SECTORS,
-    ),
-    (
-        Change::Numbers((28, 1, 2304, 65, SECTORS)),
-        OTHER_JOURNAL_SECTORS,
-    ),
+    (Change::Numbers((28, 1, 2305, 64, SECTORS)), OTHER_AREA_SECTORS),
+    (Change::Numbers((28, 1, 2303, 64, SECTORS - 2)), OTHER_AREA_SECTORS),
+    (Change::Numbers((28, 1, 2304, 65, SECTORS)), OTHER_JOURNAL_SECTORS),
     // The first of two is told.
-    (
-        Change::Numbers((28, 1, 2305, 65, SECTORS)),
-        OTHER_AREA_SECTORS,
-    ),
+    (Change::Numbers((28, 1, 2305, 65, SECTORS)), OTHER_AREA_SECTORS),
     (Change::Numbers((27, 1, 2305, 64, SECTORS)), OTHER_DIGEST),
     // Damaged disks.
-    (Change::Bit(0, 7), Some(LayoutFault::NotAWorker)),
-    (Change::Bit(0, 504), Some(LayoutFault::NotAWorker)),
+    (Change::Bit(0, 7), NOT_A_WORKER),
+    (Change::Bit(0, 504), NOT_A_WORKER),
     (Change::Bit(0, 8), Some(LayoutFault::Version)),
     (Change::Bit(0, 63), OTHER_DIGEST),
     (Change::Bit(0, 64), None),
@@ -185,8 +155,8 @@ static CHANGES: [(Change, Option<LayoutFault>); 35] = [
     (Change::Bit(3, 220), OTHER_DIGEST),
     (Change::Bit(3, 221), None),
     // A read that fails, of the super and of the sector after the heads. There is no third one.
-    (Change::Call(1), Some(LayoutFault::Disk(DiskFault::Io))),
-    (Change::Call(2), Some(LayoutFault::Disk(DiskFault::Io))),
+    (Change::Call(1), FAILED_READ),
+    (Change::Call(2), FAILED_READ),
     (Change::Call(3), None),
 ];
 
@@ -261,11 +231,8 @@ fn is_changed_so(
 /// memory.
 #[test]
 fn a_worker_is_read_back(rt: HostRuntime) -> Result<(), LayoutFault> {
-    assert_row(
-        &rt,
-        is_changed_so(rt.alloc(), &Change::Nothing, &None)?,
-        &"no change",
-    );
+    let is_so = is_changed_so(rt.alloc(), &Change::Nothing, &None)?;
+    assert_row(&rt, is_so, &"no change");
     Ok(())
 }
 

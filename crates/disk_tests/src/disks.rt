@@ -11,6 +11,8 @@ pub(crate) const ZEROS: Parts = (0, 0, 0);
 
 const OLD: Parts = (0, 0, 512);
 
+const NINES: Parts = (0, 512, 0);
+
 pub(crate) fn is_all(bytes: &[u8], byte: u8) -> bool {
     for other in bytes {
         if *other != byte {
@@ -97,73 +99,22 @@ struct Cut {
     after_cut: Parts,
 }
 
+#[rattlefmt::skip]
 static CUTS: [Cut; 13] = [
-    Cut {
-        writes: &[9],
-        tears: &[0],
-        after_cut: OLD,
-    },
-    Cut {
-        writes: &[9],
-        tears: &[1],
-        after_cut: (0, 1, 511),
-    },
-    Cut {
-        writes: &[9],
-        tears: &[511],
-        after_cut: (0, 511, 1),
-    },
-    Cut {
-        writes: &[9],
-        tears: &[512],
-        after_cut: (0, 512, 0),
-    },
-    Cut {
-        writes: &[9],
-        tears: &[513],
-        after_cut: (0, 512, 0),
-    },
-    Cut {
-        writes: &[9],
-        tears: &[65535],
-        after_cut: (0, 512, 0),
-    },
-    Cut {
-        writes: &[9],
-        tears: &[],
-        after_cut: (0, 512, 0),
-    },
+    Cut { writes: &[9], tears: &[0], after_cut: OLD },
+    Cut { writes: &[9], tears: &[1], after_cut: (0, 1, 511) },
+    Cut { writes: &[9], tears: &[511], after_cut: (0, 511, 1) },
+    Cut { writes: &[9], tears: &[512], after_cut: NINES },
+    Cut { writes: &[9], tears: &[513], after_cut: NINES },
+    Cut { writes: &[9], tears: &[65535], after_cut: NINES },
+    Cut { writes: &[9], tears: &[], after_cut: NINES },
     // Of the later write a front is left, and after it what is longer of the earlier one.
-    Cut {
-        writes: &[9, 5],
-        tears: &[0, 0],
-        after_cut: OLD,
-    },
-    Cut {
-        writes: &[9, 5],
-        tears: &[512, 0],
-        after_cut: (0, 512, 0),
-    },
-    Cut {
-        writes: &[9, 5],
-        tears: &[0, 512],
-        after_cut: (512, 0, 0),
-    },
-    Cut {
-        writes: &[9, 5],
-        tears: &[100, 7],
-        after_cut: (7, 93, 412),
-    },
-    Cut {
-        writes: &[9, 5],
-        tears: &[7, 100],
-        after_cut: (100, 0, 412),
-    },
-    Cut {
-        writes: &[9, 5],
-        tears: &[511, 1],
-        after_cut: (1, 510, 1),
-    },
+    Cut { writes: &[9, 5], tears: &[0, 0], after_cut: OLD },
+    Cut { writes: &[9, 5], tears: &[512, 0], after_cut: NINES },
+    Cut { writes: &[9, 5], tears: &[0, 512], after_cut: (512, 0, 0) },
+    Cut { writes: &[9, 5], tears: &[100, 7], after_cut: (7, 93, 412) },
+    Cut { writes: &[9, 5], tears: &[7, 100], after_cut: (100, 0, 412) },
+    Cut { writes: &[9, 5], tears: &[511, 1], after_cut: (1, 510, 1) },
 ];
 
 /// Writes to sector 1, each of which fills it with one byte, and cuts the power.
@@ -280,11 +231,8 @@ pub(crate) fn answers_so<D: Disk>(disk: &mut D, calls: &[(Call, Answer)]) -> boo
 fn a_memory_disk_tells_want_of_memory(rt: HostRuntime) {
     // 2^59 bytes are more than a process can address.
     let made = MemDisk::new(rt.alloc(), 1 << 50, 1);
-    assert_row(
-        &rt,
-        made.err() == Some(DiskFault::Memory),
-        &"too many sectors",
-    );
+    let is_told = made.err() == Some(DiskFault::Memory);
+    assert_row(&rt, is_told, &"too many sectors");
 }
 
 /// A disk that may stop at a call or fail one, what is seen of it, and what a cut then leaves.
@@ -330,205 +278,89 @@ fn is_in_trouble_so(alloc: Global, trouble: &Trouble) -> Result<bool, DiskFault>
     Ok(is_seen && is_left?)
 }
 
+const NO_TROUBLE: Trouble = Trouble {
+    stop: None,
+    fail: None,
+    room: 3,
+    calls: &[],
+    counts: (0, 2, 0),
+    has_torn_front: false,
+    unsynced: 2,
+    shown: [ZEROS, OLD, NINES, ZEROS],
+    tears: &[],
+    after_cut: [ZEROS, OLD, ZEROS, ZEROS],
+};
+
+/// A write that fails, and another one.
+const FAILED_WRITE: Trouble = Trouble {
+    calls: &[
+        (Call::Write(1, 9), Err(DiskFault::Io)),
+        (Call::Write(2, 9), DONE),
+    ],
+    tears: &[512, 4],
+    ..NO_TROUBLE
+};
+
+/// A stop in a write, and calls after it.
+const STOPPED_WRITE: Trouble = Trouble {
+    calls: &[
+        (Call::Write(2, 9), DONE),
+        (Call::Read(2, NINES), DONE),
+        (Call::Write(1, 9), Err(DiskFault::Cut)),
+        (Call::Write(0, 9), Err(DiskFault::Cut)),
+        (Call::Sync, Err(DiskFault::Cut)),
+        (Call::Read(2, ZEROS), Err(DiskFault::Cut)),
+    ],
+    counts: (2, 3, 1),
+    has_torn_front: true,
+    tears: &[0],
+    ..NO_TROUBLE
+};
+
+#[rattlefmt::skip]
 static TROUBLES: [Trouble; 12] = [
     // A failed sync makes nothing durable.
-    Trouble {
-        stop: None,
-        fail: Some(FaultPoint { call: 2, front: 0 }),
-        room: 3,
-        calls: &[(Call::Write(1, 9), DONE), (Call::Sync, Err(DiskFault::Io))],
-        counts: (0, 1, 1),
-        has_torn_front: false,
-        unsynced: 1,
-        shown: [ZEROS, (0, 512, 0), ZEROS, ZEROS],
-        tears: &[2],
-        after_cut: [ZEROS, (0, 2, 510), ZEROS, ZEROS],
-    },
+    Trouble { fail: Some(FaultPoint { call: 2, front: 0 }),
+        calls: &[(Call::Write(1, 9), DONE), (Call::Sync, Err(DiskFault::Io))], counts: (0, 1, 1),
+        unsynced: 1, shown: [ZEROS, NINES, ZEROS, ZEROS], tears: &[2],
+        after_cut: [ZEROS, (0, 2, 510), ZEROS, ZEROS], ..NO_TROUBLE },
     // A failed write leaves its front and counts: the first number of the cut is its own.
-    Trouble {
-        stop: None,
-        fail: Some(FaultPoint { call: 1, front: 0 }),
-        room: 3,
-        calls: &[
-            (Call::Write(1, 9), Err(DiskFault::Io)),
-            (Call::Write(2, 9), DONE),
-        ],
-        counts: (0, 2, 0),
-        has_torn_front: false,
-        unsynced: 2,
-        shown: [ZEROS, OLD, (0, 512, 0), ZEROS],
-        tears: &[512, 4],
-        after_cut: [ZEROS, OLD, (0, 4, 0), ZEROS],
-    },
-    Trouble {
-        stop: None,
-        fail: Some(FaultPoint { call: 1, front: 5 }),
-        room: 3,
-        calls: &[
-            (Call::Write(1, 9), Err(DiskFault::Io)),
-            (Call::Write(2, 9), DONE),
-        ],
-        counts: (0, 2, 0),
-        has_torn_front: false,
-        unsynced: 2,
-        shown: [ZEROS, (0, 5, 507), (0, 512, 0), ZEROS],
-        tears: &[512, 4],
-        after_cut: [ZEROS, (0, 5, 507), (0, 4, 0), ZEROS],
-    },
-    Trouble {
-        stop: None,
-        fail: Some(FaultPoint {
-            call: 1,
-            front: 512,
-        }),
-        room: 3,
-        calls: &[
-            (Call::Write(1, 9), Err(DiskFault::Io)),
-            (Call::Write(2, 9), DONE),
-        ],
-        counts: (0, 2, 0),
-        has_torn_front: false,
-        unsynced: 2,
-        shown: [ZEROS, (0, 512, 0), (0, 512, 0), ZEROS],
-        tears: &[512, 4],
-        after_cut: [ZEROS, (0, 512, 0), (0, 4, 0), ZEROS],
-    },
-    Trouble {
-        stop: None,
-        fail: Some(FaultPoint {
-            call: 1,
-            front: 600,
-        }),
-        room: 3,
-        calls: &[
-            (Call::Write(1, 9), Err(DiskFault::Io)),
-            (Call::Write(2, 9), DONE),
-        ],
-        counts: (0, 2, 0),
-        has_torn_front: false,
-        unsynced: 2,
-        shown: [ZEROS, (0, 512, 0), (0, 512, 0), ZEROS],
-        tears: &[512, 4],
-        after_cut: [ZEROS, (0, 512, 0), (0, 4, 0), ZEROS],
-    },
+    Trouble { fail: Some(FaultPoint { call: 1, front: 0 }), shown: [ZEROS, OLD, NINES, ZEROS],
+        after_cut: [ZEROS, OLD, (0, 4, 0), ZEROS], ..FAILED_WRITE },
+    Trouble { fail: Some(FaultPoint { call: 1, front: 5 }),
+        shown: [ZEROS, (0, 5, 507), NINES, ZEROS],
+        after_cut: [ZEROS, (0, 5, 507), (0, 4, 0), ZEROS], ..FAILED_WRITE },
+    Trouble { fail: Some(FaultPoint { call: 1, front: 512 }), shown: [ZEROS, NINES, NINES, ZEROS],
+        after_cut: [ZEROS, NINES, (0, 4, 0), ZEROS], ..FAILED_WRITE },
+    Trouble { fail: Some(FaultPoint { call: 1, front: 600 }), shown: [ZEROS, NINES, NINES, ZEROS],
+        after_cut: [ZEROS, NINES, (0, 4, 0), ZEROS], ..FAILED_WRITE },
     // A stop leaves its front and lasts.
-    Trouble {
-        stop: Some(FaultPoint { call: 3, front: 0 }),
-        fail: None,
-        room: 3,
-        calls: &[
-            (Call::Write(2, 9), DONE),
-            (Call::Read(2, (0, 512, 0)), DONE),
-            (Call::Write(1, 9), Err(DiskFault::Cut)),
-            (Call::Write(0, 9), Err(DiskFault::Cut)),
-            (Call::Sync, Err(DiskFault::Cut)),
-            (Call::Read(2, ZEROS), Err(DiskFault::Cut)),
-        ],
-        counts: (2, 3, 1),
-        has_torn_front: true,
-        unsynced: 2,
-        shown: [ZEROS, OLD, (0, 512, 0), ZEROS],
-        tears: &[0],
-        after_cut: [ZEROS, OLD, ZEROS, ZEROS],
-    },
-    Trouble {
-        stop: Some(FaultPoint { call: 3, front: 7 }),
-        fail: None,
-        room: 3,
-        calls: &[
-            (Call::Write(2, 9), DONE),
-            (Call::Read(2, (0, 512, 0)), DONE),
-            (Call::Write(1, 9), Err(DiskFault::Cut)),
-            (Call::Write(0, 9), Err(DiskFault::Cut)),
-            (Call::Sync, Err(DiskFault::Cut)),
-            (Call::Read(2, ZEROS), Err(DiskFault::Cut)),
-        ],
-        counts: (2, 3, 1),
-        has_torn_front: true,
-        unsynced: 2,
-        shown: [ZEROS, (0, 7, 505), (0, 512, 0), ZEROS],
-        tears: &[0],
-        after_cut: [ZEROS, (0, 7, 505), ZEROS, ZEROS],
-    },
-    Trouble {
-        stop: Some(FaultPoint {
-            call: 3,
-            front: 512,
-        }),
-        fail: None,
-        room: 3,
-        calls: &[
-            (Call::Write(2, 9), DONE),
-            (Call::Read(2, (0, 512, 0)), DONE),
-            (Call::Write(1, 9), Err(DiskFault::Cut)),
-            (Call::Write(0, 9), Err(DiskFault::Cut)),
-            (Call::Sync, Err(DiskFault::Cut)),
-            (Call::Read(2, ZEROS), Err(DiskFault::Cut)),
-        ],
-        counts: (2, 3, 1),
-        has_torn_front: true,
-        unsynced: 2,
-        shown: [ZEROS, (0, 512, 0), (0, 512, 0), ZEROS],
-        tears: &[0],
-        after_cut: [ZEROS, (0, 512, 0), ZEROS, ZEROS],
-    },
+    Trouble { stop: Some(FaultPoint { call: 3, front: 0 }), shown: [ZEROS, OLD, NINES, ZEROS],
+        after_cut: [ZEROS, OLD, ZEROS, ZEROS], ..STOPPED_WRITE },
+    Trouble { stop: Some(FaultPoint { call: 3, front: 7 }),
+        shown: [ZEROS, (0, 7, 505), NINES, ZEROS], after_cut: [ZEROS, (0, 7, 505), ZEROS, ZEROS],
+        ..STOPPED_WRITE },
+    Trouble { stop: Some(FaultPoint { call: 3, front: 512 }), shown: [ZEROS, NINES, NINES, ZEROS],
+        after_cut: [ZEROS, NINES, ZEROS, ZEROS], ..STOPPED_WRITE },
     // A write without room changes nothing.
-    Trouble {
-        stop: None,
-        fail: None,
-        room: 3,
-        calls: &[
-            (Call::Write(0, 9), DONE),
-            (Call::Write(1, 9), DONE),
-            (Call::Write(2, 9), DONE),
-            (Call::Write(3, 9), Err(DiskFault::Io)),
-        ],
-        counts: (0, 4, 0),
-        has_torn_front: false,
-        unsynced: 3,
-        shown: [(0, 512, 0), (0, 512, 0), (0, 512, 0), ZEROS],
-        tears: &[],
-        after_cut: [(0, 512, 0), (0, 512, 0), (0, 512, 0), ZEROS],
-    },
+    Trouble { calls: &[
+        (Call::Write(0, 9), DONE), (Call::Write(1, 9), DONE), (Call::Write(2, 9), DONE),
+        (Call::Write(3, 9), Err(DiskFault::Io)),
+    ], counts: (0, 4, 0), unsynced: 3, shown: [NINES, NINES, NINES, ZEROS], after_cut: [
+        NINES, NINES, NINES, ZEROS,
+    ], ..NO_TROUBLE },
     // A run is durable after its sync.
-    Trouble {
-        stop: None,
-        fail: None,
-        room: 3,
-        calls: &[(Call::Run(true), DONE)],
-        counts: (0, 2, 1),
-        has_torn_front: false,
-        unsynced: 0,
-        shown: [ZEROS, OLD, (0, 512, 0), (512, 0, 0)],
-        tears: &[7, 0],
-        after_cut: [ZEROS, OLD, (0, 512, 0), (512, 0, 0)],
-    },
-    Trouble {
-        stop: None,
-        fail: None,
-        room: 3,
-        calls: &[(Call::Run(false), DONE)],
-        counts: (0, 2, 0),
-        has_torn_front: false,
-        unsynced: 2,
-        shown: [ZEROS, OLD, (0, 512, 0), (512, 0, 0)],
-        tears: &[7, 0],
-        after_cut: [ZEROS, OLD, (0, 7, 0), ZEROS],
-    },
+    Trouble { calls: &[(Call::Run(true), DONE)], counts: (0, 2, 1), unsynced: 0,
+        shown: [ZEROS, OLD, NINES, (512, 0, 0)], tears: &[7, 0],
+        after_cut: [ZEROS, OLD, NINES, (512, 0, 0)], ..NO_TROUBLE },
+    Trouble { calls: &[(Call::Run(false), DONE)], counts: (0, 2, 0), unsynced: 2,
+        shown: [ZEROS, OLD, NINES, (512, 0, 0)], tears: &[7, 0],
+        after_cut: [ZEROS, OLD, (0, 7, 0), ZEROS], ..NO_TROUBLE },
     // Sectors that are written back, one of them after an unsynced write, stay as they are, with a
     // write each and one sync.
-    Trouble {
-        stop: None,
-        fail: None,
-        room: 5,
-        calls: &[(Call::Write(2, 9), DONE), (Call::Rewrite, DONE)],
-        counts: (4, 5, 1),
-        has_torn_front: false,
-        unsynced: 0,
-        shown: [ZEROS, OLD, (0, 512, 0), ZEROS],
-        tears: &[],
-        after_cut: [ZEROS, OLD, (0, 512, 0), ZEROS],
-    },
+    Trouble { room: 5, calls: &[(Call::Write(2, 9), DONE), (Call::Rewrite, DONE)],
+        counts: (4, 5, 1), unsynced: 0, shown: [ZEROS, OLD, NINES, ZEROS],
+        after_cut: [ZEROS, OLD, NINES, ZEROS], ..NO_TROUBLE },
 ];
 
 #[test]

@@ -18,6 +18,7 @@ enum Fault {
     Snapshot(SnapshotFault),
 }
 
+#[rattlefmt::skip]
 static FAULTS: [(Fault, &str); 30] = [
     (Fault::Disk(DiskFault::Range), "K1 Range"),
     (Fault::Disk(DiskFault::Io), "K2 Io"),
@@ -28,51 +29,26 @@ static FAULTS: [(Fault, &str); 30] = [
     (Fault::Layout(LayoutFault::NotAWorker), "Y1 NotAWorker"),
     (Fault::Layout(LayoutFault::Version), "Y2 Version"),
     (Fault::Layout(LayoutFault::TooSmall), "Y3 TooSmall"),
-    (
-        Fault::Layout(LayoutFault::Damaged(Damage::ModuleSectors)),
+    (Fault::Layout(LayoutFault::Damaged(Damage::ModuleSectors)),
         "Y4 Damaged\n\
-         super, sector 0: m, the sectors of configuration and module, isn't c + w rounded up",
-    ),
-    (
-        Fault::Layout(LayoutFault::Damaged(Damage::ContentsDigest)),
+         super, sector 0: m, the sectors of configuration and module, isn't c + w rounded up"),
+    (Fault::Layout(LayoutFault::Damaged(Damage::ContentsDigest)),
+        "Y4 Damaged\nsuper, sector 0: the SHA-256 isn't that of configuration and module"),
+    (Fault::Layout(LayoutFault::Damaged(Damage::Configuration)),
+        "Y4 Damaged\nconfiguration, from sector 3 on: the first c bytes are no configuration"),
+    (Fault::Layout(LayoutFault::Damaged(Damage::AreaSectors)),
+        "Y4 Damaged\nsuper, sector 0: a, the sectors of an area, isn't as the configuration says"),
+    (Fault::Layout(LayoutFault::Damaged(Damage::JournalSectors)),
         "Y4 Damaged\n\
-         super, sector 0: the SHA-256 isn't that of configuration and module",
-    ),
-    (
-        Fault::Layout(LayoutFault::Damaged(Damage::Configuration)),
-        "Y4 Damaged\n\
-         configuration, from sector 3 on: the first c bytes are no configuration",
-    ),
-    (
-        Fault::Layout(LayoutFault::Damaged(Damage::AreaSectors)),
-        "Y4 Damaged\n\
-         super, sector 0: a, the sectors of an area, isn't as the configuration says",
-    ),
-    (
-        Fault::Layout(LayoutFault::Damaged(Damage::JournalSectors)),
-        "Y4 Damaged\n\
-         super, sector 0: j, the sectors of the journal, isn't as the configuration says",
-    ),
-    (
-        Fault::Layout(LayoutFault::Damaged(Damage::ShortJournal)),
-        "Y4 Damaged\n\
-         super, sector 0: j is below 133, and the version in the newest head is 2",
-    ),
-    (
-        Fault::Layout(LayoutFault::Damaged(Damage::OtherMark(0))),
-        "Y4 Damaged\n\
-         area 0: the image has the mark of another version than its head",
-    ),
-    (
-        Fault::Layout(LayoutFault::Damaged(Damage::OtherMark(1))),
-        "Y4 Damaged\n\
-         area 1: the image has the mark of another version than its head",
-    ),
-    (
-        Fault::Layout(LayoutFault::Damaged(Damage::LaterGeneration)),
-        "Y4 Damaged\n\
-         journal, first sector: the generation is above that of the newest head",
-    ),
+         super, sector 0: j, the sectors of the journal, isn't as the configuration says"),
+    (Fault::Layout(LayoutFault::Damaged(Damage::ShortJournal)),
+        "Y4 Damaged\nsuper, sector 0: j is below 133, and the version in the newest head is 2"),
+    (Fault::Layout(LayoutFault::Damaged(Damage::OtherMark(0))),
+        "Y4 Damaged\narea 0: the image has the mark of another version than its head"),
+    (Fault::Layout(LayoutFault::Damaged(Damage::OtherMark(1))),
+        "Y4 Damaged\narea 1: the image has the mark of another version than its head"),
+    (Fault::Layout(LayoutFault::Damaged(Damage::LaterGeneration)),
+        "Y4 Damaged\njournal, first sector: the generation is above that of the newest head"),
     (Fault::Layout(LayoutFault::Memory), "Y5 Memory"),
     (Fault::Layout(LayoutFault::Disk(DiskFault::Cut)), "K3 Cut"),
     (Fault::Journal(JournalFault::Full), "J1 Full"),
@@ -82,10 +58,7 @@ static FAULTS: [(Fault, &str); 30] = [
     (Fault::Journal(JournalFault::Failed), "J5 Failed"),
     (Fault::Snapshot(SnapshotFault::TooBig), "S1 TooBig"),
     (Fault::Snapshot(SnapshotFault::Damaged), "S2 Damaged"),
-    (
-        Fault::Snapshot(SnapshotFault::Disk(DiskFault::Io)),
-        "S3 Disk",
-    ),
+    (Fault::Snapshot(SnapshotFault::Disk(DiskFault::Io)), "S3 Disk"),
     (Fault::Snapshot(SnapshotFault::Memory), "S4 Memory"),
     (Fault::Snapshot(SnapshotFault::Failed), "S5 Failed"),
 ];

@@ -107,11 +107,7 @@ where
     }
 }
 
-fn is_made_so<F, R>(files: &R, story: &Story) -> Result<bool, Fail>
-where
-    F: DiskFile,
-    R: Files<File = F>,
-{
+fn is_made_so<F: DiskFile, R: Files<File = F>>(files: &R, story: &Story) -> Result<bool, Fail> {
     let (mut disk, _) = FileDisk::create(files, story.path, story.sectors)?;
     let befalls = befalls(files, story.path, &story.meanwhile);
     let is_answered = answers_so(&mut disk, story.calls);
@@ -132,11 +128,7 @@ fn is_opened_so<F: DiskFile, R: Files<File = F>>(
     Ok(is_so)
 }
 
-fn is_told_so<F, R>(files: &R, story: &Story) -> Result<bool, Fail>
-where
-    F: DiskFile,
-    R: Files<File = F>,
-{
+fn is_told_so<F: DiskFile, R: Files<File = F>>(files: &R, story: &Story) -> Result<bool, Fail> {
     let _ = fs::remove_file(files, story.path);
     let is_made = is_made_so(files, story)?;
     let is_kept = is_opened_so(files, story.path, story.sectors_again, story.calls_again)?;

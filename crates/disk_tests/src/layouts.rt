@@ -58,11 +58,8 @@ static STAMPS: [(u16, u64, bool); 7] = [
 #[test]
 fn a_torn_stamp_is_never_newer(rt: HostRuntime) -> Result<(), DiskFault> {
     for (front, shown, is_new) in &STAMPS {
-        assert_row(
-            &rt,
-            torn_stamp(rt.alloc(), *front)? == (*shown, *is_new),
-            front,
-        );
+        let is_so = torn_stamp(rt.alloc(), *front)? == (*shown, *is_new);
+        assert_row(&rt, is_so, front);
     }
     Ok(())
 }

@@ -3,7 +3,10 @@
 ghost use Rattle.std.specs.Prelude.{◌<◌, length};
 
 use crate::process_image_stop::ProcessImageStop;
-use crate::processes::{ECHO, FILES, HELLO, Step, begin_with, bytes_of, restore_with, take_steps};
+use crate::processes::Step::{
+    self, Exit, Owe, RefuseEnd, RefuseTime, Release, Run, Stop, Take, TakeEnd, Taken,
+};
+use crate::processes::{ECHO, FILES, HELLO, begin_with, bytes_of, restore_with, take_steps};
 use crate::rows::assert_row;
 use process::Process;
 use state_image::{Sink, write_process_image, write_process_image_to};
@@ -14,12 +17,10 @@ use std::process::Abort;
 /// input has ended, and nothing is unread or unfinished. There are no globals. One frame is of
 /// function 2 at its first instruction, without slots. One page is there, with the bytes of its
 /// segment.
-const FRONT: [u8; 101] = [
-    0x44, 0x57, 0x49, 0x4d, 0x41, 0x47, 0x45, 0x31, 0, 0, 0, 0, 0, 0, 0, 0, 0, 0, 0, 0, 0, 0, 0, 0,
-    0, 0, 0, 0, 0, 0, 0, 0, 0, 0, 0, 0, 0, 0, 0, 0, 0, 0, 0, 0, 0, 0, 0, 0, 1, 0, 0, 0, 0, 0, 0, 0,
-    0, 0, 0, 0, 0, 0, 0, 0, 0, 0, 0, 0, 0, 0, 1, 0, 0, 0, 2, 0, 0, 0, 0, 0, 0, 0, 0, 0, 0, 0, 1, 0,
-    0, 0, 8, 0, 0, 0, 3, 0, 0, 0, 0x68, 0x69, 0x0a,
-];
+const FRONT: [u8; 101] =
+    *b"DWIMAGE1\0\0\0\0\0\0\0\0\0\0\0\0\0\0\0\0\0\0\0\0\0\0\0\0\0\0\0\0\0\0\0\0\0\0\0\0\0\0\0\0\x01\
+    \0\0\0\0\0\0\0\0\0\0\0\0\0\0\0\0\0\0\0\0\0\x01\0\0\0\x02\0\0\0\0\0\0\0\0\0\0\0\x01\0\0\0\x08\0\
+    \0\0\x03\0\0\0hi\n";
 
 /// The bytes of the image of `FILES`: 98 up to the frames, 84 of two frames with seven slots,
 /// 65,540 of memory, 158 of five nodes, and 277 of seven descriptors.
@@ -280,103 +281,35 @@ fn is_told_so(alloc: Global, row: &Row) -> Result<bool, ProcessImageStop> {
 }
 
 /// To where `echo` and `FILES` ask, and to where `echo` has taken its first request.
-const ASKS: &[Step] = &[Step::Run(1_000)];
+const ASKS: &[Step] = &[Run(1_000)];
 
-const ASKED: &[Step] = &[Step::Run(100), Step::Take];
+const ASKED: &[Step] = &[Run(100), Take];
 
 /// One step more than the answer.
-const GONE_ON: &[Step] = &[Step::Run(1_000), Step::Take, Step::Run(1)];
+const GONE_ON: &[Step] = &[Run(1_000), Take, Run(1)];
 
+#[rattlefmt::skip]
 static LIVES: [Row; 11] = [
-    (
-        "hello owes its line",
-        &HELLO,
-        &[
-            Step::Stop(0, [1, 0, 0, 0]),
-            Step::Stop(4, [1, 4, 0, 0]),
-            Step::Stop(100, [2, 5, 1, 1]),
-            Step::Stop(100, [2, 5, 1, 1]),
-        ],
-        Told::Steps,
-    ),
-    (
-        "hello takes no answer",
-        &HELLO,
-        &[
-            Step::RefuseEnd,
-            Step::Stop(4, [1, 4, 0, 0]),
-            Step::RefuseEnd,
-            Step::Stop(100, [2, 5, 1, 1]),
-        ],
-        Told::Steps,
-    ),
-    (
-        "hello exits",
-        &HELLO,
-        &[
-            Step::Stop(100, [2, 5, 1, 1]),
-            Step::Owe(b"hi"),
-            Step::Release,
-            Step::Exit,
-        ],
-        Told::Steps,
-    ),
-    (
-        "an answer to something else is refused, and what waits goes on waiting",
-        &ECHO,
-        &[
-            Step::Stop(100, [3, 5, 0, 0]),
-            Step::RefuseTime,
-            Step::Taken(5, 0),
-            Step::Stop(100, [3, 5, 0, 0]),
-            Step::Take,
-            Step::Taken(6, 1),
-            Step::Stop(100, [2, 20, 1, 1]),
-            Step::Owe(b"hello"),
-        ],
-        Told::Steps,
-    ),
-    (
-        "input ends, and no line is written",
-        &ECHO,
-        &[
-            Step::Stop(100, [3, 5, 0, 0]),
-            Step::TakeEnd,
-            Step::Stop(100, [4, 11, 0, 0]),
-        ],
-        Told::Steps,
-    ),
-    (
-        "nothing is pushed after a refusal",
-        &HELLO,
-        &[],
-        Told::Refused,
-    ),
-    (
-        "the image of echo from step 6",
-        &ECHO,
-        ASKED,
-        Told::ProcessImage(65_819, &[]),
-    ),
-    (
-        "echo comes back from step 6",
-        &ECHO,
-        ASKED,
-        Told::Again(&[], ASKED, false),
-    ),
+    ("hello owes its line", &HELLO, &[
+        Stop(0, [1, 0, 0, 0]), Stop(4, [1, 4, 0, 0]), Stop(100, [2, 5, 1, 1]),
+        Stop(100, [2, 5, 1, 1]),
+    ], Told::Steps),
+    ("hello takes no answer", &HELLO,
+        &[RefuseEnd, Stop(4, [1, 4, 0, 0]), RefuseEnd, Stop(100, [2, 5, 1, 1])], Told::Steps),
+    ("hello exits", &HELLO, &[Stop(100, [2, 5, 1, 1]), Owe(b"hi"), Release, Exit], Told::Steps),
+    ("an answer to something else is refused, and what waits goes on waiting", &ECHO, &[
+        Stop(100, [3, 5, 0, 0]), RefuseTime, Taken(5, 0), Stop(100, [3, 5, 0, 0]), Take,
+        Taken(6, 1), Stop(100, [2, 20, 1, 1]), Owe(b"hello"),
+    ], Told::Steps),
+    ("input ends, and no line is written", &ECHO,
+        &[Stop(100, [3, 5, 0, 0]), TakeEnd, Stop(100, [4, 11, 0, 0])], Told::Steps),
+    ("nothing is pushed after a refusal", &HELLO, &[], Told::Refused),
+    ("the image of echo from step 6", &ECHO, ASKED, Told::ProcessImage(65_819, &[])),
+    ("echo comes back from step 6", &ECHO, ASKED, Told::Again(&[], ASKED, false)),
     ("a byte fewer or more is no image", &ECHO, &[], Told::Edge),
-    (
-        "what was made again asks as before, and takes the same answer to the same end",
-        &FILES,
-        ASKS,
-        Told::Again(GONE_ON, GONE_ON, true),
-    ),
-    (
-        "a refused answer changes nothing",
-        &ECHO,
-        ASKS,
-        Told::Again(&[Step::RefuseTime], ASKS, false),
-    ),
+    ("what was made again asks as before, and takes the same answer to the same end", &FILES, ASKS,
+        Told::Again(GONE_ON, GONE_ON, true)),
+    ("a refused answer changes nothing", &ECHO, ASKS, Told::Again(&[RefuseTime], ASKS, false)),
 ];
 
 fn are_told(rt: &impl Abort, alloc: Global, rows: &[Row]) -> Result<(), ProcessImageStop> {
@@ -410,28 +343,15 @@ fn other_bytes_of_an_image_of_step_6_are_refused_or_others(
     are_told(&rt, rt.alloc(), &ASKED_BYTES)
 }
 
+#[rattlefmt::skip]
 static IMAGES: [Row; 6] = [
     ("hello", &HELLO, &[], Told::ProcessImage(65_811, &FRONT)),
     ("fresh echo", &ECHO, &[], Told::ProcessImage(65_811, &[])),
-    (
-        "fresh echo comes back",
-        &ECHO,
-        &[],
-        Told::Again(&[], &[], false),
-    ),
+    ("fresh echo comes back", &ECHO, &[], Told::Again(&[], &[], false)),
     ("files", &FILES, ASKS, Told::ProcessImage(FILES_BYTES, &[])),
-    (
-        "files come back",
-        &FILES,
-        ASKS,
-        Told::Again(&[], ASKS, false),
-    ),
-    (
-        "what is made again refuses an answer, and takes another one at once",
-        &ECHO,
-        ASKS,
-        Told::Again(&[Step::RefuseTime, Step::Take], ASKED, true),
-    ),
+    ("files come back", &FILES, ASKS, Told::Again(&[], ASKS, false)),
+    ("what is made again refuses an answer, and takes another one at once", &ECHO, ASKS,
+        Told::Again(&[RefuseTime, Take], ASKED, true)),
 ];
 
 /// `scripts/runs/refused-allocations` refuses each allocation in turn, and then this ends out of

@@ -278,6 +278,7 @@ enum Told {
     RefusedInBox,
 }
 
+#[rattlefmt::skip]
 static TOLD: [(&str, Told); 15] = [
     ("a box says first what is in it", Told::FirstInBox),
     ("a box says second what is in it", Told::SecondInBox),
@@ -287,22 +288,10 @@ static TOLD: [(&str, Told); 15] = [
     ("lines are told until the first", Told::Until(1, 1)),
     ("lines are told until the second", Told::Until(2, 2)),
     ("lines are told until the third", Told::Until(3, 3)),
-    (
-        "no release is a fault",
-        Told::Answered(0, [true, true, true]),
-    ),
-    (
-        "the first is a fault",
-        Told::Answered(1, [false, true, true]),
-    ),
-    (
-        "the second is a fault",
-        Told::Answered(2, [true, false, true]),
-    ),
-    (
-        "the third is a fault",
-        Told::Answered(3, [true, true, false]),
-    ),
+    ("no release is a fault", Told::Answered(0, [true, true, true])),
+    ("the first is a fault", Told::Answered(1, [false, true, true])),
+    ("the second is a fault", Told::Answered(2, [true, false, true])),
+    ("the third is a fault", Told::Answered(3, [true, true, false])),
     ("there is no fourth", Told::Answered(4, [true, true, true])),
     ("a box takes each line once", Told::TakenOnce),
     ("a box refuses a line", Told::RefusedInBox),

@@ -1,6 +1,11 @@
 //! A tree is made and changed where there is memory, and a caller can test what is asked of it.
 
 use crate::rows::assert_row;
+use crate::trees::Step::{
+    Add, Child, Chunk, ChunkLength, Chunks, Entries, Entry, Forget, ForgetRemoved, Hang, HasPath,
+    IsEmpty, Make, Move, Name, Next, NumberAt, Parent, Put, RaiseNext, Read, Remove, Resize, Used,
+};
+use file_tree::NodeType::{Directory, File};
 use file_tree::limits::NODES;
 use file_tree::{ByteList, NodeType, Tree, is_name};
 use std::alloc::{AllocError, Global};
@@ -139,81 +144,36 @@ enum Step {
     Read(u64, u64, usize, usize, [u8; 6]),
 }
 
-/// A file is made, moved, written and removed.
-const CHANGES: &[Step] = &[
-    Step::Make(1, b"a", NodeType::File, 2),
-    Step::Make(1, b"d", NodeType::Directory, 3),
-    Step::Move(2, 3),
-    Step::Child(1, b"a", None),
-    Step::Child(3, b"a", Some(2)),
-    Step::Parent(2, Some(3)),
-    Step::Name(2, b"a"),
-    Step::IsEmpty(3, false),
-    Step::Entry(1, 0, Some(3)),
-    Step::Entry(1, 1, None),
-    Step::Resize(2, 5),
-    Step::Put(2, 2, b"abc"),
-    Step::Resize(2, 4),
-    Step::Used(4),
-    Step::Read(2, 1, 3, 3, [0, b'a', b'b', 7, 7, 7]),
-    // a directory is removed once it is empty, and not before
-    Step::Remove(3),
-    Step::HasPath(3, true),
-    Step::Remove(2),
-    Step::Remove(3),
-    Step::HasPath(3, false),
-    // a removed file keeps its bytes until it is forgotten
-    Step::Used(4),
-    Step::Forget(2),
-    Step::Used(0),
-    // nor is the directory there any more, once all removed nodes are forgotten; its number stays
-    // its own
-    Step::ForgetRemoved,
-    Step::NumberAt(0, Some(1)),
-    Step::NumberAt(1, None),
-    Step::Make(1, b"a", NodeType::File, 4),
-];
-
-/// Bytes that were cut off are zeros.
-const CUTS: &[Step] = &[
-    Step::Make(1, b"a", NodeType::File, 2),
-    Step::Resize(2, 5_000),
-    Step::Put(2, 0, &[b'a'; 5_000]),
-    Step::Chunks(2),
-    Step::Resize(2, 4_100),
-    Step::Resize(2, 5_000),
-    Step::Read(2, 4_094, 6, 6, [b'a'; 6]),
-    Step::Read(2, 4_098, 6, 6, [b'a', b'a', 0, 0, 0, 0]),
-    Step::Read(2, 4_997, 6, 3, [0, 0, 0, 7, 7, 7]),
-    Step::Resize(2, 4_096),
-    Step::Chunks(1),
-];
-
-/// A tree is built anew: of nodes without a path, which go into directories then.
-const BUILT: &[Step] = &[
-    Step::Add(3, NodeType::File),
-    Step::Add(5, NodeType::Directory),
-    Step::RaiseNext(8),
-    Step::Next(8),
-    Step::HasPath(3, false),
-    Step::Hang(5, 1, b"d"),
-    Step::Hang(3, 5, b"f"),
-    Step::Child(5, b"f", Some(3)),
-    Step::Entries(5, 1),
-    Step::Entries(3, 0),
-    Step::NumberAt(1, Some(3)),
-    Step::NumberAt(3, None),
-    Step::Resize(3, 4_098),
-    Step::Put(3, 4_096, b"ab"),
-    Step::ChunkLength(3, 0, 4_096),
-    Step::Chunk(3, 1, b"ab"),
-    Step::Chunk(3, 2, b""),
-];
-
+#[rattlefmt::skip]
 static STORIES: [(&str, &[Step]); 3] = [
-    ("changes", CHANGES),
-    ("cuts", CUTS),
-    ("what is built anew", BUILT),
+    // a file is made, moved, written and removed
+    ("changes", &[
+        Make(1, b"a", File, 2), Make(1, b"d", Directory, 3), Move(2, 3), Child(1, b"a", None),
+        Child(3, b"a", Some(2)), Parent(2, Some(3)), Name(2, b"a"), IsEmpty(3, false),
+        Entry(1, 0, Some(3)), Entry(1, 1, None), Resize(2, 5), Put(2, 2, b"abc"), Resize(2, 4),
+        Used(4), Read(2, 1, 3, 3, [0, b'a', b'b', 7, 7, 7]),
+        // a directory is removed once it is empty, and not before
+        Remove(3), HasPath(3, true), Remove(2), Remove(3), HasPath(3, false),
+        // a removed file keeps its bytes until it is forgotten
+        Used(4), Forget(2), Used(0),
+        // nor is the directory there any more, once all removed nodes are forgotten; its number
+        // stays its own
+        ForgetRemoved, NumberAt(0, Some(1)), NumberAt(1, None), Make(1, b"a", File, 4),
+    ]),
+    // bytes that were cut off are zeros
+    ("cuts", &[
+        Make(1, b"a", File, 2), Resize(2, 5_000), Put(2, 0, &[b'a'; 5_000]), Chunks(2),
+        Resize(2, 4_100), Resize(2, 5_000), Read(2, 4_094, 6, 6, [b'a'; 6]),
+        Read(2, 4_098, 6, 6, [b'a', b'a', 0, 0, 0, 0]), Read(2, 4_997, 6, 3, [0, 0, 0, 7, 7, 7]),
+        Resize(2, 4_096), Chunks(1),
+    ]),
+    // a tree is built anew: of nodes without a path, which go into directories then
+    ("what is built anew", &[
+        Add(3, File), Add(5, Directory), RaiseNext(8), Next(8), HasPath(3, false), Hang(5, 1, b"d"),
+        Hang(3, 5, b"f"), Child(5, b"f", Some(3)), Entries(5, 1), Entries(3, 0),
+        NumberAt(1, Some(3)), NumberAt(3, None), Resize(3, 4_098), Put(3, 4_096, b"ab"),
+        ChunkLength(3, 0, 4_096), Chunk(3, 1, b"ab"), Chunk(3, 2, b""),
+    ]),
 ];
 
 fn raise_next(tree: &mut Tree, next: u64) {

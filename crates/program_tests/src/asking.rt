@@ -1,5 +1,6 @@
-//! `echo`, which asks for requests.
+//! `echo`, which asks for requests, and what workers are made with.
 
+use command_words::Sizes;
 use std::alloc::Global;
 use std::test::Fail;
 use wasi_abi::{Answer, Config};
@@ -17,6 +18,18 @@ pub(crate) const ECHO: [&str; 9] = [
     "0b12010041000b0c",
     "400000000010000040000000",
 ];
+
+/// Texts of a module, and pages, units of files and sectors of the journal of its worker.
+pub(crate) type Asked = (&'static [&'static str], [u64; 3]);
+
+pub(crate) fn sizes_of(numbers: [u64; 3]) -> Sizes {
+    let [pages, files, journal] = numbers;
+    Sizes {
+        pages,
+        files,
+        journal,
+    }
+}
 
 /// One page, one file unit, 64 journal sectors and no argument.
 pub(crate) fn config(alloc: Global) -> Result<Config, Fail> {

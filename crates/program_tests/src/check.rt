@@ -53,12 +53,9 @@ pub(crate) const HELLO: [&str; 8] = [
 ];
 
 /// All of the small module.
-const SMALL: [u8; 50] = [
-    0x00, 0x61, 0x73, 0x6d, 0x01, 0x00, 0x00, 0x00, 0x01, 0x04, 0x01, 0x60, 0x00, 0x00, 0x03, 0x02,
-    0x01, 0x00, 0x05, 0x03, 0x01, 0x00, 0x01, 0x07, 0x13, 0x02, 0x06, 0x5f, 0x73, 0x74, 0x61, 0x72,
-    0x74, 0x00, 0x00, 0x06, 0x6d, 0x65, 0x6d, 0x6f, 0x72, 0x79, 0x02, 0x00, 0x0a, 0x04, 0x01, 0x02,
-    0x00, 0x0b,
-];
+const SMALL: [u8; 50] =
+    *b"\0asm\x01\0\0\0\x01\x04\x01\x60\0\0\x03\x02\x01\0\x05\x03\x01\0\x01\x07\x13\x02\x06_start\0\
+    \0\x06memory\x02\0\x0a\x04\x01\x02\0\x0b";
 
 /// How a module is not accepted that is to be.
 #[derive(Debug, Drop)]
@@ -97,209 +94,70 @@ fn is_told_so(alloc: Global, row: &Row) -> Result<bool, Fail> {
     Ok(is_so)
 }
 
-const MODULES: &[Row] = &[
+/// An empty custom section called `name`.
+const CUSTOM: &str = "0005046e616d65";
+
+#[rattlefmt::skip]
+static MODULES: [Row; 29] = [
+    // whole modules
     (&[], Status::Refused, "refused B1 Malformed at 0\n"),
     (&[HEADER], Status::Refused, "refused L1 NoStart\n"),
     (&[BEFORE_CODE, EMPTY_BODY], Status::Done, "accepted\n"),
     (&HELLO, Status::Done, "accepted\n"),
-];
-
-const SIZES: &[Row] = &[
-    (
-        &[
-            HEADER,
-            "01848080800001600000",
-            FUNCTIONS,
-            MEMORIES,
-            EXPORTS,
-            EMPTY_BODY,
-        ],
-        Status::Done,
-        "accepted\n",
-    ),
-    (
-        &[
-            HEADER,
-            "0184808080800001600000",
-            FUNCTIONS,
-            MEMORIES,
-            EXPORTS,
-            EMPTY_BODY,
-        ],
-        Status::Refused,
-        "refused B1 Malformed at 9\n",
-    ),
-    (
-        &[
-            HEADER,
-            "01848080801001600000",
-            FUNCTIONS,
-            MEMORIES,
-            EXPORTS,
-            EMPTY_BODY,
-        ],
-        Status::Refused,
-        "refused B1 Malformed at 9\n",
-    ),
-];
-
-const BODIES: &[Row] = &[
-    (
-        &[BEFORE_CODE, "0a06010401017d0b"],
-        Status::Refused,
-        "refused B2 Float at 50\nf32 in function 0; \
-         printf has floats, but not with -lc-printscan-no-floating-point\n",
-    ),
-    (
-        &[BEFORE_CODE, "0a0c010a00 4101047f41010b1a0b"],
-        Status::Refused,
-        "refused V1 Typing\n",
-    ),
-    (
-        &[BEFORE_CODE, "0a0a010800 41002803001a0b"],
-        Status::Refused,
-        "refused V3 Limits\n",
-    ),
-];
-
-/// Other faults of the decoder and the validator, and a module without a memory for the host.
-const FAULTS: &[Row] = &[
-    (
-        &["0061736d02000000"],
-        Status::Refused,
-        "refused B1 Malformed at 4\n",
-    ),
-    (
-        &[HEADER, "01050160017d00"],
-        Status::Refused,
-        "refused B2 Float at 13\nf32 in type 0 of no function; \
-         printf has floats, but not with -lc-printscan-no-floating-point\n",
-    ),
-    (
-        &[HEADER, "010401608102"],
-        Status::Refused,
-        "refused B3 Limit\nmore than 256 parameters in one type, at byte 12\n",
-    ),
-    (
-        &[BEFORE_CODE, "0a0601040010050b"],
-        Status::Refused,
-        "refused V2 Index\n",
-    ),
-    (
-        &[BEFORE_EXPORTS, TWO_STARTS, EMPTY_BODY],
-        Status::Refused,
-        "refused V4 DuplicateExport\n",
-    ),
-    (
-        &[BEFORE_EXPORTS, NO_MEMORY, EMPTY_BODY],
-        Status::Refused,
-        "refused L2 NoMemory\n",
-    ),
-];
-
-/// Imports that the host doesn't offer, or with another type; a byte of data at the last place of
-/// memory, and one after it; as many pages as `check` allows, and one more.
-const HOST: &[Row] = &[
-    (
-        &[HEADER, TYPES, UNKNOWN_CALL, BEHIND_IMPORTS],
-        Status::Refused,
-        "refused L3 UnknownImport\nimport env.f isn't one of the 31 calls\n",
-    ),
-    (
-        &[HEADER, TYPES, CALL_WITHOUT_CODE, BEHIND_IMPORTS],
-        Status::Refused,
+    // the size of a section in more bytes than it needs
+    (&[HEADER, "01848080800001600000", FUNCTIONS, MEMORIES, EXPORTS, EMPTY_BODY], Status::Done,
+        "accepted\n"),
+    (&[HEADER, "0184808080800001600000", FUNCTIONS, MEMORIES, EXPORTS, EMPTY_BODY], Status::Refused,
+        "refused B1 Malformed at 9\n"),
+    (&[HEADER, "01848080801001600000", FUNCTIONS, MEMORIES, EXPORTS, EMPTY_BODY], Status::Refused,
+        "refused B1 Malformed at 9\n"),
+    // the first faults of bodies
+    (&[BEFORE_CODE, "0a06010401017d0b"], Status::Refused,
+        "refused B2 Float at 50\n\
+         f32 in function 0; printf has floats, but not with -lc-printscan-no-floating-point\n"),
+    (&[BEFORE_CODE, "0a0c010a00 4101047f41010b1a0b"], Status::Refused, "refused V1 Typing\n"),
+    (&[BEFORE_CODE, "0a0a010800 41002803001a0b"], Status::Refused, "refused V3 Limits\n"),
+    // other faults of the decoder and the validator, and a module without a memory for the host
+    (&["0061736d02000000"], Status::Refused, "refused B1 Malformed at 4\n"),
+    (&[HEADER, "01050160017d00"], Status::Refused,
+        "refused B2 Float at 13\n\
+         f32 in type 0 of no function; printf has floats, but not with \
+         -lc-printscan-no-floating-point\n"),
+    (&[HEADER, "010401608102"], Status::Refused,
+        "refused B3 Limit\nmore than 256 parameters in one type, at byte 12\n"),
+    (&[BEFORE_CODE, "0a0601040010050b"], Status::Refused, "refused V2 Index\n"),
+    (&[BEFORE_EXPORTS, TWO_STARTS, EMPTY_BODY], Status::Refused, "refused V4 DuplicateExport\n"),
+    (&[BEFORE_EXPORTS, NO_MEMORY, EMPTY_BODY], Status::Refused, "refused L2 NoMemory\n"),
+    // imports that the host doesn't offer, or with another type; a byte of data at the last
+    // place of memory, and one after it; as many pages as `check` allows, and one more
+    (&[HEADER, TYPES, UNKNOWN_CALL, BEHIND_IMPORTS], Status::Refused,
+        "refused L3 UnknownImport\nimport env.f isn't one of the 31 calls\n"),
+    (&[HEADER, TYPES, CALL_WITHOUT_CODE, BEHIND_IMPORTS], Status::Refused,
         "refused L4 ImportType\n\
-         import wasi_snapshot_preview1.proc_exit has another type than this call\n",
-    ),
-    (
-        &[BEFORE_CODE, EMPTY_BODY, "0b09010041ffff030b0100"],
-        Status::Done,
-        "accepted\n",
-    ),
-    (
-        &[BEFORE_CODE, EMPTY_BODY, "0b090100418080040b0100"],
-        Status::Refused,
-        "refused L5 InitRange\n",
-    ),
-    (
-        &[
-            HEADER,
-            TYPES,
-            FUNCTIONS,
-            "050401008002",
-            EXPORTS,
-            EMPTY_BODY,
-        ],
-        Status::Done,
-        "accepted\n",
-    ),
-    (
-        &[
-            HEADER,
-            TYPES,
-            FUNCTIONS,
-            "050401008102",
-            EXPORTS,
-            EMPTY_BODY,
-        ],
-        Status::Refused,
-        "refused L6 TooManyPages\nbegins with 257 pages, and a worker has at most 256\n",
-    ),
+         import wasi_snapshot_preview1.proc_exit has another type than this call\n"),
+    (&[BEFORE_CODE, EMPTY_BODY, "0b09010041ffff030b0100"], Status::Done, "accepted\n"),
+    (&[BEFORE_CODE, EMPTY_BODY, "0b090100418080040b0100"], Status::Refused,
+        "refused L5 InitRange\n"),
+    (&[HEADER, TYPES, FUNCTIONS, "050401008002", EXPORTS, EMPTY_BODY], Status::Done, "accepted\n"),
+    (&[HEADER, TYPES, FUNCTIONS, "050401008102", EXPORTS, EMPTY_BODY], Status::Refused,
+        "refused L6 TooManyPages\nbegins with 257 pages, and a worker has at most 256\n"),
+    // sections twice, out of order, too long and too short, and custom sections everywhere
+    (&[HEADER, "0cff"], Status::Refused, "refused B1 Malformed at 8\n"),
+    (&[HEADER, TYPES, TYPES], Status::Refused, "refused B1 Malformed at 14\n"),
+    (&[BEFORE_EXPORTS, MEMORIES], Status::Refused, "refused B1 Malformed at 23\n"),
+    (&[HEADER, FUNCTIONS, TYPES], Status::Refused, "refused B1 Malformed at 12\n"),
+    (&[HEADER, "010501600000"], Status::Refused, "refused B1 Malformed at 9\n"),
+    (&[HEADER, "010301600000"], Status::Refused, "refused B1 Malformed at 13\n"),
+    (&[
+        HEADER, CUSTOM, TYPES, CUSTOM, FUNCTIONS, CUSTOM, MEMORIES, CUSTOM, EXPORTS, CUSTOM,
+        EMPTY_BODY, CUSTOM,
+    ], Status::Done, "accepted\n"),
 ];
-
-/// An empty custom section called `name`.
-const CUSTOM: &str = "0005046e616d65";
-
-/// Sections twice, out of order, too long and too short, and custom sections everywhere.
-const SECTIONS: &[Row] = &[
-    (
-        &[HEADER, "0cff"],
-        Status::Refused,
-        "refused B1 Malformed at 8\n",
-    ),
-    (
-        &[HEADER, TYPES, TYPES],
-        Status::Refused,
-        "refused B1 Malformed at 14\n",
-    ),
-    (
-        &[BEFORE_EXPORTS, MEMORIES],
-        Status::Refused,
-        "refused B1 Malformed at 23\n",
-    ),
-    (
-        &[HEADER, FUNCTIONS, TYPES],
-        Status::Refused,
-        "refused B1 Malformed at 12\n",
-    ),
-    (
-        &[HEADER, "010501600000"],
-        Status::Refused,
-        "refused B1 Malformed at 9\n",
-    ),
-    (
-        &[HEADER, "010301600000"],
-        Status::Refused,
-        "refused B1 Malformed at 13\n",
-    ),
-    (
-        &[
-            HEADER, CUSTOM, TYPES, CUSTOM, FUNCTIONS, CUSTOM, MEMORIES, CUSTOM, EXPORTS, CUSTOM,
-            EMPTY_BODY, CUSTOM,
-        ],
-        Status::Done,
-        "accepted\n",
-    ),
-];
-
-static TABLES: [&[Row]; 6] = [MODULES, SIZES, BODIES, FAULTS, HOST, SECTIONS];
 
 #[test]
 fn modules_are_told(rt: HostRuntime) -> Result<(), Fail> {
-    for rows in &TABLES {
-        for row in *rows {
-            assert_row(&rt, is_told_so(rt.alloc(), row)?, row);
-        }
+    for row in &MODULES {
+        assert_row(&rt, is_told_so(rt.alloc(), row)?, row);
     }
     Ok(())
 }
@@ -333,11 +191,8 @@ fn fronts(rt: HostRuntime) -> Result<(), Fail> {
     let bytes = bytes_of(rt.alloc(), &ECHO)?;
     assert_row(&rt, bytes.len() == ECHO_LENGTH, &ECHO_LENGTH);
     for end in 0..=ECHO_LENGTH {
-        assert_row(
-            &rt,
-            is_front_told_so(rt.alloc(), bytes.as_slice(), end),
-            &end,
-        );
+        let is_so = is_front_told_so(rt.alloc(), bytes.as_slice(), end);
+        assert_row(&rt, is_so, &end);
     }
     Ok(())
 }
@@ -356,11 +211,8 @@ fn statuses_without_room(alloc: Global) -> [Status; 2] {
 #[test]
 fn output_without_room(rt: HostRuntime) {
     let statuses = statuses_without_room(rt.alloc());
-    assert_row(
-        &rt,
-        statuses == [Status::Unwritten, Status::Unwritten],
-        &statuses,
-    );
+    let are_so = statuses == [Status::Unwritten, Status::Unwritten];
+    assert_row(&rt, are_so, &statuses);
 }
 
 /// That the small module is accepted, in a room for its line that takes no memory.

@@ -9,6 +9,7 @@ use std::test::Fail;
 /// Words, and the status of what is read, which is `Done` for an order.
 type StatusRow = (&'static [&'static str], Status);
 
+#[rattlefmt::skip]
 static STATUSES: [StatusRow; 50] = [
     (&["wasmhost"], Usage),
     (&["wasmhost", "open", "a"], Usage),
@@ -17,22 +18,10 @@ static STATUSES: [StatusRow; 50] = [
     (&["wasmhost", "check", "a", "b"], Usage),
     (&["wasmhost", "create", "a.disk"], Usage),
     (&["wasmhost", "create", "a.disk", "a.wasm", "b"], Usage),
-    (
-        &["wasmhost", "create", "a.disk", "a.wasm", "--pages", "-1"],
-        Usage,
-    ),
-    (
-        &["wasmhost", "create", "a.disk", "a.wasm", "--pages", "0"],
-        Done,
-    ),
-    (
-        &["wasmhost", "create", "a.disk", "a.wasm", "--device"],
-        Done,
-    ),
-    (
-        &["wasmhost", "create", "b.disk", "a.wasm", "--from", "a.disk"],
-        Done,
-    ),
+    (&["wasmhost", "create", "a.disk", "a.wasm", "--pages", "-1"], Usage),
+    (&["wasmhost", "create", "a.disk", "a.wasm", "--pages", "0"], Done),
+    (&["wasmhost", "create", "a.disk", "a.wasm", "--device"], Done),
+    (&["wasmhost", "create", "b.disk", "a.wasm", "--from", "a.disk"], Done),
     (&["wasmhost", "create", "b.disk", "a.wasm", "--from"], Usage),
     (&["wasmhost", "create", "--help"], Done),
     (&["wasmhost", "run"], Usage),
@@ -68,14 +57,8 @@ static STATUSES: [StatusRow; 50] = [
     (&["wasmhost", "story"], Usage),
     (&["wasmhost", "story", "a.story"], Usage),
     (&["wasmhost", "story", "a.story", "a.wasm", "b"], Usage),
-    (
-        &["wasmhost", "story", "a.story", "a.wasm", "--pages=a"],
-        Usage,
-    ),
-    (
-        &["wasmhost", "story", "a.story", "a.wasm", "--fuel", "1"],
-        Usage,
-    ),
+    (&["wasmhost", "story", "a.story", "a.wasm", "--pages=a"], Usage),
+    (&["wasmhost", "story", "a.story", "a.wasm", "--fuel", "1"], Usage),
     (&["wasmhost", "story", "--help"], Done),
     (&["wasmhost", "--help"], Done),
 ];
@@ -121,97 +104,32 @@ enum Meant {
 /// Words, and what they say.
 type MeantRow = (&'static [&'static str], Meant);
 
+#[rattlefmt::skip]
 static MEANT: [MeantRow; 15] = [
-    (
-        &["wasmhost", "check", "/dev/null"],
-        Meant::Check("/dev/null"),
-    ),
+    (&["wasmhost", "check", "/dev/null"], Meant::Check("/dev/null")),
     (&["wasmhost", "show", "a.disk"], Meant::Show("a.disk")),
-    (
-        &["wasmhost", "create", "a.disk", "a.wasm"],
-        Meant::Create([16, 16, 256], &[], &[]),
-    ),
-    (
-        &[
-            "wasmhost",
-            "create",
-            "a.disk",
-            "a.wasm",
-            "--pages",
-            "1",
-            "--files=2",
-            "--journal",
-            "64",
-        ],
-        Meant::Create([1, 2, 64], &[], &[]),
-    ),
-    (
-        &[
-            "wasmhost", "create", "--env", "a=b", "a.disk", "--env", "c=", "a.wasm",
-        ],
-        Meant::Create([16, 16, 256], &["a=b", "c="], &[]),
-    ),
-    (
-        &[
-            "wasmhost", "create", "a.disk", "a.wasm", "--", "--pages", "--", "1",
-        ],
-        Meant::Create([16, 16, 256], &[], &["--pages", "--", "1"]),
-    ),
-    (
-        &["wasmhost", "run", "a.disk"],
-        Meant::Run([100_000, 100, 1], None, None, false),
-    ),
-    (
-        &["wasmhost", "run", "a.disk", "--fuel", "1", "--every=1"],
-        Meant::Run([1, 1, 1], None, None, false),
-    ),
-    (
-        &["wasmhost", "run", "--batch=64", "a.disk"],
-        Meant::Run([100_000, 100, 64], None, None, false),
-    ),
-    (
-        &["wasmhost", "run", "--seed", "0A", "--clock", "0", "a.disk"],
-        Meant::Run([100_000, 100, 1], Some("0A"), Some(0), false),
-    ),
-    (
-        &["wasmhost", "run", "--rewrite", "--", "a.disk"],
-        Meant::Run([100_000, 100, 1], None, None, true),
-    ),
-    (
-        &["wasmhost", "story", "a.story", "a.wasm"],
-        Meant::Story([1, 1, 64]),
-    ),
-    (
-        &[
-            "wasmhost",
-            "story",
-            "--pages",
-            "2",
-            "a.story",
-            "--files=3",
-            "a.wasm",
-            "--journal",
-            "65",
-        ],
-        Meant::Story([2, 3, 65]),
-    ),
-    (
-        &[
-            "wasmhost",
-            "story",
-            "a.story",
-            "a.wasm",
-            "--pages=18446744073709551615",
-            "--files=0",
-        ],
-        Meant::Story([u64::MAX, 0, 64]),
-    ),
-    (
-        &[
-            "wasmhost", "story", "--files", "2", "--", "a.story", "a.wasm",
-        ],
-        Meant::Story([1, 2, 64]),
-    ),
+    (&["wasmhost", "create", "a.disk", "a.wasm"], Meant::Create([16, 16, 256], &[], &[])),
+    (&["wasmhost", "create", "a.disk", "a.wasm", "--pages", "1", "--files=2", "--journal", "64"],
+        Meant::Create([1, 2, 64], &[], &[])),
+    (&["wasmhost", "create", "--env", "a=b", "a.disk", "--env", "c=", "a.wasm"],
+        Meant::Create([16, 16, 256], &["a=b", "c="], &[])),
+    (&["wasmhost", "create", "a.disk", "a.wasm", "--", "--pages", "--", "1"],
+        Meant::Create([16, 16, 256], &[], &["--pages", "--", "1"])),
+    (&["wasmhost", "run", "a.disk"], Meant::Run([100_000, 100, 1], None, None, false)),
+    (&["wasmhost", "run", "a.disk", "--fuel", "1", "--every=1"],
+        Meant::Run([1, 1, 1], None, None, false)),
+    (&["wasmhost", "run", "--batch=64", "a.disk"],
+        Meant::Run([100_000, 100, 64], None, None, false)),
+    (&["wasmhost", "run", "--seed", "0A", "--clock", "0", "a.disk"],
+        Meant::Run([100_000, 100, 1], Some("0A"), Some(0), false)),
+    (&["wasmhost", "run", "--rewrite", "--", "a.disk"],
+        Meant::Run([100_000, 100, 1], None, None, true)),
+    (&["wasmhost", "story", "a.story", "a.wasm"], Meant::Story([1, 1, 64])),
+    (&["wasmhost", "story", "--pages", "2", "a.story", "--files=3", "a.wasm", "--journal", "65"],
+        Meant::Story([2, 3, 65])),
+    (&["wasmhost", "story", "a.story", "a.wasm", "--pages=18446744073709551615", "--files=0"],
+        Meant::Story([u64::MAX, 0, 64])),
+    (&["wasmhost", "story", "--files", "2", "--", "a.story", "a.wasm"], Meant::Story([1, 2, 64])),
 ];
 
 fn is_creation(order: &CreateOrder<'_>, meant: &Meant) -> bool {

@@ -1,26 +1,14 @@
 //! Creations: what is found before a disk is made, and what is told and printed of one that is.
 
-use crate::asking::ECHO;
+use crate::asking::{Asked, ECHO, sizes_of};
 use crate::check::{BEFORE_CODE, HEADER, HELLO, bytes_of};
 use crate::lines::Flushed;
 use crate::rows::assert_row;
-use command_words::{Prepared, Printer, Sizes, Status, prepare, report_unprepared};
+use command_words::{Prepared, Printer, Status, prepare, report_unprepared};
 use disk_commands::create_on;
 use sector_disk::MemDisk;
 use std::alloc::Global;
 use std::test::Fail;
-
-/// Texts of a module, and pages, units of files and sectors of the journal of its worker.
-type Asked = (&'static [&'static str], [u64; 3]);
-
-fn sizes_of(numbers: [u64; 3]) -> Sizes {
-    let [pages, files, journal] = numbers;
-    Sizes {
-        pages,
-        files,
-        journal,
-    }
-}
 
 /// A creation with one argument and no environment, and how many sectors it needs.
 type Found = (Asked, u64);
@@ -52,35 +40,17 @@ const PAGES: &str = "failed C1 Range\n--pages is from 1 to 256\n";
 /// A creation that is refused, an entry of its environment, and what says why.
 type Refused = (Asked, &'static str, &'static str);
 
+#[rattlefmt::skip]
 static REFUSED: [Refused; 9] = [
     ((&[], [1, 1, 64]), "a=b", "failed B1 Malformed\n"),
     ((&[BEFORE_CODE], [1, 1, 64]), "a=b", "failed B1 Malformed\n"),
-    (
-        (&["0061736d01000000"], [1, 1, 64]),
-        "a=b",
-        "failed L1 NoStart\n",
-    ),
-    (
-        (&[HEADER, "010401608102"], [1, 1, 64]),
-        "a=b",
-        "failed B3 Limit\nmore than 256 parameters in one type, at byte 12\n",
-    ),
+    ((&["0061736d01000000"], [1, 1, 64]), "a=b", "failed L1 NoStart\n"),
+    ((&[HEADER, "010401608102"], [1, 1, 64]), "a=b",
+        "failed B3 Limit\nmore than 256 parameters in one type, at byte 12\n"),
     ((&ECHO, [0, 1, 64]), "a=b", PAGES),
-    (
-        (&ECHO, [1, 65, 64]),
-        "a=b",
-        "failed C1 Range\n--files is from 1 to 64\n",
-    ),
-    (
-        (&ECHO, [1, 1, 63]),
-        "a=b",
-        "failed C1 Range\n--journal is from 64 to 65536\n",
-    ),
-    (
-        (&ECHO, [1, 1, 64]),
-        "=b",
-        "failed C2 Text\nentry 1 of --env isn't NAME=VALUE\n",
-    ),
+    ((&ECHO, [1, 65, 64]), "a=b", "failed C1 Range\n--files is from 1 to 64\n"),
+    ((&ECHO, [1, 1, 63]), "a=b", "failed C1 Range\n--journal is from 64 to 65536\n"),
+    ((&ECHO, [1, 1, 64]), "=b", "failed C2 Text\nentry 1 of --env isn't NAME=VALUE\n"),
     ((&[], [0, 1, 64]), "a=b", PAGES),
 ];
 

@@ -37,16 +37,9 @@ fn reads_both_forms(rt: HostRuntime) -> Result<(), Fail> {
     Ok(())
 }
 
+#[rattlefmt::skip]
 static OTHER_FORMS: [&[u8]; 9] = [
-    b"",
-    b"e",
-    b"07 e",
-    b"+7 e",
-    b"0 e",
-    b"9223372036854775808 e",
-    b"7 r",
-    b"7 e ",
-    b"7  e",
+    b"", b"e", b"07 e", b"+7 e", b"0 e", b"9223372036854775808 e", b"7 r", b"7 e ", b"7  e",
 ];
 
 #[test]
@@ -90,15 +83,11 @@ impl Write for Flushed {
 }
 
 /// A line's number, stream and text, and all that is out after it.
+#[rattlefmt::skip]
 static RELEASED: [(u64, OutputStream, &[u8], &[u8]); 3] = [
     (1, OutputStream::Stdout, b"hi", b"1 o hi\n"),
     (2, OutputStream::Stderr, b"", b"1 o hi\n2 e \n"),
-    (
-        3,
-        OutputStream::Stdout,
-        b"\xff",
-        b"1 o hi\n2 e \n3 o \xff\n",
-    ),
+    (3, OutputStream::Stdout, b"\xff", b"1 o hi\n2 e \n3 o \xff\n"),
 ];
 
 /// Whether a release is answered well, puts this out, and is the write of its number.
@@ -428,9 +417,7 @@ fn draws_so(source: &mut Bare, length: u32, wanted: &[u8]) -> bool {
 }
 
 /// The first words of stream 1 of the seed of zeros, as they are published for ChaCha20.
-const WORDS: [u8; 16] = [
-    0xef, 0x3f, 0xdf, 0xd6, 0xc6, 0x15, 0x78, 0xfb, 0xf5, 0xcf, 0x35, 0xbd, 0x3d, 0xd3, 0x3b, 0x80,
-];
+const WORDS: [u8; 16] = *b"\xef\x3f\xdf\xd6\xc6\x15\x78\xfb\xf5\xcf\x35\xbd\x3d\xd3\x3b\x80";
 
 /// A word is four bytes, of which a question drops those that it doesn't want.
 #[test]
@@ -438,11 +425,8 @@ fn draws_word_after_word(rt: HostRuntime) -> Result<(), Fail> {
     let mut source = source_over(rt.alloc(), b"".as_slice(), 0);
     for (length, at) in [(5, 0), (0, 8), (4, 8), (1, 12)] {
         let end = at + length as usize;
-        assert_row(
-            &rt,
-            draws_so(&mut source, length, &WORDS[at..end]),
-            &(length, at),
-        );
+        let is_so = draws_so(&mut source, length, &WORDS[at..end]);
+        assert_row(&rt, is_so, &(length, at));
     }
     drop(source);
     Ok(())

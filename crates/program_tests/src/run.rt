@@ -34,56 +34,27 @@ const FAR_LOAD: [&str; 2] = [BEFORE_CODE, "0a0a010800 417f2802011a 0b"];
 const ENDLESS: [&str; 2] = [BEFORE_CODE, "0a0601040010000b"];
 
 /// Its last words, with 32 of its frames.
-const ENDLESS_WORDS: &str = "trapped stack exhausted
-at function 0, opcode 0
-at function 0, opcode 0
-at function 0, opcode 0
-at function 0, opcode 0
-at function 0, opcode 0
-at function 0, opcode 0
-at function 0, opcode 0
-at function 0, opcode 0
-at function 0, opcode 0
-at function 0, opcode 0
-at function 0, opcode 0
-at function 0, opcode 0
-at function 0, opcode 0
-at function 0, opcode 0
-at function 0, opcode 0
-at function 0, opcode 0
-at function 0, opcode 0
-at function 0, opcode 0
-at function 0, opcode 0
-at function 0, opcode 0
-at function 0, opcode 0
-at function 0, opcode 0
-at function 0, opcode 0
-at function 0, opcode 0
-at function 0, opcode 0
-at function 0, opcode 0
-at function 0, opcode 0
-at function 0, opcode 0
-at function 0, opcode 0
-at function 0, opcode 0
-at function 0, opcode 0
-at function 0, opcode 0
-and 480 more frames
-";
+const ENDLESS_WORDS: &str = "trapped stack exhausted\n\
+    at function 0, opcode 0\nat function 0, opcode 0\nat function 0, opcode 0\n\
+    at function 0, opcode 0\nat function 0, opcode 0\nat function 0, opcode 0\n\
+    at function 0, opcode 0\nat function 0, opcode 0\nat function 0, opcode 0\n\
+    at function 0, opcode 0\nat function 0, opcode 0\nat function 0, opcode 0\n\
+    at function 0, opcode 0\nat function 0, opcode 0\nat function 0, opcode 0\n\
+    at function 0, opcode 0\nat function 0, opcode 0\nat function 0, opcode 0\n\
+    at function 0, opcode 0\nat function 0, opcode 0\nat function 0, opcode 0\n\
+    at function 0, opcode 0\nat function 0, opcode 0\nat function 0, opcode 0\n\
+    at function 0, opcode 0\nat function 0, opcode 0\nat function 0, opcode 0\n\
+    at function 0, opcode 0\nat function 0, opcode 0\nat function 0, opcode 0\n\
+    at function 0, opcode 0\nat function 0, opcode 0\n\
+    and 480 more frames\n";
 
 /// All of `hello`.
-pub(crate) const HELLO_BYTES: [u8; 168] = [
-    0x00, 0x61, 0x73, 0x6d, 0x01, 0x00, 0x00, 0x00, 0x01, 0x10, 0x03, 0x60, 0x00, 0x00, 0x60, 0x04,
-    0x7f, 0x7f, 0x7f, 0x7f, 0x01, 0x7f, 0x60, 0x01, 0x7f, 0x00, 0x02, 0x46, 0x02, 0x16, 0x77, 0x61,
-    0x73, 0x69, 0x5f, 0x73, 0x6e, 0x61, 0x70, 0x73, 0x68, 0x6f, 0x74, 0x5f, 0x70, 0x72, 0x65, 0x76,
-    0x69, 0x65, 0x77, 0x31, 0x08, 0x66, 0x64, 0x5f, 0x77, 0x72, 0x69, 0x74, 0x65, 0x00, 0x01, 0x16,
-    0x77, 0x61, 0x73, 0x69, 0x5f, 0x73, 0x6e, 0x61, 0x70, 0x73, 0x68, 0x6f, 0x74, 0x5f, 0x70, 0x72,
-    0x65, 0x76, 0x69, 0x65, 0x77, 0x31, 0x09, 0x70, 0x72, 0x6f, 0x63, 0x5f, 0x65, 0x78, 0x69, 0x74,
-    0x00, 0x02, 0x03, 0x02, 0x01, 0x00, 0x05, 0x03, 0x01, 0x00, 0x01, 0x07, 0x13, 0x02, 0x06, 0x5f,
-    0x73, 0x74, 0x61, 0x72, 0x74, 0x00, 0x02, 0x06, 0x6d, 0x65, 0x6d, 0x6f, 0x72, 0x79, 0x02, 0x00,
-    0x0a, 0x13, 0x01, 0x11, 0x00, 0x41, 0x01, 0x41, 0x00, 0x41, 0x01, 0x41, 0x10, 0x10, 0x00, 0x1a,
-    0x41, 0x07, 0x10, 0x01, 0x0b, 0x0b, 0x11, 0x01, 0x00, 0x41, 0x00, 0x0b, 0x0b, 0x08, 0x00, 0x00,
-    0x00, 0x03, 0x00, 0x00, 0x00, 0x68, 0x69, 0x0a,
-];
+pub(crate) const HELLO_BYTES: [u8; 168] =
+    *b"\0asm\x01\0\0\0\x01\x10\x03\x60\0\0\x60\x04\x7f\x7f\x7f\x7f\x01\x7f\x60\x01\x7f\0\x02\x46\
+    \x02\x16wasi_snapshot_preview1\x08fd_write\0\x01\x16wasi_snapshot_preview1\x09proc_exit\0\x02\
+    \x03\x02\x01\0\x05\x03\x01\0\x01\x07\x13\x02\x06_start\0\x02\x06memory\x02\0\x0a\x13\x01\x11\0\
+    \x41\x01\x41\0\x41\x01\x41\x10\x10\0\x1a\x41\x07\x10\x01\x0b\x0b\x11\x01\0\x41\0\x0b\x0b\x08\0\
+    \0\0\x03\0\0\0hi\n";
 
 /// How a command ends that isn't done.
 #[derive(Debug, Drop)]
@@ -125,32 +96,16 @@ type Case = (
     Status,
 );
 
+#[rattlefmt::skip]
 static PRINTED: [Case; 8] = [
     (&HELLO, 100_000, "1 o hi\n", "exited 7\n", Status::Done),
     (&HELLO, 1, "1 o hi\n", "exited 7\n", Status::Done),
     (&EMPTY, 1, "", "exited 0\n", Status::Done),
-    (
-        &UNREACHABLE,
-        100,
-        "",
-        "trapped unreachable\nat function 0, opcode 0\n",
-        Status::Done,
-    ),
-    (
-        &QUOTIENT,
-        2,
-        "",
-        "trapped integer overflow\nat function 0, opcode 2\n",
-        Status::Done,
-    ),
+    (&UNREACHABLE, 100, "", "trapped unreachable\nat function 0, opcode 0\n", Status::Done),
+    (&QUOTIENT, 2, "", "trapped integer overflow\nat function 0, opcode 2\n", Status::Done),
     (&REMAINDER, 100, "", "exited 0\n", Status::Done),
-    (
-        &FAR_LOAD,
-        100,
-        "",
-        "trapped out of bounds memory access\nat function 0, opcode 1\n",
-        Status::Done,
-    ),
+    (&FAR_LOAD, 100, "", "trapped out of bounds memory access\nat function 0, opcode 1\n",
+        Status::Done),
     (&ENDLESS, 100, "", ENDLESS_WORDS, Status::Done),
 ];
 
@@ -300,16 +255,11 @@ fn status_in(
 }
 
 /// What is said where memory is wanted: by a call, by a story, and by each layer of a recovery.
+#[rattlefmt::skip]
 static WANTS: [&[u8]; 10] = [
-    b"failed N4 Memory\n\0",
-    b"failed G1 Memory\n\0",
-    b"failed Y5 Memory\n\0",
-    b"failed B4 Memory\n\0",
-    b"failed V5 Memory\n\0",
-    b"failed L7 Memory\n\0",
-    b"failed S4 Memory\n\0",
-    b"failed I2 Memory\n\0",
-    b"failed J4 Memory\n\0",
+    b"failed N4 Memory\n\0", b"failed G1 Memory\n\0", b"failed Y5 Memory\n\0",
+    b"failed B4 Memory\n\0", b"failed V5 Memory\n\0", b"failed L7 Memory\n\0",
+    b"failed S4 Memory\n\0", b"failed I2 Memory\n\0", b"failed J4 Memory\n\0",
     b"failed Q2 Memory\n\0",
 ];
 

@@ -105,16 +105,11 @@ fn a_worker_runs_on_untold(rt: HostRuntime) -> Result<(), Fail> {
 type Run = (u64, &'static [u8], &'static [u8], &'static str, Status);
 
 /// A line that was taken is dropped by its number. One that is ahead of its number ends the run.
+#[rattlefmt::skip]
 static ON_ONE_DISK: [Run; 3] = [
     (1, b"1 r a\n", b"1 o a\n", "parked\n", Status::Done),
     (1, b"1 r a\n2 r b\n", b"2 o b\n", "parked\n", Status::Done),
-    (
-        64,
-        b"2 r b\n3 r c\n4 r d\n",
-        b"3 o c\n4 o d\n",
-        "parked\n",
-        Status::Done,
-    ),
+    (64, b"2 r b\n3 r c\n4 r d\n", b"3 o c\n4 o d\n", "parked\n", Status::Done),
 ];
 
 static AHEAD: Run = (

@@ -61,13 +61,8 @@ pub(crate) fn create<D: Disk>(alloc: Global, disk: &mut D, texts: &[&str]) -> Re
 }
 
 /// How far `echo` comes on its disk: so many steps on one request, saved then or not, and whether a
-/// second life is opened. Then what is shown.
-struct Course {
-    fuel: u64,
-    is_saved: bool,
-    is_recovered: bool,
-    shown: Shown,
-}
+/// second life is opened. Then what is shown on the output.
+type Course = (u64, bool, bool, &'static str);
 
 /// Runs one slice on one request, and saves the process where that is wanted.
 fn run<D: Disk>(
@@ -80,8 +75,8 @@ fn run<D: Disk>(
     answers.push(hello(alloc)?)?;
     let mut source = AnswerList::new(answers);
     let mut told = LineList::new(alloc);
-    match worker.slice(disk, course.fuel, &mut source, &mut told) {
-        Ok(_now) => save(worker, disk, &mut told, course.is_saved),
+    match worker.slice(disk, course.0, &mut source, &mut told) {
+        Ok(_now) => save(worker, disk, &mut told, course.1),
         Err(fault) => Err(Fail::from(fault)),
     }
 }
@@ -149,8 +144,13 @@ pub(crate) fn after_one_slice(alloc: Global) -> Result<MemDisk, Fail> {
 /// Whether that is shown of the disk then, and the same once more.
 fn lives_so(alloc: Global, disk: &mut MemDisk, course: &Course) -> Result<bool, Fail> {
     live(alloc, disk, course)?;
-    open_again(alloc, disk, course.is_recovered)?;
-    Ok(shows(alloc, disk, &course.shown) && shows(alloc, disk, &course.shown))
+    open_again(alloc, disk, course.2)?;
+    let shown = Shown {
+        out: course.3,
+        err: "",
+        status: Status::Done,
+    };
+    Ok(shows(alloc, disk, &shown) && shows(alloc, disk, &shown))
 }
 
 /// The same of a disk of zeros.
@@ -163,116 +163,42 @@ fn is_shown(alloc: Global, course: &Course) -> Result<bool, Fail> {
 
 /// The request is taken in step 6, and its line is told in step 20. A record is after the snapshot
 /// until the next one is taken.
+#[rattlefmt::skip]
 static COURSES: [Course; 5] = [
-    Course {
-        fuel: 0,
-        is_saved: false,
-        is_recovered: false,
-        shown: Shown {
-            out: "generation 1 steps 0 answers 0 lines 0 records 0 version 1\n",
-            err: "",
-            status: Status::Done,
-        },
-    },
-    Course {
-        fuel: 20,
-        is_saved: false,
-        is_recovered: false,
-        shown: Shown {
-            out: "generation 1 steps 0 answers 0 lines 0 records 1 version 1\n",
-            err: "",
-            status: Status::Done,
-        },
-    },
-    Course {
-        fuel: 20,
-        is_saved: false,
-        is_recovered: true,
-        shown: Shown {
-            out: "generation 2 steps 6 answers 1 lines 0 records 0 version 1\n",
-            err: "",
-            status: Status::Done,
-        },
-    },
-    Course {
-        fuel: 20,
-        is_saved: true,
-        is_recovered: false,
-        shown: Shown {
-            out: "generation 2 steps 20 answers 1 lines 1 records 0 version 1\n",
-            err: "",
-            status: Status::Done,
-        },
-    },
-    Course {
-        fuel: 20,
-        is_saved: true,
-        is_recovered: true,
-        shown: Shown {
-            out: "generation 3 steps 20 answers 1 lines 1 records 0 version 1\n",
-            err: "",
-            status: Status::Done,
-        },
-    },
+    (0, false, false, "generation 1 steps 0 answers 0 lines 0 records 0 version 1\n"),
+    (20, false, false, "generation 1 steps 0 answers 0 lines 0 records 1 version 1\n"),
+    (20, false, true, "generation 2 steps 6 answers 1 lines 0 records 0 version 1\n"),
+    (20, true, false, "generation 2 steps 20 answers 1 lines 1 records 0 version 1\n"),
+    (20, true, true, "generation 3 steps 20 answers 1 lines 1 records 0 version 1\n"),
 ];
 
 #[test]
 fn the_saved_process_is_shown(rt: HostRuntime) -> Result<(), Fail> {
     for course in &COURSES {
-        assert_row(&rt, is_shown(rt.alloc(), course)?, &course.shown.out);
+        assert_row(&rt, is_shown(rt.alloc(), course)?, &course.3);
     }
     Ok(())
 }
 
-/// What is shown of a disk of zeros, which stops or fails at a call.
-struct Trouble {
-    stop: Option<FaultPoint>,
-    fail: Option<FaultPoint>,
-    shown: Shown,
-}
+/// Where a disk of zeros stops or fails, what is shown of it on the error output, and the status.
+type Trouble = (Option<FaultPoint>, Option<FaultPoint>, &'static str, Status);
 
+#[rattlefmt::skip]
 static TROUBLES: [Trouble; 4] = [
-    Trouble {
-        stop: None,
-        fail: None,
-        shown: Shown {
-            out: "",
-            err: "failed Y1 NotAWorker\n",
-            status: Status::Refused,
-        },
-    },
-    Trouble {
-        stop: None,
-        fail: Some(FaultPoint { call: 1, front: 0 }),
-        shown: Shown {
-            out: "",
-            err: "failed K2 Io\n",
-            status: Status::IoError,
-        },
-    },
-    Trouble {
-        stop: Some(FaultPoint { call: 1, front: 0 }),
-        fail: None,
-        shown: Shown {
-            out: "",
-            err: "failed K3 Cut\n",
-            status: Status::IoError,
-        },
-    },
-    Trouble {
-        stop: Some(FaultPoint { call: 2, front: 0 }),
-        fail: None,
-        shown: Shown {
-            out: "",
-            err: "failed K3 Cut\n",
-            status: Status::IoError,
-        },
-    },
+    (None, None, "failed Y1 NotAWorker\n", Status::Refused),
+    (None, Some(FaultPoint { call: 1, front: 0 }), "failed K2 Io\n", Status::IoError),
+    (Some(FaultPoint { call: 1, front: 0 }), None, "failed K3 Cut\n", Status::IoError),
+    (Some(FaultPoint { call: 2, front: 0 }), None, "failed K3 Cut\n", Status::IoError),
 ];
 
 fn is_told(alloc: Global, trouble: &Trouble) -> Result<bool, Fail> {
-    let mut disk = FaultDisk::new(blank_disk(alloc)?, trouble.stop, trouble.fail);
-    let is_so = shows(alloc, &mut disk, &trouble.shown);
+    let mut disk = FaultDisk::new(blank_disk(alloc)?, trouble.0, trouble.1);
+    let shown = Shown {
+        out: "",
+        err: trouble.2,
+        status: trouble.3,
+    };
+    let is_so = shows(alloc, &mut disk, &shown);
     drop(disk);
     Ok(is_so)
 }
@@ -280,7 +206,7 @@ fn is_told(alloc: Global, trouble: &Trouble) -> Result<bool, Fail> {
 #[test]
 fn a_disk_without_a_worker_is_refused(rt: HostRuntime) -> Result<(), Fail> {
     for trouble in &TROUBLES {
-        assert_row(&rt, is_told(rt.alloc(), trouble)?, &trouble.shown.err);
+        assert_row(&rt, is_told(rt.alloc(), trouble)?, &trouble.2);
     }
     Ok(())
 }

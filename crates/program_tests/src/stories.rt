@@ -1,16 +1,13 @@
 //! Stories of a worker: scripts of its lives, and what is printed of them.
 
-use crate::asking::ECHO;
+use crate::asking::{Asked, ECHO, sizes_of};
 use crate::check::bytes_of;
 use crate::rows::assert_row;
 use crate::run::{HELLO_BYTES, Refused, refused_by};
-use command_words::{Printer, Sizes, Status};
+use command_words::{Printer, Status};
 use std::alloc::Global;
 use std::test::Fail;
 use story_commands::{ScriptFault, read_script, tell};
-
-/// Texts of a module, and pages, units of files and sectors of the journal of its worker.
-type Asked = (&'static [&'static str], [u64; 3]);
 
 /// A worker of `echo` of the least sizes.
 const SMALL_ECHO: Asked = (&ECHO, [1, 1, 64]);
@@ -23,100 +20,45 @@ type Told = (Asked, &'static str, Status, &'static str, &'static str);
 ///
 /// The images are those of a fresh worker, of one that has taken `hello` in its sixth step, and of
 /// one that has then taken `world`, 22 steps later.
+#[rattlefmt::skip]
 static TOLD: [Told; 11] = [
     (SMALL_ECHO, "", Status::Done, "", ""),
-    (
-        SMALL_ECHO,
-        "life\nrequest hello\nslice 20\nlife\n",
+    (SMALL_ECHO, "life\nrequest hello\nslice 20\nlife\n", Status::Done,
+        "life 1 created\n1 o hello\n\
+         life 2 recovered generation 2 steps 6 answers 1 lines 0 image \
+         5cbdfc1d641493c2a7bb501dacac8c5c45cedec86d2557d8f1f96db1ea6e7cfe\n", ""),
+    (SMALL_ECHO, "life\nrequest hello\nslice 20\nstop 207 504\nlife\nrequest world\nslice 20\n",
         Status::Done,
         "life 1 created\n\
-         1 o hello\n\
-         life 2 recovered generation 2 steps 6 answers 1 lines 0 \
-         image 5cbdfc1d641493c2a7bb501dacac8c5c45cedec86d2557d8f1f96db1ea6e7cfe\n",
-        "",
-    ),
-    (
-        SMALL_ECHO,
-        "life\nrequest hello\nslice 20\nstop 207 504\nlife\nrequest world\nslice 20\n",
-        Status::Done,
+         life 2 recovered generation 2 steps 0 answers 0 lines 0 image \
+         5ad2a2bb20898655431222989de2ca89ed0824085c16667851cce4f749d8d791\n1 o world\n", ""),
+    (SMALL_ECHO, "life\nrequest hello\nslice 20\nstop 207 505\nlife\nslice 0\n", Status::Done,
         "life 1 created\n\
-         life 2 recovered generation 2 steps 0 answers 0 lines 0 \
-         image 5ad2a2bb20898655431222989de2ca89ed0824085c16667851cce4f749d8d791\n\
-         1 o world\n",
-        "",
-    ),
-    (
-        SMALL_ECHO,
-        "life\nrequest hello\nslice 20\nstop 207 505\nlife\nslice 0\n",
-        Status::Done,
-        "life 1 created\n\
-         life 2 recovered generation 2 steps 6 answers 1 lines 0 \
-         image 5cbdfc1d641493c2a7bb501dacac8c5c45cedec86d2557d8f1f96db1ea6e7cfe\n",
-        "",
-    ),
+         life 2 recovered generation 2 steps 6 answers 1 lines 0 image \
+         5cbdfc1d641493c2a7bb501dacac8c5c45cedec86d2557d8f1f96db1ea6e7cfe\n", ""),
     // Both lines of the batch wait for its one write, which has both records. It is cut there.
-    (
-        SMALL_ECHO,
-        "life\nrequest hello\nrequest world\nbatch 42 2\nstop 207 505\nlife\nslice 14\n",
+    (SMALL_ECHO, "life\nrequest hello\nrequest world\nbatch 42 2\nstop 207 505\nlife\nslice 14\n",
         Status::Done,
         "life 1 created\n\
-         life 2 recovered generation 2 steps 28 answers 2 lines 1 \
-         image 136aea21c9c078ca7f11615e57a0a23628c604665dc23a2a64c0957aa7fdfd12\n\
-         1 o hello\n\
-         2 o world\n",
-        "",
-    ),
-    (
-        SMALL_ECHO,
-        "life\nslice 20\nrequest hello\nlife\nslice 14",
-        Status::Done,
-        "life 1 created\n\
-         1 o hello\n\
-         life 2 recovered generation 2 steps 6 answers 1 lines 0 \
-         image 5cbdfc1d641493c2a7bb501dacac8c5c45cedec86d2557d8f1f96db1ea6e7cfe\n\
-         1 o hello\n",
-        "",
-    ),
-    (
-        SMALL_ECHO,
-        "life\nstop 1 0\nlife\n",
-        Status::Done,
-        "life 1 not opened\nlife 2 created\n",
-        "",
-    ),
-    (
-        SMALL_ECHO,
-        "life\nslice 20\nhello\n",
-        Status::Usage,
-        "",
-        "failed script line 3\n",
-    ),
-    (
-        (&[], [0, 1, 64]),
-        "slice 20\nlife\n",
-        Status::Usage,
-        "",
-        "failed script line 1\n",
-    ),
-    (
-        (&[], [0, 1, 64]),
-        "life\n",
-        Status::Refused,
-        "",
-        "failed C1 Range\n--pages is from 1 to 256\n",
-    ),
-    (
-        (&[], [1, 1, 64]),
-        "life\n",
-        Status::Refused,
-        "",
-        "failed B1 Malformed\n",
-    ),
+         life 2 recovered generation 2 steps 28 answers 2 lines 1 image \
+         136aea21c9c078ca7f11615e57a0a23628c604665dc23a2a64c0957aa7fdfd12\n1 o hello\n2 o world\n",
+        ""),
+    (SMALL_ECHO, "life\nslice 20\nrequest hello\nlife\nslice 14", Status::Done,
+        "life 1 created\n1 o hello\n\
+         life 2 recovered generation 2 steps 6 answers 1 lines 0 image \
+         5cbdfc1d641493c2a7bb501dacac8c5c45cedec86d2557d8f1f96db1ea6e7cfe\n1 o hello\n", ""),
+    (SMALL_ECHO, "life\nstop 1 0\nlife\n", Status::Done, "life 1 not opened\nlife 2 created\n", ""),
+    (SMALL_ECHO, "life\nslice 20\nhello\n", Status::Usage, "", "failed script line 3\n"),
+    ((&[], [0, 1, 64]), "slice 20\nlife\n", Status::Usage, "", "failed script line 1\n"),
+    ((&[], [0, 1, 64]), "life\n", Status::Refused, "",
+        "failed C1 Range\n--pages is from 1 to 256\n"),
+    ((&[], [1, 1, 64]), "life\n", Status::Refused, "", "failed B1 Malformed\n"),
 ];
 
 /// A script, and its first faulty line if there is one.
 type Read = (&'static str, Option<u64>);
 
+#[rattlefmt::skip]
 static READ: [Read; 43] = [
     ("life\nfail 1 512\nrefuse 1\n", None),
     ("life\nfail 0 0\n", Some(2)),
@@ -127,10 +69,7 @@ static READ: [Read; 43] = [
     ("life\nlife\n", None),
     ("life\nrequest \nend\nrealtime 0\nmonotonic 007\n", None),
     ("life\nrandom\nrandom \nrandom 00aF\ncheckpoint\n", None),
-    (
-        "life\ntears 0 512\nstop 1 512\nlife\nstop 9 0\ntears 1\n",
-        None,
-    ),
+    ("life\ntears 0 512\nstop 1 512\nlife\nstop 9 0\ntears 1\n", None),
     ("life\nslice 18446744073709551615\n", None),
     ("life\nslice 18446744073709551616\n", Some(2)),
     ("life\nslice\n", Some(2)),
@@ -139,10 +78,7 @@ static READ: [Read; 43] = [
     ("life\nslice 1 \n", Some(2)),
     ("life\nslice +1\n", Some(2)),
     ("life\nbatch 0 1\n", None),
-    (
-        "life\nbatch 18446744073709551615 18446744073709551615\n",
-        None,
-    ),
+    ("life\nbatch 18446744073709551615 18446744073709551615\n", None),
     ("life\nbatch 1 0\n", Some(2)),
     ("life\nbatch 1\n", Some(2)),
     ("life\nbatch 1 \n", Some(2)),
@@ -174,15 +110,6 @@ fn is_read_so(alloc: Global, row: &Read) -> bool {
         Ok(_) => row.1.is_none(),
         Err(ScriptFault::Line { number }) => row.1 == Some(number),
         Err(ScriptFault::Memory) => false,
-    }
-}
-
-fn sizes_of(numbers: [u64; 3]) -> Sizes {
-    let [pages, files, journal] = numbers;
-    Sizes {
-        pages,
-        files,
-        journal,
     }
 }
 

@@ -2,7 +2,7 @@
 
 use crate::decoding::Wanted::{Accepted, Past};
 use crate::rows::{assert_number, assert_row};
-use crate::spelled::{Refused, append, spell};
+use crate::spelled::{HEADER, Refused, append, spell};
 use std::alloc::Global;
 use wasm_decode::DecodeFault::{self, Float, Malformed};
 use wasm_decode::ModuleLimit::{
@@ -10,8 +10,6 @@ use wasm_decode::ModuleLimit::{
 };
 use wasm_decode::{PassedLimit, decode};
 use wasm_syntax::{Instruction, Module, Value};
-
-const HEADER: &str = "0061736d01000000";
 
 /// The header, a type from nothing to nothing, and a function of that type: 18 bytes.
 const ONE_FUNCTION: &str = "0061736d01000000 010401600000 03020100";
@@ -39,6 +37,7 @@ const HELLO: &str = "0061736d01000000 01100360000060047f7f7f7f017f60017f00 \
 /// Two texts, and the fault of the bytes that they spell together.
 type Told = (&'static str, &'static str, Option<DecodeFault>);
 
+#[rattlefmt::skip]
 static TOLD: [Told; 109] = [
     // whole modules
     ("", "", Some(Malformed(0))),
@@ -83,60 +82,20 @@ static TOLD: [Told; 109] = [
     (BEFORE_CODE, "0a05010300c50b", Some(Malformed(49))),
     // after the prefix: numbers in more bytes, unknown ones, six bytes, and other bytes than zeros
     (BEFORE_CODE, "0a10010e00 410041004100 fc8a80000000 0b", None),
-    (
-        BEFORE_CODE,
-        "0a11010f00 410041004100 fc8b8080800000 0b",
-        None,
-    ),
-    (
-        BEFORE_CODE,
-        "0a0e010c00 410041004100 fc080000 0b",
-        Some(Malformed(56)),
-    ),
-    (
-        BEFORE_CODE,
-        "0a0d010b00 410041004100 fc0c00 0b",
-        Some(Malformed(56)),
-    ),
-    (
-        BEFORE_CODE,
-        "0a0e010c00 410041004100 fc8a0100 0b",
-        Some(Malformed(56)),
-    ),
-    (
-        BEFORE_CODE,
-        "0a13011100 410041004100 fc8a80808080000000 0b",
-        Some(Malformed(56)),
-    ),
-    (
-        BEFORE_CODE,
-        "0a0e010c00 410041004100 fc0a0100 0b",
-        Some(Malformed(57)),
-    ),
-    (
-        BEFORE_CODE,
-        "0a0e010c00 410041004100 fc0a0001 0b",
-        Some(Malformed(58)),
-    ),
-    (
-        BEFORE_CODE,
-        "0a0d010b00 410041004100 fc0b01 0b",
-        Some(Malformed(57)),
-    ),
+    (BEFORE_CODE, "0a11010f00 410041004100 fc8b8080800000 0b", None),
+    (BEFORE_CODE, "0a0e010c00 410041004100 fc080000 0b", Some(Malformed(56))),
+    (BEFORE_CODE, "0a0d010b00 410041004100 fc0c00 0b", Some(Malformed(56))),
+    (BEFORE_CODE, "0a0e010c00 410041004100 fc8a0100 0b", Some(Malformed(56))),
+    (BEFORE_CODE, "0a13011100 410041004100 fc8a80808080000000 0b", Some(Malformed(56))),
+    (BEFORE_CODE, "0a0e010c00 410041004100 fc0a0100 0b", Some(Malformed(57))),
+    (BEFORE_CODE, "0a0e010c00 410041004100 fc0a0001 0b", Some(Malformed(58))),
+    (BEFORE_CODE, "0a0d010b00 410041004100 fc0b01 0b", Some(Malformed(57))),
     (BEFORE_CODE, "0a0401 0200fc", Some(Malformed(50))),
     // a count of data segments, which came later
     (BEFORE_CODE, "0c0100 0a040102000b", Some(Malformed(44))),
     // constants of more bits than their type has
-    (
-        BEFORE_CODE,
-        "0a0b0109 00 418080808008 1a0b",
-        Some(Malformed(50)),
-    ),
-    (
-        BEFORE_CODE,
-        "0a10010e 00 4280808080808080808001 1a0b",
-        Some(Malformed(50)),
-    ),
+    (BEFORE_CODE, "0a0b0109 00 418080808008 1a0b", Some(Malformed(50))),
+    (BEFORE_CODE, "0a10010e 00 4280808080808080808001 1a0b", Some(Malformed(50))),
     // the size of an entry: beyond the section, and one byte too many in it
     (BEFORE_CODE, "0a040103000b", Some(Malformed(47))),
     (BEFORE_CODE, "0a05010300 0b01", Some(Malformed(50))),
@@ -184,11 +143,7 @@ static TOLD: [Told; 109] = [
     (HEADER, "0805 8080808010", Some(Malformed(10))),
     (HEADER, "0906 01 8080808010", Some(Malformed(11))),
     (HEADER, "0904 01 00 ff0b", Some(Malformed(12))),
-    (
-        HEADER,
-        "090b 01 00 41000b 01 8080808010",
-        Some(Malformed(16)),
-    ),
+    (HEADER, "090b 01 00 41000b 01 8080808010", Some(Malformed(16))),
     (HEADER, "0b06 01 8080808010", Some(Malformed(11))),
     (HEADER, "0b06 01 00 41000b 05", Some(Malformed(15))),
     // each item of an instruction, and of its locals: how many runs, and their type
@@ -196,85 +151,25 @@ static TOLD: [Told; 109] = [
     (BEFORE_CODE, "0a06 01 04 01 0170 0b", Some(Malformed(50))),
     // the type of a block, labels, and those of a table
     (BEFORE_CODE, "0a07 01 05 00 02700b0b", Some(Malformed(50))),
-    (
-        BEFORE_CODE,
-        "0a0a 01 08 00 0c 8080808010 0b",
-        Some(Malformed(50)),
-    ),
-    (
-        BEFORE_CODE,
-        "0a0a 01 08 00 0d 8080808010 0b",
-        Some(Malformed(50)),
-    ),
-    (
-        BEFORE_CODE,
-        "0a0c 01 0a 00 0e01 8080808010 00 0b",
-        Some(Malformed(51)),
-    ),
-    (
-        BEFORE_CODE,
-        "0a0b 01 09 00 0e00 8080808010 0b",
-        Some(Malformed(51)),
-    ),
+    (BEFORE_CODE, "0a0a 01 08 00 0c 8080808010 0b", Some(Malformed(50))),
+    (BEFORE_CODE, "0a0a 01 08 00 0d 8080808010 0b", Some(Malformed(50))),
+    (BEFORE_CODE, "0a0c 01 0a 00 0e01 8080808010 00 0b", Some(Malformed(51))),
+    (BEFORE_CODE, "0a0b 01 09 00 0e00 8080808010 0b", Some(Malformed(51))),
     // calls, and the byte after an indirect one
-    (
-        BEFORE_CODE,
-        "0a0a 01 08 00 10 8080808010 0b",
-        Some(Malformed(50)),
-    ),
-    (
-        BEFORE_CODE,
-        "0a0b 01 09 00 11 8080808010 00 0b",
-        Some(Malformed(50)),
-    ),
+    (BEFORE_CODE, "0a0a 01 08 00 10 8080808010 0b", Some(Malformed(50))),
+    (BEFORE_CODE, "0a0b 01 09 00 11 8080808010 00 0b", Some(Malformed(50))),
     (BEFORE_CODE, "0a07 01 05 00 110001 0b", Some(Malformed(51))),
     // locals and globals
-    (
-        BEFORE_CODE,
-        "0a0a 01 08 00 20 8080808010 0b",
-        Some(Malformed(50)),
-    ),
-    (
-        BEFORE_CODE,
-        "0a0a 01 08 00 21 8080808010 0b",
-        Some(Malformed(50)),
-    ),
-    (
-        BEFORE_CODE,
-        "0a0a 01 08 00 22 8080808010 0b",
-        Some(Malformed(50)),
-    ),
-    (
-        BEFORE_CODE,
-        "0a0a 01 08 00 23 8080808010 0b",
-        Some(Malformed(50)),
-    ),
-    (
-        BEFORE_CODE,
-        "0a0a 01 08 00 24 8080808010 0b",
-        Some(Malformed(50)),
-    ),
+    (BEFORE_CODE, "0a0a 01 08 00 20 8080808010 0b", Some(Malformed(50))),
+    (BEFORE_CODE, "0a0a 01 08 00 21 8080808010 0b", Some(Malformed(50))),
+    (BEFORE_CODE, "0a0a 01 08 00 22 8080808010 0b", Some(Malformed(50))),
+    (BEFORE_CODE, "0a0a 01 08 00 23 8080808010 0b", Some(Malformed(50))),
+    (BEFORE_CODE, "0a0a 01 08 00 24 8080808010 0b", Some(Malformed(50))),
     // memory: alignment, offset, and the byte after its size
-    (
-        BEFORE_CODE,
-        "0a0b 01 09 00 28 8080808010 00 0b",
-        Some(Malformed(50)),
-    ),
-    (
-        BEFORE_CODE,
-        "0a0b 01 09 00 28 00 8080808010 0b",
-        Some(Malformed(51)),
-    ),
-    (
-        BEFORE_CODE,
-        "0a0b 01 09 00 36 8080808010 00 0b",
-        Some(Malformed(50)),
-    ),
-    (
-        BEFORE_CODE,
-        "0a0b 01 09 00 36 00 8080808010 0b",
-        Some(Malformed(51)),
-    ),
+    (BEFORE_CODE, "0a0b 01 09 00 28 8080808010 00 0b", Some(Malformed(50))),
+    (BEFORE_CODE, "0a0b 01 09 00 28 00 8080808010 0b", Some(Malformed(51))),
+    (BEFORE_CODE, "0a0b 01 09 00 36 8080808010 00 0b", Some(Malformed(50))),
+    (BEFORE_CODE, "0a0b 01 09 00 36 00 8080808010 0b", Some(Malformed(51))),
     (BEFORE_CODE, "0a06 01 04 00 3f01 0b", Some(Malformed(50))),
     (BEFORE_CODE, "0a06 01 04 00 4001 0b", Some(Malformed(50))),
 ];
@@ -299,206 +194,47 @@ type Long = (
     Wanted,
 );
 
+#[rattlefmt::skip]
 static LONG: [Long; 28] = [
     // parameters of a type
     (HEADER, "018502 01 60 8002", "7f", 256, "00", "", Accepted),
-    (
-        HEADER,
-        "0104 01 60 8102",
-        "",
-        0,
-        "",
-        "",
-        Past(Parameters, 12),
-    ),
+    (HEADER, "0104 01 60 8102", "", 0, "", "", Past(Parameters, 12)),
     // imported functions: the one too many at its kind
     (HEADER, "02828001 8020", "0000 0000", 4096, "", "", Accepted),
-    (
-        HEADER,
-        "02858001 8120",
-        "0000 0000",
-        4096,
-        "0000 00",
-        "",
-        Past(Functions, 16400),
-    ),
-    (
-        HEADER,
-        "02878001 8120",
-        "0000 0000",
-        4096,
-        "0000 020000",
-        "",
-        Accepted,
-    ),
-    (
-        HEADER,
-        "02858001 8120",
-        "0000 0000",
-        4096,
-        "0000 04",
-        "",
-        Wanted::Malformed(16400),
-    ),
+    (HEADER, "02858001 8120", "0000 0000", 4096, "0000 00", "", Past(Functions, 16400)),
+    (HEADER, "02878001 8120", "0000 0000", 4096, "0000 020000", "", Accepted),
+    (HEADER, "02858001 8120", "0000 0000", 4096, "0000 04", "", Wanted::Malformed(16400)),
     // own ones beside imported ones
-    (
-        HEADER,
-        "02828001 8020",
-        "0000 0000",
-        4096,
-        "030101",
-        "",
-        Past(Functions, 16400),
-    ),
+    (HEADER, "02828001 8020", "0000 0000", 4096, "030101", "", Past(Functions, 16400)),
     // functions, before the indices of their types
     (HEADER, "0302 8120", "", 0, "", "", Past(Functions, 10)),
     (HEADER, "0302 8020", "", 0, "", "", Wanted::Malformed(12)),
     // the least size of a table, before its greatest
     (HEADER, "0405 01 70 00 8020", "", 0, "", "", Accepted),
-    (
-        HEADER,
-        "0405 01 70 00 8120",
-        "",
-        0,
-        "",
-        "",
-        Past(TableEntries, 13),
-    ),
-    (
-        HEADER,
-        "0405 01 70 01 8120",
-        "",
-        0,
-        "",
-        "",
-        Past(TableEntries, 13),
-    ),
-    (
-        HEADER,
-        "0208 01 0000 01 70 00 8120",
-        "",
-        0,
-        "",
-        "",
-        Past(TableEntries, 16),
-    ),
+    (HEADER, "0405 01 70 00 8120", "", 0, "", "", Past(TableEntries, 13)),
+    (HEADER, "0405 01 70 01 8120", "", 0, "", "", Past(TableEntries, 13)),
+    (HEADER, "0208 01 0000 01 70 00 8120", "", 0, "", "", Past(TableEntries, 16)),
     // globals
     (HEADER, "068228 8008", "7f00 41000b", 1024, "", "", Accepted),
     (HEADER, "0602 8108", "", 0, "", "", Past(Globals, 10)),
     // instructions of an initialiser
     (HEADER, "068320 01 7f00", "01", 4095, "0b", "", Accepted),
-    (
-        HEADER,
-        "068420 01 7f00",
-        "01",
-        4096,
-        "0b",
-        "",
-        Past(Instructions, 4110),
-    ),
+    (HEADER, "068420 01 7f00", "01", 4096, "0b", "", Past(Instructions, 4110)),
     // a count decides nothing before its items are read
-    (
-        HEADER,
-        "0105 ffffffff0f",
-        "",
-        0,
-        "",
-        "",
-        Wanted::Malformed(15),
-    ),
+    (HEADER, "0105 ffffffff0f", "", 0, "", "", Wanted::Malformed(15)),
     // locals: a run too long is told before its type
-    (
-        ONE_FUNCTION,
-        "0a07 01 05 01 8002 7f 0b",
-        "",
-        0,
-        "",
-        "",
-        Accepted,
-    ),
-    (
-        ONE_FUNCTION,
-        "0a05 01 03 01 8102",
-        "",
-        0,
-        "",
-        "",
-        Past(Locals, 23),
-    ),
-    (
-        ONE_FUNCTION,
-        "0a0a 01 08 02 8001 7f 8001 7e 0b",
-        "",
-        0,
-        "",
-        "",
-        Accepted,
-    ),
-    (
-        ONE_FUNCTION,
-        "0a09 01 07 02 8001 7f 8101 7d",
-        "",
-        0,
-        "",
-        "",
-        Past(Locals, 26),
-    ),
-    (
-        ONE_FUNCTION,
-        "0a0a 01 08 01 ffffffff0f 7f 0b",
-        "",
-        0,
-        "",
-        "",
-        Past(Locals, 23),
-    ),
+    (ONE_FUNCTION, "0a07 01 05 01 8002 7f 0b", "", 0, "", "", Accepted),
+    (ONE_FUNCTION, "0a05 01 03 01 8102", "", 0, "", "", Past(Locals, 23)),
+    (ONE_FUNCTION, "0a0a 01 08 02 8001 7f 8001 7e 0b", "", 0, "", "", Accepted),
+    (ONE_FUNCTION, "0a09 01 07 02 8001 7f 8101 7d", "", 0, "", "", Past(Locals, 26)),
+    (ONE_FUNCTION, "0a0a 01 08 01 ffffffff0f 7f 0b", "", 0, "", "", Past(Locals, 23)),
     // instructions: the one too many, whatever it is
-    (
-        ONE_FUNCTION,
-        "0a8420 01 8120 00",
-        "01",
-        4095,
-        "0b",
-        "",
-        Accepted,
-    ),
-    (
-        ONE_FUNCTION,
-        "0a8520 01 8220 00",
-        "01",
-        4096,
-        "0b",
-        "",
-        Past(Instructions, 4121),
-    ),
-    (
-        ONE_FUNCTION,
-        "0a8520 01 8220 00",
-        "01",
-        4096,
-        "ff",
-        "",
-        Past(Instructions, 4121),
-    ),
-    (
-        ONE_FUNCTION,
-        "0a8420 01 8120 00",
-        "01",
-        4096,
-        "",
-        "",
-        Wanted::Malformed(4121),
-    ),
+    (ONE_FUNCTION, "0a8420 01 8120 00", "01", 4095, "0b", "", Accepted),
+    (ONE_FUNCTION, "0a8520 01 8220 00", "01", 4096, "0b", "", Past(Instructions, 4121)),
+    (ONE_FUNCTION, "0a8520 01 8220 00", "01", 4096, "ff", "", Past(Instructions, 4121)),
+    (ONE_FUNCTION, "0a8420 01 8120 00", "01", 4096, "", "", Wanted::Malformed(4121)),
     // as many functions as allowed
-    (
-        HEADER,
-        "038220 8020",
-        "00",
-        4096,
-        "0a8260 8020",
-        "02000b",
-        Accepted,
-    ),
+    (HEADER, "038220 8020", "00", 4096, "0a8260 8020", "02000b", Accepted),
 ];
 
 fn fault_of(alloc: Global, bytes: &[u8]) -> Option<DecodeFault> {
@@ -588,56 +324,22 @@ pub const ECHO: &str =
 /// Two texts, and what is read of the bytes that they spell together: examples of the LEB128
 /// description, a spelling longer than needed, numbers of all bits and of too many, and all of a
 /// module.
+#[rattlefmt::skip]
 static READ: [(&str, &str, Read); 14] = [
     (HEADER, "0407 017001 00 e58e26", Read::Size(624_485)),
     (HEADER, "0406 017001 00 8001", Read::Size(128)),
     (HEADER, "0409 017001 00 8380808000", Read::Size(3)),
-    (
-        HEADER,
-        "0608 017f00 41c0bb78 0b",
-        Read::Constant(Value::I32(0xfffe_1dc0)),
-    ),
-    (
-        HEADER,
-        "0606 017f00 417f 0b",
-        Read::Constant(Value::I32(0xffff_ffff)),
-    ),
-    (
-        HEADER,
-        "0607 017f00 41807f 0b",
-        Read::Constant(Value::I32(0xffff_ff80)),
-    ),
-    (
-        HEADER,
-        "060a 017f00 41feffffff7f 0b",
-        Read::Constant(Value::I32(0xffff_fffe)),
-    ),
-    (
-        HEADER,
-        "0606 017e00 427f 0b",
-        Read::Constant(Value::I64(0xffff_ffff_ffff_ffff)),
-    ),
-    (
-        HEADER,
-        "060f 017e00 428080808080808080807f 0b",
-        Read::Constant(Value::I64(0x8000_0000_0000_0000)),
-    ),
-    (
-        HEADER,
-        "0409 017001 00 8380808010",
-        Read::Fault(Malformed(14)),
-    ),
-    (
-        HEADER,
-        "040a 017001 00 838080808000",
-        Read::Fault(Malformed(14)),
-    ),
+    (HEADER, "0608 017f00 41c0bb78 0b", Read::Constant(Value::I32(0xfffe_1dc0))),
+    (HEADER, "0606 017f00 417f 0b", Read::Constant(Value::I32(0xffff_ffff))),
+    (HEADER, "0607 017f00 41807f 0b", Read::Constant(Value::I32(0xffff_ff80))),
+    (HEADER, "060a 017f00 41feffffff7f 0b", Read::Constant(Value::I32(0xffff_fffe))),
+    (HEADER, "0606 017e00 427f 0b", Read::Constant(Value::I64(0xffff_ffff_ffff_ffff))),
+    (HEADER, "060f 017e00 428080808080808080807f 0b",
+        Read::Constant(Value::I64(0x8000_0000_0000_0000))),
+    (HEADER, "0409 017001 00 8380808010", Read::Fault(Malformed(14))),
+    (HEADER, "040a 017001 00 838080808000", Read::Fault(Malformed(14))),
     (HEADER, "0405 017001 00 80", Read::Fault(Malformed(14))),
-    (
-        HEADER,
-        "060a 017f00 418080808070 0b",
-        Read::Fault(Malformed(14)),
-    ),
+    (HEADER, "060a 017f00 418080808070 0b", Read::Fault(Malformed(14))),
     (ECHO, "", Read::Counts([2, 2, 1, 2, 1])),
 ];
 
@@ -700,17 +402,10 @@ fn is_read_so(alloc: Global, row: &(&str, &str, Read)) -> Result<bool, Refused> 
 }
 
 /// A custom section fills a module, whose size is 2 ^ 21 bytes then.
+#[rattlefmt::skip]
 static SIZES: [Long; 3] = [
     (HEADER, "00f4ff7f", "00", 2_097_140, "", "", Accepted),
-    (
-        HEADER,
-        "00f5ff7f",
-        "00",
-        2_097_141,
-        "",
-        "",
-        Past(Bytes, 2_097_152),
-    ),
+    (HEADER, "00f5ff7f", "00", 2_097_141, "", "", Past(Bytes, 2_097_152)),
     ("", "", "00", 2_097_153, "", "", Past(Bytes, 2_097_152)),
 ];
 

@@ -16,31 +16,18 @@ enum Fault {
     Link(LinkFault),
 }
 
+#[rattlefmt::skip]
 static FAULTS: [(Fault, &str); 17] = [
     (Fault::Memory(MemoryFault::Memory), "M1 Memory"),
-    (
-        Fault::Decode(DecodeFault::Malformed(9), Some(9)),
-        "B1 Malformed",
-    ),
+    (Fault::Decode(DecodeFault::Malformed(9), Some(9)), "B1 Malformed"),
     (Fault::Decode(DecodeFault::Float(50), Some(50)), "B2 Float"),
-    (
-        Fault::Decode(
-            DecodeFault::Limit(PassedLimit {
-                limit: ModuleLimit::Globals,
-                at: 10,
-            }),
-            None,
-        ),
-        "B3 Limit",
-    ),
+    (Fault::Decode(DecodeFault::Limit(PassedLimit { limit: ModuleLimit::Globals, at: 10 }), None),
+        "B3 Limit"),
     (Fault::Decode(DecodeFault::Memory, None), "B4 Memory"),
     (Fault::Valid(ValidFault::Typing), "V1 Typing"),
     (Fault::Valid(ValidFault::Index), "V2 Index"),
     (Fault::Valid(ValidFault::Limits), "V3 Limits"),
-    (
-        Fault::Valid(ValidFault::DuplicateExport),
-        "V4 DuplicateExport",
-    ),
+    (Fault::Valid(ValidFault::DuplicateExport), "V4 DuplicateExport"),
     (Fault::Valid(ValidFault::Memory), "V5 Memory"),
     (Fault::Link(LinkFault::NoStart), "L1 NoStart"),
     (Fault::Link(LinkFault::NoMemory), "L2 NoMemory"),

@@ -33,84 +33,41 @@ enum Call {
 /// How many pages memory begins with and may have, its length then, and calls one after another.
 type Story = (u32, u32, usize, &'static [Call]);
 
+#[rattlefmt::skip]
 static STORIES: [Story; 11] = [
     (0, 0, 0, &[]),
     (0, 256, 0, &[]),
     (1, 1, 65_536, &[]),
     (2, 3, 131_072, &[]),
-    (
-        1,
-        3,
-        65_536,
-        &[
-            Call::Read(0, 0, true, true),
-            Call::Read(65_532, 0, true, true),
-            Call::Read(65_533, 0, true, false),
-            Call::Read(65_535, 0, true, false),
-            Call::Read(65_535, 1, false, false),
-            Call::Read(0, 65_532, true, true),
-            Call::Read(1, 65_532, true, false),
-            Call::Read(4_294_967_295, 1, false, false),
-            Call::Read(4_294_967_295, 4_294_967_295, false, false),
-            Call::Read(1, 4_294_967_295, false, false),
-        ],
-    ),
-    (
-        1,
-        3,
-        65_536,
-        &[
-            Call::Range(0, 65_536, true),
-            Call::Range(1, 65_535, true),
-            Call::Range(65_536, 0, true),
-            Call::Range(65_536, 1, false),
-            Call::Range(65_537, 0, false),
-            Call::Range(4_294_967_295, 1, false),
-            Call::Range(4_294_967_295, 4_294_967_295, false),
-            Call::Range(1, 4_294_967_295, false),
-        ],
-    ),
+    (1, 3, 65_536, &[
+        Call::Read(0, 0, true, true), Call::Read(65_532, 0, true, true),
+        Call::Read(65_533, 0, true, false), Call::Read(65_535, 0, true, false),
+        Call::Read(65_535, 1, false, false), Call::Read(0, 65_532, true, true),
+        Call::Read(1, 65_532, true, false), Call::Read(4_294_967_295, 1, false, false),
+        Call::Read(4_294_967_295, 4_294_967_295, false, false),
+        Call::Read(1, 4_294_967_295, false, false),
+    ]),
+    (1, 3, 65_536, &[
+        Call::Range(0, 65_536, true), Call::Range(1, 65_535, true), Call::Range(65_536, 0, true),
+        Call::Range(65_536, 1, false), Call::Range(65_537, 0, false),
+        Call::Range(4_294_967_295, 1, false), Call::Range(4_294_967_295, 4_294_967_295, false),
+        Call::Range(1, 4_294_967_295, false),
+    ]),
     (1, 3, 65_536, &[Call::StoreEight]),
-    (
-        1,
-        3,
-        65_536,
-        &[
-            Call::Store(65_532, true),
-            Call::Store(65_533, false),
-            Call::Store(4_294_967_295, false),
-            Call::StoreTwo,
-            Call::EndsWith(b"\0\xef\xbe\xcd\xff"),
-        ],
-    ),
+    (1, 3, 65_536, &[
+        Call::Store(65_532, true), Call::Store(65_533, false), Call::Store(4_294_967_295, false),
+        Call::StoreTwo, Call::EndsWith(b"\0\xef\xbe\xcd\xff"),
+    ]),
     (1, 3, 65_536, &[Call::Lend, Call::EndsWith(b"\0\x01\x02\0")]),
-    (
-        1,
-        3,
-        65_536,
-        &[
-            Call::Write(65_534, true),
-            Call::Write(65_535, false),
-            Call::Write(65_537, false),
-            Call::Write(4_294_967_295, false),
-            Call::EndsWith(b"\0\x04\x05"),
-        ],
-    ),
-    (
-        1,
-        3,
-        65_536,
-        &[
-            Call::StoreSeven,
-            Call::Grow(3, None),
-            Call::Grow(4_294_967_295, None),
-            Call::Grow(0, Some(1)),
-            Call::Grow(2, Some(1)),
-            Call::Grow(1, None),
-            Call::Grow(0, Some(3)),
-            Call::HasThreePages,
-        ],
-    ),
+    (1, 3, 65_536, &[
+        Call::Write(65_534, true), Call::Write(65_535, false), Call::Write(65_537, false),
+        Call::Write(4_294_967_295, false), Call::EndsWith(b"\0\x04\x05"),
+    ]),
+    (1, 3, 65_536, &[
+        Call::StoreSeven, Call::Grow(3, None), Call::Grow(4_294_967_295, None),
+        Call::Grow(0, Some(1)), Call::Grow(2, Some(1)), Call::Grow(1, None), Call::Grow(0, Some(3)),
+        Call::HasThreePages,
+    ]),
 ];
 
 /// Whether all bytes from here on are zeros.

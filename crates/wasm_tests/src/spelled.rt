@@ -5,6 +5,8 @@ use std::alloc::{AllocError, AllocFailed, Global};
 use wasm_decode::DecodeFault;
 use wasm_validate::ValidFault;
 
+pub const HEADER: &str = "0061736d01000000";
+
 /// Why a test has nothing to compare.
 #[derive(Clone, Copy, Debug)]
 pub enum Refused {

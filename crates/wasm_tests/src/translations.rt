@@ -70,27 +70,19 @@ fn is_translated_so(alloc: Global, row: &Row) -> Result<bool, Refused> {
     Ok(is_so)
 }
 
+#[rattlefmt::skip]
 static BODIES: [Row; 14] = [
     // nothing but the end
     ("00 0b", Some(1)),
     // a sum that goes into its local: once, and three times
     ("01017f 2000 4101 6a 2100 0b", Some(2)),
-    (
-        "01017f 2000 4101 6a 2100 2000 4101 6a 2100 2000 4101 6a 2100 0b",
-        Some(4),
-    ),
+    ("01017f 2000 4101 6a 2100 2000 4101 6a 2100 2000 4101 6a 2100 0b", Some(4)),
     // a loop that counts a local down from 100
-    (
-        "01017f 41e400 2100 0340 2000 4101 6b 2200 0d00 0b 0b",
-        Some(4),
-    ),
+    ("01017f 41e400 2100 0340 2000 4101 6b 2200 0d00 0b 0b", Some(4)),
     // a loop that a comparison ends: one register instruction compares and jumps
     ("01017f 0340 2000 410a 49 0d00 0b 0b", Some(2)),
     // a branch table out of one block or of two, and a sum after the inner one
-    (
-        "01017f 0240 0240 2000 0e010001 0b 2000 4101 6a 2100 0b 0b",
-        Some(3),
-    ),
+    ("01017f 0240 0240 2000 0e010001 0b 2000 4101 6a 2100 0b 0b", Some(3)),
     // a local is stored, and read back
     ("01017f 2000 2000 360200 2000 280200 2100 0b", Some(3)),
     // a local's low byte with its sign
@@ -99,10 +91,7 @@ static BODIES: [Row; 14] = [
     ("01037f 2000 2001 2002 fc0a0000 0b", Some(2)),
     ("00 4101 4102 4103 fc0b00 0b", Some(5)),
     // a loop after either, where a frame may enter
-    (
-        "01037f 2000 2001 2002 fc0a0000 0340 2000 0d00 0b 0b",
-        Some(3),
-    ),
+    ("01037f 2000 2001 2002 fc0a0000 0340 2000 0d00 0b 0b", Some(3)),
     ("01037f 2000 2001 2002 fc0b00 0340 2000 0d00 0b 0b", Some(3)),
     // a call of itself
     ("00 1000 0b", Some(2)),

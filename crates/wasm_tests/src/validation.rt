@@ -1,7 +1,7 @@
 //! The kind of a module's first fault, part by part and in the bodies of its functions.
 
 use crate::rows::{assert_number, assert_row};
-use crate::spelled::{Refused, spell, with_code};
+use crate::spelled::{HEADER, Refused, spell, with_code};
 use machine::{ModuleFault, read};
 use std::alloc::Global;
 use wasm_decode::decode;
@@ -30,8 +30,6 @@ fn is_told_so(alloc: Global, front: &str, row: &Row) -> Result<bool, Refused> {
     Ok(fault_of(alloc, bytes.as_slice()) == row.1)
 }
 
-const HEADER: &str = "0061736d01000000";
-
 /// Types give one result, and exist.
 const TYPES: &[Row] = &[
     ("", None),
@@ -41,12 +39,10 @@ const TYPES: &[Row] = &[
 ];
 
 /// Parts are told in the order of their sections, but for data segments, which come before bodies.
+#[rattlefmt::skip]
 const ORDER: &[Row] = &[
     // types, imports, functions
-    (
-        "0106 01 6000027f7f 0205 01 00000009 0302 01 09 0a04 01 02000b",
-        LIMITS,
-    ),
+    ("0106 01 6000027f7f 0205 01 00000009 0302 01 09 0a04 01 02000b", LIMITS),
     ("0208 01 00000200818004 0302 01 09 0a04 01 02000b", LIMITS),
     // functions before tables, memories and globals
     ("0302 01 09 0405 01 70010201 0a04 01 02000b", INDEX),
@@ -62,24 +58,13 @@ const ORDER: &[Row] = &[
     ("020c 02 00000009 00000200818004", INDEX),
     ("020c 02 00000200818004 00000009", LIMITS),
     // a second table or memory that is imported, among the imports; one of the module's own, later
-    (
-        "0104 01 600000 0211 02 01'a'01'b'01700000 01'a'01'b'01700000 0302 01 09 0a04 01 02000b",
-        LIMITS,
-    ),
-    (
-        "0104 01 600000 020f 02 01'a'01'b'020000 01'a'01'b'020000 0302 01 09 0a04 01 02000b",
-        LIMITS,
-    ),
+    ("0104 01 600000 0211 02 01'a'01'b'01700000 01'a'01'b'01700000 0302 01 09 0a04 01 02000b",
+        LIMITS),
+    ("0104 01 600000 020f 02 01'a'01'b'020000 01'a'01'b'020000 0302 01 09 0a04 01 02000b", LIMITS),
     ("0211 03 000001700000 000001700000 00000009", LIMITS),
     ("0211 03 000001700000 00000009 000001700000", INDEX),
-    (
-        "0207 01 000001700001 0302 01 09 0404 01 700001 0a04 01 02000b",
-        INDEX,
-    ),
-    (
-        "0206 01 0000020001 0302 01 09 0503 01 0001 0a04 01 02000b",
-        INDEX,
-    ),
+    ("0207 01 000001700001 0302 01 09 0404 01 700001 0a04 01 02000b", INDEX),
+    ("0206 01 0000020001 0302 01 09 0503 01 0001 0a04 01 02000b", INDEX),
 ];
 
 /// There is one table, of limits in order.
@@ -120,19 +105,11 @@ const FURNISHED: &str = "0061736d01000000 0109 02 600000 60017f017f 0303 02 00 0
     0404 01 700001 0503 01 0001";
 
 /// Exports exist, and have names of their own.
+#[rattlefmt::skip]
 const EXPORTS: &[Row] = &[
-    (
-        "0709 02 01'a'0001 01'b'0100 0a09 02 02000b 040020000b",
-        None,
-    ),
-    (
-        "0711 04 01'a'0001 01'b'0100 01'a'0200 01'c'0002 0a09 02 02000b 040020000b",
-        DUPLICATE,
-    ),
-    (
-        "070d 03 01'a'0001 01'c'0002 01'a'0200 0a09 02 02000b 040020000b",
-        INDEX,
-    ),
+    ("0709 02 01'a'0001 01'b'0100 0a09 02 02000b 040020000b", None),
+    ("0711 04 01'a'0001 01'b'0100 01'a'0200 01'c'0002 0a09 02 02000b 040020000b", DUPLICATE),
+    ("070d 03 01'a'0001 01'c'0002 01'a'0200 0a09 02 02000b 040020000b", INDEX),
     ("0705 01 01'a'0101 0a09 02 02000b 040020000b", INDEX),
     ("0705 01 01'a'0201 0a09 02 02000b 040020000b", INDEX),
     ("0705 01 01'a'0300 0a09 02 02000b 040020000b", INDEX),
@@ -146,68 +123,37 @@ const START: &[Row] = &[
 ];
 
 /// Segments have a place and an offset.
+#[rattlefmt::skip]
 const SEGMENTS: &[Row] = &[
-    (
-        "0907 01 00 41000b 0101 0a09 02 02000b 040020000b 0b08 01 00 41000b 0207ff",
-        None,
-    ),
+    ("0907 01 00 41000b 0101 0a09 02 02000b 040020000b 0b08 01 00 41000b 0207ff", None),
     ("0907 01 01 41000b 0100 0a09 02 02000b 040020000b", INDEX),
     ("0907 01 00 42000b 0102 0a09 02 02000b 040020000b", TYPING),
     ("0907 01 00 41000b 0102 0a09 02 02000b 040020000b", INDEX),
     ("0a09 02 02000b 040020000b 0b08 01 01 41000b 0207ff", INDEX),
     ("0a09 02 02000b 040020000b 0b08 01 00 23000b 0207ff", INDEX),
-    (
-        "0606 01 7f01 41000b 0a09 02 02000b 040020000b 0b08 01 00 23000b 0207ff",
-        TYPING,
-    ),
+    ("0606 01 7f01 41000b 0a09 02 02000b 040020000b 0b08 01 00 23000b 0207ff", TYPING),
 ];
 
 /// Later parts are told in their order: of a module with all that these rows name.
+#[rattlefmt::skip]
 const LATER: &[Row] = &[
     // exports before the start function
-    (
-        "0709 02 01'a'0000 01'a'0000 0801 01 0a09 02 02000b 040020000b",
-        DUPLICATE,
-    ),
+    ("0709 02 01'a'0000 01'a'0000 0801 01 0a09 02 02000b 040020000b", DUPLICATE),
     ("0705 01 01'a'0005 0801 01 0a09 02 02000b 040020000b", INDEX),
     // the start function before element segments
-    (
-        "0801 01 0907 01 01 41000b 0100 0a09 02 02000b 040020000b",
-        TYPING,
-    ),
-    (
-        "0801 09 0907 01 00 42000b 0100 0a09 02 02000b 040020000b",
-        INDEX,
-    ),
+    ("0801 01 0907 01 01 41000b 0100 0a09 02 02000b 040020000b", TYPING),
+    ("0801 09 0907 01 00 42000b 0100 0a09 02 02000b 040020000b", INDEX),
     // element segments before data segments
-    (
-        "0907 01 00 42000b 0100 0a09 02 02000b 040020000b 0b06 01 01 41000b 00",
-        TYPING,
-    ),
-    (
-        "0907 01 00 41000b 0109 0a09 02 02000b 040020000b 0b06 01 00 42000b 00",
-        INDEX,
-    ),
+    ("0907 01 00 42000b 0100 0a09 02 02000b 040020000b 0b06 01 01 41000b 00", TYPING),
+    ("0907 01 00 41000b 0109 0a09 02 02000b 040020000b 0b06 01 00 42000b 00", INDEX),
     // data segments before bodies
     ("0a09 02 02000b 040020090b 0b06 01 00 42000b 00", TYPING),
     ("0a09 02 02000b 040042000b 0b06 01 01 41000b 00", INDEX),
     // segments and bodies from the front
-    (
-        "090d 02 00 42000b 0100 00 41000b 0109 0a09 02 02000b 040020000b",
-        TYPING,
-    ),
-    (
-        "090d 02 00 41000b 0109 00 42000b 0100 0a09 02 02000b 040020000b",
-        INDEX,
-    ),
-    (
-        "0a09 02 02000b 040020000b 0b0b 02 00 42000b 00 01 41000b 00",
-        TYPING,
-    ),
-    (
-        "0a09 02 02000b 040020000b 0b0b 02 01 41000b 00 00 42000b 00",
-        INDEX,
-    ),
+    ("090d 02 00 42000b 0100 00 41000b 0109 0a09 02 02000b 040020000b", TYPING),
+    ("090d 02 00 41000b 0109 00 42000b 0100 0a09 02 02000b 040020000b", INDEX),
+    ("0a09 02 02000b 040020000b 0b0b 02 00 42000b 00 01 41000b 00", TYPING),
+    ("0a09 02 02000b 040020000b 0b0b 02 01 41000b 00 00 42000b 00", INDEX),
     ("0a0b 02 040041000b 040020090b", TYPING),
     ("0a0b 02 040020090b 040042000b", INDEX),
 ];
@@ -370,27 +316,19 @@ enum Part {
 }
 
 /// A part, and the fault of a module with it alone.
+#[rattlefmt::skip]
 static UNSPELLED: [(Part, Option<ValidFault>); 8] = [
     // an `else` without an `if`, and a second one
     (Part::Body(&[0x05, 0x0b]), Some(ValidFault::Typing)),
-    (
-        Part::Body(&[0x02, 0x05, 0x0b, 0x0b]),
-        Some(ValidFault::Typing),
-    ),
-    (
-        Part::Body(&[0x41, 0x04, 0x05, 0x05, 0x0b, 0x0b]),
-        Some(ValidFault::Typing),
-    ),
+    (Part::Body(&[0x02, 0x05, 0x0b, 0x0b]), Some(ValidFault::Typing)),
+    (Part::Body(&[0x41, 0x04, 0x05, 0x05, 0x0b, 0x0b]), Some(ValidFault::Typing)),
     // nothing may follow the last end, and it has to come
     (Part::Body(&[0x0b, 0x01]), Some(ValidFault::Typing)),
     (Part::Body(&[0x0b, 0x0b]), Some(ValidFault::Typing)),
     (Part::Body(&[0x02, 0x0b]), Some(ValidFault::Typing)),
     // up to 2 ^ 32 entries, and limits in order
     (Part::Table(0xffff_ffff, 0xffff_ffff), None),
-    (
-        Part::Table(0xffff_ffff, 0xffff_fffe),
-        Some(ValidFault::Limits),
-    ),
+    (Part::Table(0xffff_ffff, 0xffff_fffe), Some(ValidFault::Limits)),
 ];
 
 fn instructions(alloc: Global, opcodes: &[u8]) -> Result<ItemList<Instruction>, Refused> {
@@ -461,13 +399,10 @@ fn fault_with(alloc: Global, part: &Part) -> Result<Option<ValidFault>, Refused>
 }
 
 /// A module with everything that the others have.
-static WHOLE: [u8; 65] = [
-    0x00, 0x61, 0x73, 0x6d, 0x01, 0x00, 0x00, 0x00, 0x01, 0x0a, 0x02, 0x60, 0x00, 0x00, 0x60, 0x02,
-    0x7f, 0x7e, 0x01, 0x7f, 0x03, 0x03, 0x02, 0x01, 0x00, 0x04, 0x04, 0x01, 0x70, 0x00, 0x01, 0x05,
-    0x03, 0x01, 0x00, 0x01, 0x06, 0x06, 0x01, 0x7f, 0x00, 0x41, 0x00, 0x0b, 0x0a, 0x13, 0x02, 0x04,
-    0x00, 0x20, 0x00, 0x0b, 0x0c, 0x00, 0x41, 0x00, 0x42, 0x00, 0x10, 0x00, 0x04, 0x40, 0x01, 0x0b,
-    0x0b,
-];
+static WHOLE: [u8; 65] =
+    *b"\0asm\x01\0\0\0\x01\x0a\x02\x60\0\0\x60\x02\x7f\x7e\x01\x7f\x03\x03\x02\x01\0\x04\x04\x01\
+    \x70\0\x01\x05\x03\x01\0\x01\x06\x06\x01\x7f\0\x41\0\x0b\x0a\x13\x02\x04\0\x20\0\x0b\x0c\0\x41\
+    \0\x42\0\x10\0\x04\x40\x01\x0b\x0b";
 
 fn functions_read(alloc: Global, bytes: &[u8]) -> Result<usize, ModuleFault> {
     let valid = read(alloc, bytes)?;

@@ -41,6 +41,7 @@ fn faulty_disk(
 }
 
 /// What a record says.
+#[derive(Clone, Copy)]
 pub(crate) enum Given {
     Request(&'static [u8]),
     /// A request of so many letters.
@@ -201,6 +202,7 @@ fn write_payload<D: Disk>(disk: &mut D, payload: &[u8]) -> bool {
 }
 
 /// What is done with a journal and its disk, and what is seen then.
+#[derive(Clone, Copy)]
 pub(crate) enum Step {
     /// A record of a step.
     Append(u64, Given, Count),
@@ -340,135 +342,26 @@ pub(crate) fn is_small_so(alloc: Global, steps: &[Step]) -> Result<bool, Journal
     are_so
 }
 
-/// A call of the disk, and how many records were acknowledged before it. Then what is kept where it
-/// leaves a prefix of at most 504 bytes, and of more. With 505 bytes a sector has its stamp.
-type Kept = (u64, &'static [Step], &'static [Step], &'static [Step]);
+/// A call of the disk, and how many records were acknowledged before it. Then how many are kept
+/// where it leaves a prefix of at most 504 bytes, and of more. With 505 bytes a sector has its
+/// stamp.
+type Kept = (u64, usize, usize, usize);
 
 /// Each pair takes two writes and a sync. The second record begins in the first sector.
+#[rattlefmt::skip]
 static KEPT: [Kept; 16] = [
-    (
-        1,
-        &[Step::Pairs(Ok(0))],
-        &[Step::Scan(1, 1, Ok(0))],
-        &[Step::Scan(1, 1, Ok(1))],
-    ),
-    (
-        2,
-        &[Step::Pairs(Ok(0))],
-        &[Step::Scan(1, 1, Ok(1))],
-        &[Step::Scan(1, 1, Ok(2))],
-    ),
-    (
-        3,
-        &[Step::Pairs(Ok(0))],
-        &[Step::Scan(1, 1, Ok(2))],
-        &[Step::Scan(1, 1, Ok(2))],
-    ),
-    (
-        4,
-        &[Step::Pairs(Ok(2))],
-        &[Step::Scan(1, 1, Ok(2))],
-        &[Step::Scan(1, 1, Ok(3))],
-    ),
-    (
-        5,
-        &[Step::Pairs(Ok(2))],
-        &[Step::Scan(1, 1, Ok(3))],
-        &[Step::Scan(1, 1, Ok(4))],
-    ),
-    (
-        6,
-        &[Step::Pairs(Ok(2))],
-        &[Step::Scan(1, 1, Ok(4))],
-        &[Step::Scan(1, 1, Ok(4))],
-    ),
-    (
-        7,
-        &[Step::Pairs(Ok(4))],
-        &[Step::Scan(1, 1, Ok(4))],
-        &[Step::Scan(1, 1, Ok(5))],
-    ),
-    (
-        8,
-        &[Step::Pairs(Ok(4))],
-        &[Step::Scan(1, 1, Ok(5))],
-        &[Step::Scan(1, 1, Ok(6))],
-    ),
-    (
-        9,
-        &[Step::Pairs(Ok(4))],
-        &[Step::Scan(1, 1, Ok(6))],
-        &[Step::Scan(1, 1, Ok(6))],
-    ),
-    (
-        10,
-        &[Step::Pairs(Ok(6))],
-        &[Step::Scan(1, 1, Ok(6))],
-        &[Step::Scan(1, 1, Ok(7))],
-    ),
-    (
-        11,
-        &[Step::Pairs(Ok(6))],
-        &[Step::Scan(1, 1, Ok(7))],
-        &[Step::Scan(1, 1, Ok(8))],
-    ),
-    (
-        12,
-        &[Step::Pairs(Ok(6))],
-        &[Step::Scan(1, 1, Ok(8))],
-        &[Step::Scan(1, 1, Ok(8))],
-    ),
-    (
-        13,
-        &[Step::Pairs(Ok(8))],
-        &[Step::Scan(1, 1, Ok(8))],
-        &[Step::Scan(1, 1, Ok(9))],
-    ),
-    (
-        14,
-        &[Step::Pairs(Ok(8))],
-        &[Step::Scan(1, 1, Ok(9))],
-        &[Step::Scan(1, 1, Ok(10))],
-    ),
-    (
-        15,
-        &[Step::Pairs(Ok(8))],
-        &[Step::Scan(1, 1, Ok(10))],
-        &[Step::Scan(1, 1, Ok(10))],
-    ),
-    (
-        16,
-        &[Step::Pairs(Ok(10))],
-        &[Step::Scan(1, 1, Ok(10))],
-        &[Step::Scan(1, 1, Ok(10))],
-    ),
+    (1, 0, 0, 1), (2, 0, 1, 2), (3, 0, 2, 2), (4, 2, 2, 3), (5, 2, 3, 4), (6, 2, 4, 4),
+    (7, 4, 4, 5), (8, 4, 5, 6), (9, 4, 6, 6), (10, 6, 6, 7), (11, 6, 7, 8), (12, 6, 8, 8),
+    (13, 8, 8, 9), (14, 8, 9, 10), (15, 8, 10, 10), (16, 10, 10, 10),
 ];
 
 /// What is left of a write, and whether the disk stops there. Else the call fails.
+#[rattlefmt::skip]
 static FRONTS: [(u16, bool); 23] = [
-    (0, true),
-    (1, true),
-    (495, true),
-    (496, true),
-    (497, true),
-    (498, true),
-    (499, true),
-    (500, true),
-    (501, true),
-    (502, true),
-    (503, true),
-    (504, true),
-    (505, true),
-    (506, true),
-    (507, true),
-    (508, true),
-    (509, true),
-    (510, true),
-    (511, true),
-    (512, true),
-    (0, false),
-    (498, false),
-    (512, false),
+    (0, true), (1, true), (495, true), (496, true), (497, true), (498, true), (499, true),
+    (500, true), (501, true), (502, true), (503, true), (504, true), (505, true), (506, true),
+    (507, true), (508, true), (509, true), (510, true), (511, true), (512, true), (0, false),
+    (498, false), (512, false),
 ];
 
 /// All of each write is kept.
@@ -479,21 +372,15 @@ fn is_kept_so(alloc: Global, kept: &Kept, front: &(u16, bool)) -> Result<bool, J
         call: kept.0,
         front: front.0,
     });
-    let trouble = if front.1 {
-        Trouble {
-            stop: place,
-            fail: None,
-            tears: Some(ALL),
-        }
+    let (stop, fail, tears) = if front.1 {
+        (place, None, Some(ALL))
     } else {
-        Trouble {
-            stop: None,
-            fail: place,
-            tears: None,
-        }
+        (None, place, None)
     };
-    let then = if front.0 <= 504 { kept.2 } else { kept.3 };
-    is_so(alloc, &trouble, kept.1, then)
+    let trouble = Trouble { stop, fail, tears };
+    let left = if front.0 <= 504 { kept.2 } else { kept.3 };
+    let steps = [Step::Pairs(Ok(kept.1))];
+    is_so(alloc, &trouble, &steps, &[Step::Scan(1, 1, Ok(left))])
 }
 
 /// A stop anywhere, or a failed call.
@@ -501,11 +388,8 @@ fn is_kept_so(alloc: Global, kept: &Kept, front: &(u16, bool)) -> Result<bool, J
 fn what_was_acknowledged_is_kept(rt: HostRuntime) -> Result<(), JournalFault> {
     for kept in &KEPT {
         for front in &FRONTS {
-            assert_row(
-                &rt,
-                is_kept_so(rt.alloc(), kept, front)?,
-                &(kept.0, front.0),
-            );
+            let is_so = is_kept_so(rt.alloc(), kept, front)?;
+            assert_row(&rt, is_so, &(kept.0, front.0));
         }
     }
     Ok(())

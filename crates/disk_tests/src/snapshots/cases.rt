@@ -1,8 +1,12 @@
 //! Which sectors are written, what is damaged, and how heads are spelled.
 
 use crate::rows::assert_row;
+use crate::snapshots::Step::{
+    self, Anew, Begin, Calls, Commit, Damage, Fails, Head, Holds, IsHead, LeadsToLong, Newest,
+    Pieces, Rewrite, Sync,
+};
 use crate::snapshots::{
-    CUT, DONE, FAILED, Image, LONG, LONG_HEAD, NEW, OLD, SHORT, Step, is_small_so, is_so,
+    Answer, CUT, DONE, FAILED, Image, LONG, LONG_HEAD, NEW, OLD, SHORT, is_small_so, is_so,
 };
 use sector_disk::{DiskFault, FaultPoint};
 use snapshot::SnapshotFault;
@@ -24,388 +28,111 @@ struct Case {
     left: Option<Image>,
 }
 
-static CASES: [Case; 35] = [
+const IO: SnapshotFault = SnapshotFault::Disk(DiskFault::Io);
+
+const DAMAGED: SnapshotFault = SnapshotFault::Damaged;
+
+const TOO_BIG: Answer = Err(SnapshotFault::TooBig);
+
+/// What is done with an empty disk that nothing befalls, and what is seen.
+#[rattlefmt::skip]
+static CASES: [(&str, &[Step]); 29] = [
+    // Only sectors that differ are written.
+    ("the same image", &[
+        Commit((1, 1, LONG), DONE), Commit((1, 2, SHORT), DONE), Rewrite((1400, false, (3, 1, 2))),
+    ]),
+    ("another byte", &[
+        Commit((1, 1, LONG), DONE), Commit((1, 2, SHORT), DONE), Rewrite((1400, true, (3, 2, 2))),
+    ]),
+    ("a byte fewer", &[
+        Commit((1, 1, LONG), DONE), Commit((1, 2, SHORT), DONE), Rewrite((1399, false, (3, 2, 2))),
+    ]),
+    ("two sectors of it", &[
+        Commit((1, 1, LONG), DONE), Commit((1, 2, SHORT), DONE), Rewrite((1024, false, (2, 1, 2))),
+    ]),
+    ("nothing of it",
+        &[Commit((1, 1, LONG), DONE), Commit((1, 2, SHORT), DONE), Rewrite((0, false, (0, 1, 2)))]),
+    ("LONG in pieces, split at 0", &[Pieces(0)]),
+    ("LONG in pieces, split at 1", &[Pieces(1)]),
+    ("LONG in pieces, split at 511", &[Pieces(511)]),
+    ("LONG in pieces, split at 512", &[Pieces(512)]),
+    ("LONG in pieces, split at 513", &[Pieces(513)]),
+    ("LONG in pieces, split at 1024", &[Pieces(1024)]),
+    ("LONG in pieces, split at 1400", &[Pieces(1400)]),
+    // SHORT ends in zeros in its second sector, where LONG stood before. The third one is LONG's.
+    ("zeros behind an image", &[
+        Commit((1, 1, LONG), DONE), Commit((1, 2, SHORT), DONE), Commit((1, 3, SHORT), DONE),
+        Holds(8, &[(7, 88)]), Holds(9, &[(9, 376)]),
+    ]),
+    // What is too big is refused before a call, and the next commit is `Failed`.
+    ("an image that is too large",
+        &[Commit((1, 1, &[1; 1537]), TOO_BIG), Calls(0, 0, 0), Commit(OLD, FAILED)]),
+    ("a generation that is too large",
+        &[Commit((1, 1 << 63, &[]), TOO_BIG), Calls(0, 0, 0), Commit(OLD, FAILED)]),
+    ("the largest number",
+        &[Commit((1, u64::MAX, &[]), TOO_BIG), Calls(0, 0, 0), Commit(OLD, FAILED)]),
+    ("the largest image of the last generation", &[Commit((1, (1 << 63) - 1, &[1; 1536]), DONE)]),
+    ("a version is given back", &[Commit((2, 5, SHORT), DONE), Newest((2, 5, SHORT))]),
+    ("heads byte by byte", &[
+        Commit(OLD, DONE), Commit(NEW, DONE),
+        IsHead(2, &SHORT_HEAD, b"\x01\0\0\0\0\0\0\0\x01\0\0\0\0\0\0\0"),
+        IsHead(1, &LONG_HEAD, b"\x02\0\0\0\0\0\0\0\x01\0\0\0\0\0\0\0"),
+    ]),
+    ("the newest head leads to its image",
+        &[Commit(OLD, DONE), Commit(NEW, DONE), Anew, LeadsToLong, Newest(NEW)]),
+    // The bytes after the image are not compared, nor are those of the other area.
+    ("byte 0 of sector 7", &[Commit(OLD, DONE), Damage(7, 0), Fails(DAMAGED)]),
+    ("byte 87 of sector 8", &[Commit(OLD, DONE), Damage(8, 87), Fails(DAMAGED)]),
+    ("byte 88 of sector 8", &[Commit(OLD, DONE), Damage(8, 88), Newest(OLD)]),
+    ("byte 0 of sector 9", &[Commit(OLD, DONE), Damage(9, 0), Newest(OLD)]),
+    ("byte 0 of sector 4", &[Commit(OLD, DONE), Damage(4, 0), Newest(OLD)]),
+    // A length above the area is told before a sector is read, and another digest after that.
+    ("a head with the length 1537", &[Head(1537), Fails(DAMAGED), Calls(2, 1, 0)]),
+    ("a head with the largest length", &[Head(u64::MAX), Fails(DAMAGED), Calls(2, 1, 0)]),
+    ("a head with the length 1536", &[Head(1536), Fails(DAMAGED), Calls(5, 1, 0)]),
+    ("a head with the length 513", &[Head(513), Fails(DAMAGED), Calls(4, 1, 0)]),
+];
+
+#[rattlefmt::skip]
+static TROUBLES: [Case; 6] = [
     // A failed sync of a head, call 16, fails what follows, with no call of the disk. The head is
     // found on the same disk after a good sync. A cut in the first write of the next commit leaves
     // it.
-    Case {
-        name: "a failed sync of a head",
-        stop: Some(FaultPoint { call: 24, front: 5 }),
-        fail: Some(FaultPoint { call: 16, front: 0 }),
-        steps: &[
-            Step::Commit(OLD, DONE),
-            Step::Commit(NEW, Err(SnapshotFault::Disk(DiskFault::Io))),
-            Step::Calls(5, 7, 4),
-            Step::Commit((1, 3, SHORT), FAILED),
-            Step::Begin(FAILED),
-            Step::Calls(5, 7, 4),
-            Step::Sync,
-            Step::Newest(NEW),
-            Step::Commit((1, 3, LONG), FAILED),
-            Step::Anew,
-            Step::Commit((1, 3, LONG), CUT),
-        ],
-        left: Some(NEW),
-    },
-    // Only sectors that differ are written.
-    Case {
-        name: "the same image",
-        stop: None,
-        fail: None,
-        steps: &[
-            Step::Commit((1, 1, LONG), DONE),
-            Step::Commit((1, 2, SHORT), DONE),
-            Step::Rewrite((1400, false, (3, 1, 2))),
-        ],
-        left: None,
-    },
-    Case {
-        name: "another byte",
-        stop: None,
-        fail: None,
-        steps: &[
-            Step::Commit((1, 1, LONG), DONE),
-            Step::Commit((1, 2, SHORT), DONE),
-            Step::Rewrite((1400, true, (3, 2, 2))),
-        ],
-        left: None,
-    },
-    Case {
-        name: "a byte fewer",
-        stop: None,
-        fail: None,
-        steps: &[
-            Step::Commit((1, 1, LONG), DONE),
-            Step::Commit((1, 2, SHORT), DONE),
-            Step::Rewrite((1399, false, (3, 2, 2))),
-        ],
-        left: None,
-    },
-    Case {
-        name: "two sectors of it",
-        stop: None,
-        fail: None,
-        steps: &[
-            Step::Commit((1, 1, LONG), DONE),
-            Step::Commit((1, 2, SHORT), DONE),
-            Step::Rewrite((1024, false, (2, 1, 2))),
-        ],
-        left: None,
-    },
-    Case {
-        name: "nothing of it",
-        stop: None,
-        fail: None,
-        steps: &[
-            Step::Commit((1, 1, LONG), DONE),
-            Step::Commit((1, 2, SHORT), DONE),
-            Step::Rewrite((0, false, (0, 1, 2))),
-        ],
-        left: None,
-    },
-    Case {
-        name: "LONG in pieces, split at 0",
-        stop: None,
-        fail: None,
-        steps: &[Step::Pieces(0)],
-        left: None,
-    },
-    Case {
-        name: "LONG in pieces, split at 1",
-        stop: None,
-        fail: None,
-        steps: &[Step::Pieces(1)],
-        left: None,
-    },
-    Case {
-        name: "LONG in pieces, split at 511",
-        stop: None,
-        fail: None,
-        steps: &[Step::Pieces(511)],
-        left: None,
-    },
-    Case {
-        name: "LONG in pieces, split at 512",
-        stop: None,
-        fail: None,
-        steps: &[Step::Pieces(512)],
-        left: None,
-    },
-    Case {
-        name: "LONG in pieces, split at 513",
-        stop: None,
-        fail: None,
-        steps: &[Step::Pieces(513)],
-        left: None,
-    },
-    Case {
-        name: "LONG in pieces, split at 1024",
-        stop: None,
-        fail: None,
-        steps: &[Step::Pieces(1024)],
-        left: None,
-    },
-    Case {
-        name: "LONG in pieces, split at 1400",
-        stop: None,
-        fail: None,
-        steps: &[Step::Pieces(1400)],
-        left: None,
-    },
-    // SHORT ends in zeros in its second sector, where LONG stood before. The third one is LONG's.
-    Case {
-        name: "zeros behind an image",
-        stop: None,
-        fail: None,
-        steps: &[
-            Step::Commit((1, 1, LONG), DONE),
-            Step::Commit((1, 2, SHORT), DONE),
-            Step::Commit((1, 3, SHORT), DONE),
-            Step::Holds(8, &[(7, 88)]),
-            Step::Holds(9, &[(9, 376)]),
-        ],
-        left: None,
-    },
-    // What is too big is refused before a call, and the next commit is `Failed`.
-    Case {
-        name: "an image that is too large",
-        stop: None,
-        fail: None,
-        steps: &[
-            Step::Commit((1, 1, &[1; 1537]), Err(SnapshotFault::TooBig)),
-            Step::Calls(0, 0, 0),
-            Step::Commit(OLD, FAILED),
-        ],
-        left: None,
-    },
-    Case {
-        name: "a generation that is too large",
-        stop: None,
-        fail: None,
-        steps: &[
-            Step::Commit((1, 1 << 63, &[]), Err(SnapshotFault::TooBig)),
-            Step::Calls(0, 0, 0),
-            Step::Commit(OLD, FAILED),
-        ],
-        left: None,
-    },
-    Case {
-        name: "the largest number",
-        stop: None,
-        fail: None,
-        steps: &[
-            Step::Commit((1, u64::MAX, &[]), Err(SnapshotFault::TooBig)),
-            Step::Calls(0, 0, 0),
-            Step::Commit(OLD, FAILED),
-        ],
-        left: None,
-    },
-    Case {
-        name: "the largest image of the last generation",
-        stop: None,
-        fail: None,
-        steps: &[Step::Commit((1, (1 << 63) - 1, &[1; 1536]), DONE)],
-        left: None,
-    },
-    Case {
-        name: "a version is given back",
-        stop: None,
-        fail: None,
-        steps: &[
-            Step::Commit((2, 5, SHORT), DONE),
-            Step::Newest((2, 5, SHORT)),
-        ],
-        left: None,
-    },
-    Case {
-        name: "heads byte by byte",
-        stop: None,
-        fail: None,
-        steps: &[
-            Step::Commit(OLD, DONE),
-            Step::Commit(NEW, DONE),
-            Step::IsHead(2, &SHORT_HEAD, b"\x01\0\0\0\0\0\0\0\x01\0\0\0\0\0\0\0"),
-            Step::IsHead(1, &LONG_HEAD, b"\x02\0\0\0\0\0\0\0\x01\0\0\0\0\0\0\0"),
-        ],
-        left: None,
-    },
-    Case {
-        name: "the newest head leads to its image",
-        stop: None,
-        fail: None,
-        steps: &[
-            Step::Commit(OLD, DONE),
-            Step::Commit(NEW, DONE),
-            Step::Anew,
-            Step::LeadsToLong,
-            Step::Newest(NEW),
-        ],
-        left: None,
-    },
-    // The bytes after the image are not compared, nor are those of the other area.
-    Case {
-        name: "byte 0 of sector 7",
-        stop: None,
-        fail: None,
-        steps: &[
-            Step::Commit(OLD, DONE),
-            Step::Damage(7, 0),
-            Step::Fails(SnapshotFault::Damaged),
-        ],
-        left: None,
-    },
-    Case {
-        name: "byte 87 of sector 8",
-        stop: None,
-        fail: None,
-        steps: &[
-            Step::Commit(OLD, DONE),
-            Step::Damage(8, 87),
-            Step::Fails(SnapshotFault::Damaged),
-        ],
-        left: None,
-    },
-    Case {
-        name: "byte 88 of sector 8",
-        stop: None,
-        fail: None,
-        steps: &[
-            Step::Commit(OLD, DONE),
-            Step::Damage(8, 88),
-            Step::Newest(OLD),
-        ],
-        left: None,
-    },
-    Case {
-        name: "byte 0 of sector 9",
-        stop: None,
-        fail: None,
-        steps: &[
-            Step::Commit(OLD, DONE),
-            Step::Damage(9, 0),
-            Step::Newest(OLD),
-        ],
-        left: None,
-    },
-    Case {
-        name: "byte 0 of sector 4",
-        stop: None,
-        fail: None,
-        steps: &[
-            Step::Commit(OLD, DONE),
-            Step::Damage(4, 0),
-            Step::Newest(OLD),
-        ],
-        left: None,
-    },
+    Case { name: "a failed sync of a head", stop: Some(FaultPoint { call: 24, front: 5 }),
+        fail: Some(FaultPoint { call: 16, front: 0 }), steps: &[
+        Commit(OLD, DONE), Commit(NEW, Err(IO)), Calls(5, 7, 4), Commit((1, 3, SHORT), FAILED),
+        Begin(FAILED), Calls(5, 7, 4), Sync, Newest(NEW), Commit((1, 3, LONG), FAILED), Anew,
+        Commit((1, 3, LONG), CUT),
+    ], left: Some(NEW) },
     // A commit takes seven calls. Then two heads and two sectors of the area are read.
-    Case {
-        name: "read 1 fails",
-        stop: None,
-        fail: Some(FaultPoint { call: 8, front: 0 }),
-        steps: &[
-            Step::Commit(OLD, DONE),
-            Step::Fails(SnapshotFault::Disk(DiskFault::Io)),
-        ],
-        left: None,
-    },
-    Case {
-        name: "read 2 fails",
-        stop: None,
-        fail: Some(FaultPoint { call: 9, front: 0 }),
-        steps: &[
-            Step::Commit(OLD, DONE),
-            Step::Fails(SnapshotFault::Disk(DiskFault::Io)),
-        ],
-        left: None,
-    },
-    Case {
-        name: "read 3 fails",
-        stop: None,
-        fail: Some(FaultPoint { call: 10, front: 0 }),
-        steps: &[
-            Step::Commit(OLD, DONE),
-            Step::Fails(SnapshotFault::Disk(DiskFault::Io)),
-        ],
-        left: None,
-    },
-    Case {
-        name: "read 4 fails",
-        stop: None,
-        fail: Some(FaultPoint { call: 11, front: 0 }),
-        steps: &[
-            Step::Commit(OLD, DONE),
-            Step::Fails(SnapshotFault::Disk(DiskFault::Io)),
-        ],
-        left: None,
-    },
-    Case {
-        name: "read 5 fails",
-        stop: None,
-        fail: Some(FaultPoint { call: 12, front: 0 }),
-        steps: &[Step::Commit(OLD, DONE), Step::Newest(OLD)],
-        left: None,
-    },
-    // A length above the area is told before a sector is read, and another digest after that.
-    Case {
-        name: "a head with the length 1537",
-        stop: None,
-        fail: None,
-        steps: &[
-            Step::Head(1537),
-            Step::Fails(SnapshotFault::Damaged),
-            Step::Calls(2, 1, 0),
-        ],
-        left: None,
-    },
-    Case {
-        name: "a head with the largest length",
-        stop: None,
-        fail: None,
-        steps: &[
-            Step::Head(u64::MAX),
-            Step::Fails(SnapshotFault::Damaged),
-            Step::Calls(2, 1, 0),
-        ],
-        left: None,
-    },
-    Case {
-        name: "a head with the length 1536",
-        stop: None,
-        fail: None,
-        steps: &[
-            Step::Head(1536),
-            Step::Fails(SnapshotFault::Damaged),
-            Step::Calls(5, 1, 0),
-        ],
-        left: None,
-    },
-    Case {
-        name: "a head with the length 513",
-        stop: None,
-        fail: None,
-        steps: &[
-            Step::Head(513),
-            Step::Fails(SnapshotFault::Damaged),
-            Step::Calls(4, 1, 0),
-        ],
-        left: None,
-    },
+    Case { name: "read 1 fails", stop: None, fail: Some(FaultPoint { call: 8, front: 0 }),
+        steps: &[Commit(OLD, DONE), Fails(IO)], left: None },
+    Case { name: "read 2 fails", stop: None, fail: Some(FaultPoint { call: 9, front: 0 }),
+        steps: &[Commit(OLD, DONE), Fails(IO)], left: None },
+    Case { name: "read 3 fails", stop: None, fail: Some(FaultPoint { call: 10, front: 0 }),
+        steps: &[Commit(OLD, DONE), Fails(IO)], left: None },
+    Case { name: "read 4 fails", stop: None, fail: Some(FaultPoint { call: 11, front: 0 }),
+        steps: &[Commit(OLD, DONE), Fails(IO)], left: None },
+    Case { name: "read 5 fails", stop: None, fail: Some(FaultPoint { call: 12, front: 0 }),
+        steps: &[Commit(OLD, DONE), Newest(OLD)], left: None },
 ];
 
 /// A disk with too few sectors is called for nothing.
 static SMALL: [Step; 4] = [
-    Step::Fails(SnapshotFault::Disk(DiskFault::Range)),
-    Step::Commit(OLD, Err(SnapshotFault::Disk(DiskFault::Range))),
-    Step::Commit(OLD, FAILED),
-    Step::Calls(0, 0, 0),
+    Fails(SnapshotFault::Disk(DiskFault::Range)),
+    Commit(OLD, Err(SnapshotFault::Disk(DiskFault::Range))),
+    Commit(OLD, FAILED),
+    Calls(0, 0, 0),
 ];
 
 /// `scripts/runs/refused-allocations` refuses each allocation in turn, and then this ends out of
 /// memory.
 #[test]
 fn images_are_committed_and_found(rt: HostRuntime) -> Result<(), SnapshotFault> {
-    for case in &CASES {
+    for (name, steps) in &CASES {
+        assert_row(&rt, is_so(rt.alloc(), None, None, steps, &None)?, name);
+    }
+    for case in &TROUBLES {
         let is_so = is_so(rt.alloc(), case.stop, case.fail, case.steps, &case.left)?;
         assert_row(&rt, is_so, &case.name);
     }

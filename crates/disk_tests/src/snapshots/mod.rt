@@ -449,11 +449,8 @@ fn is_stopped_so(alloc: Global, stop: &Stop, front: u16) -> Result<bool, Snapsho
 fn a_stop_leaves_the_old_snapshot_or_the_new_one(rt: HostRuntime) -> Result<(), SnapshotFault> {
     for stop in &STOPS {
         for front in &FRONTS {
-            assert_row(
-                &rt,
-                is_stopped_so(rt.alloc(), stop, *front)?,
-                &(stop.0, *front),
-            );
+            let is_so = is_stopped_so(rt.alloc(), stop, *front)?;
+            assert_row(&rt, is_so, &(stop.0, *front));
         }
     }
     Ok(())

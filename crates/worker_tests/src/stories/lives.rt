@@ -36,34 +36,21 @@ pub(crate) const FIRST: Plan = Plan {
 /// The same with another request.
 pub(crate) const OTHER: Plan = Plan {
     requests: &[b"world"],
-    time: None,
-    acts: &[PlannedAct::Slice { fuel: 20 }],
-    stop: None,
-    fail: None,
-    refuse: None,
-    tears: &[],
+    ..FIRST
 };
 
 /// From the answer to its line.
 pub(crate) const TELLS: Plan = Plan {
     requests: &[],
-    time: None,
     acts: &[PlannedAct::Slice { fuel: 14 }],
-    stop: None,
-    fail: None,
-    refuse: None,
-    tears: &[],
+    ..FIRST
 };
 
 /// No step at all.
 pub(crate) const IDLE: Plan = Plan {
     requests: &[],
-    time: None,
     acts: &[PlannedAct::Slice { fuel: 0 }],
-    stop: None,
-    fail: None,
-    refuse: None,
-    tears: &[],
+    ..FIRST
 };
 
 /// How a life was opened: its generation, steps, answers and lines, or 0 for the generation of one

@@ -4,6 +4,7 @@ use crate::guests::ECHO;
 use crate::halt::Halt;
 use crate::rows::assert_row;
 use crate::stories::lives::{Plan, report_of};
+use crate::workers::working::Mishap;
 use sector_disk::FaultPoint;
 use std::alloc::Global;
 use std::process::Abort;
@@ -24,13 +25,6 @@ static AMID: [u16; 5] = [502, 503, 504, 505, 506];
 
 /// Fronts that end late in the stamp.
 static LATE: [u16; 5] = [507, 508, 509, 510, 511];
-
-/// What befalls a life at a call of its disk.
-#[derive(Clone, Copy)]
-enum Mishap {
-    Stop,
-    Failure,
-}
 
 /// Two requests, all steps up to the second line, and a checkpoint.
 const BUSY: Plan = Plan {
@@ -176,16 +170,8 @@ fn failures_late_in_a_stamp_lose_nothing(rt: HostRuntime) -> Result<(), Halt> {
 }
 
 /// The busy life, where one of its two lines is refused.
-static REFUSALS: [Plan; 2] = [
-    Plan {
-        refuse: Some(1),
-        ..BUSY
-    },
-    Plan {
-        refuse: Some(2),
-        ..BUSY
-    },
-];
+#[rattlefmt::skip]
+static REFUSALS: [Plan; 2] = [Plan { refuse: Some(1), ..BUSY }, Plan { refuse: Some(2), ..BUSY }];
 
 /// Each of two lines refused: the next life has the answers behind each line that was begun.
 #[test]

@@ -1,129 +1,90 @@
 //! Disks that are too small, blank or damaged.
 
 use crate::guests::{ECHO, SECTORS, blank};
-use crate::halt::{Halt, NO_WORKER};
+use crate::halt::Halt::{self, Recovery};
+use crate::halt::NO_WORKER;
 use crate::rows::assert_row;
-use crate::workers::working::{WorkerProgress, create, open};
+use crate::workers::working::{FRESH, WorkerProgress, create, open};
+use disk_layout::LayoutFault::Damaged;
 use disk_layout::{Damage, LayoutFault};
 use record_replay::ReplayFault;
 use sector_disk::{Disk, DiskFault, FaultDisk, MemDisk};
 use snapshot::SnapshotFault;
 use state_image::restoring::RestoreFault;
 use std::alloc::Global;
+use worker::RecoverFault::Layout;
 use worker::{RecoverFault, StoreFault, WorkFault};
 
-/// Bytes of a disk, from a place of a sector on.
-struct Piece {
-    sector: u64,
-    place: usize,
-    bytes: &'static [u8],
-}
+/// A sector, a place in it, and the bytes from there on.
+type Piece = (u64, usize, &'static [u8]);
 
-/// What is changed on a fresh disk of `ECHO`, or on one of zeros. What a recovery then says, and
-/// its reads, writes and syncs where they are told.
-struct DamagedDisk {
-    name: &'static str,
-    is_created: bool,
-    pieces: &'static [Piece],
-    opens: Result<WorkerProgress, Halt>,
-    calls: Option<(u64, u64, u64)>,
-}
+/// What is changed on a fresh disk of `ECHO`, and what a recovery then says. Then its reads, writes
+/// and syncs, where they are told.
+type DamagedDisk = (
+    &'static str,
+    &'static [Piece],
+    Result<WorkerProgress, Halt>,
+    Option<(u64, u64, u64)>,
+);
 
-/// A fresh worker that was recovered.
-const FRESH: WorkerProgress = WorkerProgress {
-    generation: 2,
-    steps: 0,
-    answers: 0,
-    lines: 0,
-    replayed: 0,
-};
+const VERSION: Halt = Recovery(Layout(LayoutFault::Version));
 
-const VERSION: Halt = Halt::Recovery(RecoverFault::Layout(LayoutFault::Version));
+const TOO_SMALL: Halt = Recovery(Layout(LayoutFault::TooSmall));
 
-const TOO_SMALL: Halt = Halt::Recovery(RecoverFault::Layout(LayoutFault::TooSmall));
+const OTHER_MODULE_SECTORS: Halt = Recovery(Layout(Damaged(Damage::ModuleSectors)));
 
-const OTHER_MODULE_SECTORS: Halt = Halt::Recovery(RecoverFault::Layout(LayoutFault::Damaged(
-    Damage::ModuleSectors,
-)));
+const OTHER_DIGEST: Halt = Recovery(Layout(Damaged(Damage::ContentsDigest)));
 
-const OTHER_DIGEST: Halt = Halt::Recovery(RecoverFault::Layout(LayoutFault::Damaged(
-    Damage::ContentsDigest,
-)));
+const OTHER_AREA_SECTORS: Halt = Recovery(Layout(Damaged(Damage::AreaSectors)));
 
-const OTHER_AREA_SECTORS: Halt = Halt::Recovery(RecoverFault::Layout(LayoutFault::Damaged(
-    Damage::AreaSectors,
-)));
+const SHORT_JOURNAL: Halt = Recovery(Layout(Damaged(Damage::ShortJournal)));
 
-const SHORT_JOURNAL: Halt = Halt::Recovery(RecoverFault::Layout(LayoutFault::Damaged(
-    Damage::ShortJournal,
-)));
+const LATER_GENERATION: Halt = Recovery(Layout(Damaged(Damage::LaterGeneration)));
 
-const LATER_GENERATION: Halt = Halt::Recovery(RecoverFault::Layout(LayoutFault::Damaged(
-    Damage::LaterGeneration,
-)));
-
-const SNAPSHOT: Halt = Halt::Recovery(RecoverFault::Snapshot(SnapshotFault::Damaged));
+const SNAPSHOT: Halt = Recovery(RecoverFault::Snapshot(SnapshotFault::Damaged));
 
 const TOO_BIG: Halt = Halt::Work(WorkFault::Store(StoreFault::TooBig));
 
-const NO_IMAGE: Halt = Halt::Recovery(RecoverFault::ProcessImage(RestoreFault::NotAnImage));
+const NO_IMAGE: Halt = Recovery(RecoverFault::ProcessImage(RestoreFault::NotAnImage));
 
-const DIVERGED: Halt = Halt::Recovery(RecoverFault::Replay(ReplayFault::Diverged));
+const DIVERGED: Halt = Recovery(RecoverFault::Replay(ReplayFault::Diverged));
 
 /// A creation on a disk with too few sectors.
 const TOO_FEW: Halt = Halt::Work(WorkFault::Store(StoreFault::Layout(LayoutFault::TooSmall)));
 
 /// The lengths and digests of the image of `ECHO` at its start, of all but its last byte, and of it
 /// with a zero after it.
-const WHOLE: &[u8] = &[
-    0x13, 0x01, 0x01, 0x00, 0x00, 0x00, 0x00, 0x00, 0x5a, 0xd2, 0xa2, 0xbb, 0x20, 0x89, 0x86, 0x55,
-    0x43, 0x12, 0x22, 0x98, 0x9d, 0xe2, 0xca, 0x89, 0xed, 0x08, 0x24, 0x08, 0x5c, 0x16, 0x66, 0x78,
-    0x51, 0xcc, 0xe4, 0xf7, 0x49, 0xd8, 0xd7, 0x91,
-];
+const WHOLE: &[u8] =
+    b"\x13\x01\x01\0\0\0\0\0\x5a\xd2\xa2\xbb\x20\x89\x86\x55\x43\x12\x22\x98\x9d\xe2\xca\x89\xed\
+    \x08\x24\x08\x5c\x16fxQ\xcc\xe4\xf7\x49\xd8\xd7\x91";
 
-const SHORT: &[u8] = &[
-    0x12, 0x01, 0x01, 0x00, 0x00, 0x00, 0x00, 0x00, 0x77, 0x74, 0xf6, 0xf5, 0xde, 0x2b, 0xfe, 0x65,
-    0x15, 0x84, 0x26, 0xea, 0x30, 0xc7, 0xa5, 0x4a, 0xcd, 0x02, 0xce, 0xc5, 0x2d, 0xb6, 0xf1, 0x20,
-    0x26, 0x08, 0xa1, 0xd6, 0x8e, 0x83, 0xdb, 0x83,
-];
+const SHORT: &[u8] =
+    b"\x12\x01\x01\0\0\0\0\0\x77\x74\xf6\xf5\xde\x2b\xfe\x65\x15\x84\x26\xea\x30\xc7\xa5\x4a\xcd\
+    \x02\xce\xc5\x2d\xb6\xf1\x20\x26\x08\xa1\xd6\x8e\x83\xdb\x83";
 
-const LONG: &[u8] = &[
-    0x14, 0x01, 0x01, 0x00, 0x00, 0x00, 0x00, 0x00, 0xc1, 0x5c, 0xec, 0x9d, 0xe1, 0x99, 0x7d, 0x75,
-    0x78, 0xa9, 0x8d, 0xff, 0x46, 0xa0, 0x55, 0x05, 0x6a, 0x64, 0x87, 0x07, 0x72, 0xde, 0x38, 0x97,
-    0x1a, 0x0e, 0xbb, 0xb9, 0xf3, 0x51, 0x13, 0x96,
-];
+const LONG: &[u8] =
+    b"\x14\x01\x01\0\0\0\0\0\xc1\x5c\xec\x9d\xe1\x99\x7d\x75\x78\xa9\x8d\xff\x46\xa0\x55\x05\x6a\
+    \x64\x87\x07\x72\xde\x38\x97\x1a\x0e\xbb\xb9\xf3\x51\x13\x96";
 
 /// A record of a time, at the step of the first request.
-const TIME: &[u8] = &[
-    19, 0, 3, 6, 0, 0, 0, 0, 0, 0, 0, 8, 0, 1, 0, 0, 0, 0, 0, 0, 0,
-];
+const TIME: &[u8] = b"\x13\0\x03\x06\0\0\0\0\0\0\0\x08\0\x01\0\0\0\0\0\0\0";
 
 /// The same of a kind that there isn't, with a text.
-const UNKNOWN: &[u8] = &[
-    16, 0, 6, 6, 0, 0, 0, 0, 0, 0, 0, 5, 0, b'h', b'e', b'l', b'l', b'o',
-];
+const UNKNOWN: &[u8] = b"\x10\0\x06\x06\0\0\0\0\0\0\0\x05\0hello";
 
 /// Generation 1 and place 1.
-const STAMP: &[u8] = &[1, 0, 0, 0, 0, 0, 0, 0, 1, 0, 0, 0, 0, 0, 0, 0];
+const STAMP: &[u8] = b"\x01\0\0\0\0\0\0\0\x01\0\0\0\0\0\0\0";
 
 /// Generation 2 and place 1, and generation 2 and place 2.
-const LATER: &[u8] = &[2, 0, 0, 0, 0, 0, 0, 0, 1, 0, 0, 0, 0, 0, 0, 0];
+const LATER: &[u8] = b"\x02\0\0\0\0\0\0\0\x01\0\0\0\0\0\0\0";
 
-const LATER_BEHIND: &[u8] = &[2, 0, 0, 0, 0, 0, 0, 0, 2, 0, 0, 0, 0, 0, 0, 0];
+const LATER_BEHIND: &[u8] = b"\x02\0\0\0\0\0\0\0\x02\0\0\0\0\0\0\0";
 
 /// A later generation in the first sector of the journal.
-const LATER_JOURNAL: Piece = Piece {
-    sector: JOURNAL,
-    place: 496,
-    bytes: LATER,
-};
+const LATER_JOURNAL: Piece = (JOURNAL, 496, LATER);
 
 /// The length of an image of 1,179,923 bytes. An area has 1,179,648.
-const TOO_LONG: Piece = Piece {
-    sector: HEAD_1,
-    place: 18,
-    bytes: &[18],
-};
+const TOO_LONG: Piece = (HEAD_1, 18, &[18]);
 
 /// Where things lie on the disk of a worker of `ECHO`.
 const SUPER: u64 = 0;
@@ -136,376 +97,49 @@ const AREA_1: u64 = 2_308;
 
 const JOURNAL: u64 = 4_612;
 
-static DAMAGED_DISKS: [DamagedDisk; 33] = [
-    DamagedDisk {
-        name: "nothing",
-        is_created: true,
-        pieces: &[],
-        opens: Ok(FRESH),
-        calls: None,
-    },
-    DamagedDisk {
-        name: "the first mark",
-        is_created: true,
-        pieces: &[Piece {
-            sector: SUPER,
-            place: 0,
-            bytes: &[0],
-        }],
-        opens: Err(NO_WORKER),
-        calls: None,
-    },
-    DamagedDisk {
-        name: "the last mark",
-        is_created: true,
-        pieces: &[Piece {
-            sector: SUPER,
-            place: 511,
-            bytes: &[0],
-        }],
-        opens: Err(NO_WORKER),
-        calls: None,
-    },
-    DamagedDisk {
-        name: "another layout",
-        is_created: true,
-        pieces: &[Piece {
-            sector: SUPER,
-            place: 8,
-            bytes: &[2],
-        }],
-        opens: Err(VERSION),
-        calls: None,
-    },
-    DamagedDisk {
-        name: "a length that fits no configuration",
-        is_created: true,
-        pieces: &[Piece {
-            sector: SUPER,
-            place: 12,
-            bytes: &[27],
-        }],
-        opens: Err(OTHER_DIGEST),
-        calls: None,
-    },
-    DamagedDisk {
-        name: "another number of module sectors",
-        is_created: true,
-        pieces: &[Piece {
-            sector: SUPER,
-            place: 20,
-            bytes: &[2],
-        }],
-        opens: Err(OTHER_MODULE_SECTORS),
-        calls: None,
-    },
-    DamagedDisk {
-        name: "another length of the areas",
-        is_created: true,
-        pieces: &[Piece {
-            sector: SUPER,
-            place: 25,
-            bytes: &[10],
-        }],
-        opens: Err(OTHER_AREA_SECTORS),
-        calls: None,
-    },
-    DamagedDisk {
-        name: "another digest of the module",
-        is_created: true,
-        pieces: &[Piece {
-            sector: SUPER,
-            place: 32,
-            bytes: &[0, 0],
-        }],
-        opens: Err(OTHER_DIGEST),
-        calls: None,
-    },
-    DamagedDisk {
-        name: "another page limit",
-        is_created: true,
-        pieces: &[Piece {
-            sector: MODULE,
-            place: 0,
-            bytes: &[2],
-        }],
-        opens: Err(OTHER_DIGEST),
-        calls: None,
-    },
-    DamagedDisk {
-        name: "the last byte of the module",
-        is_created: true,
-        pieces: &[Piece {
-            sector: MODULE,
-            place: 220,
-            bytes: &[1],
-        }],
-        opens: Err(OTHER_DIGEST),
-        calls: None,
-    },
-    DamagedDisk {
-        name: "a version of the image that there isn't",
-        is_created: true,
-        pieces: &[Piece {
-            sector: HEAD_1,
-            place: 8,
-            bytes: &[3],
-        }],
-        opens: Err(VERSION),
-        calls: None,
-    },
-    DamagedDisk {
-        name: "such a version, and another byte of the image",
-        is_created: true,
-        pieces: &[
-            Piece {
-                sector: HEAD_1,
-                place: 8,
-                bytes: &[3],
-            },
-            Piece {
-                sector: AREA_1,
-                place: 190,
-                bytes: &[1],
-            },
-        ],
-        opens: Err(VERSION),
-        calls: None,
-    },
-    DamagedDisk {
-        name: "version 2 of the image, whose journal is too small for it",
-        is_created: true,
-        pieces: &[Piece {
-            sector: HEAD_1,
-            place: 8,
-            bytes: &[2],
-        }],
-        opens: Err(SHORT_JOURNAL),
-        calls: None,
-    },
-    DamagedDisk {
-        name: "version 2 with such a journal, and another byte of the image",
-        is_created: true,
-        pieces: &[
-            Piece {
-                sector: HEAD_1,
-                place: 8,
-                bytes: &[2],
-            },
-            Piece {
-                sector: AREA_1,
-                place: 190,
-                bytes: &[1],
-            },
-        ],
-        opens: Err(SHORT_JOURNAL),
-        calls: None,
-    },
-    DamagedDisk {
-        name: "no mark of a head",
-        is_created: true,
-        pieces: &[Piece {
-            sector: HEAD_1,
-            place: 0,
-            bytes: &[0],
-        }],
-        opens: Err(SNAPSHOT),
-        calls: None,
-    },
-    DamagedDisk {
-        name: "another place of a head",
-        is_created: true,
-        pieces: &[Piece {
-            sector: HEAD_1,
-            place: 504,
-            bytes: &[2],
-        }],
-        opens: Err(SNAPSHOT),
-        calls: None,
-    },
-    DamagedDisk {
-        name: "a generation of the other area",
-        is_created: true,
-        pieces: &[Piece {
-            sector: HEAD_1,
-            place: 496,
-            bytes: &[2],
-        }],
-        opens: Err(SNAPSHOT),
-        calls: None,
-    },
-    DamagedDisk {
-        name: "a length beyond the area",
-        is_created: true,
-        pieces: &[TOO_LONG],
-        opens: Err(SNAPSHOT),
-        calls: None,
-    },
-    DamagedDisk {
-        name: "the last generation",
-        is_created: true,
-        pieces: &[Piece {
-            sector: HEAD_1,
-            place: 496,
-            bytes: &[255, 255, 255, 255, 255, 255, 255, 127],
-        }],
-        opens: Err(TOO_BIG),
-        calls: None,
-    },
-    DamagedDisk {
-        name: "another digest of the image",
-        is_created: true,
-        pieces: &[Piece {
-            sector: HEAD_1,
-            place: 24,
-            bytes: &[0, 0],
-        }],
-        opens: Err(SNAPSHOT),
-        calls: None,
-    },
-    DamagedDisk {
-        name: "a byte of memory in the image",
-        is_created: true,
-        pieces: &[Piece {
-            sector: AREA_1,
-            place: 190,
-            bytes: &[1],
-        }],
-        opens: Err(SNAPSHOT),
-        calls: None,
-    },
-    DamagedDisk {
-        name: "the length and digest of the image",
-        is_created: true,
-        pieces: &[Piece {
-            sector: HEAD_1,
-            place: 16,
-            bytes: WHOLE,
-        }],
-        opens: Ok(FRESH),
-        calls: None,
-    },
-    DamagedDisk {
-        name: "one byte of the image fewer",
-        is_created: true,
-        pieces: &[Piece {
-            sector: HEAD_1,
-            place: 16,
-            bytes: SHORT,
-        }],
-        opens: Err(NO_IMAGE),
-        calls: None,
-    },
-    DamagedDisk {
-        name: "one byte of the image more",
-        is_created: true,
-        pieces: &[Piece {
-            sector: HEAD_1,
-            place: 16,
-            bytes: LONG,
-        }],
-        opens: Err(NO_IMAGE),
-        calls: None,
-    },
-    DamagedDisk {
-        name: "a record that fits no question",
-        is_created: true,
-        pieces: &[
-            Piece {
-                sector: JOURNAL,
-                place: 0,
-                bytes: TIME,
-            },
-            Piece {
-                sector: JOURNAL,
-                place: 496,
-                bytes: STAMP,
-            },
-        ],
-        opens: Err(DIVERGED),
-        calls: None,
-    },
-    DamagedDisk {
-        name: "a record of no kind",
-        is_created: true,
-        pieces: &[
-            Piece {
-                sector: JOURNAL,
-                place: 0,
-                bytes: UNKNOWN,
-            },
-            Piece {
-                sector: JOURNAL,
-                place: 496,
-                bytes: STAMP,
-            },
-        ],
-        opens: Ok(FRESH),
-        calls: None,
-    },
-    DamagedDisk {
-        name: "the same without its stamp",
-        is_created: true,
-        pieces: &[Piece {
-            sector: JOURNAL,
-            place: 0,
-            bytes: TIME,
-        }],
-        opens: Ok(FRESH),
-        calls: None,
-    },
-    DamagedDisk {
-        name: "a later generation",
-        is_created: true,
-        pieces: &[LATER_JOURNAL],
-        opens: Err(LATER_GENERATION),
-        calls: None,
-    },
-    DamagedDisk {
-        name: "a later generation of another place",
-        is_created: true,
-        pieces: &[Piece {
-            sector: JOURNAL,
-            place: 496,
-            bytes: LATER_BEHIND,
-        }],
-        opens: Ok(FRESH),
-        calls: None,
-    },
-    DamagedDisk {
-        name: "a later generation in the second sector",
-        is_created: true,
-        pieces: &[Piece {
-            sector: JOURNAL + 1,
-            place: 496,
-            bytes: LATER_BEHIND,
-        }],
-        opens: Ok(FRESH),
-        calls: None,
-    },
+#[rattlefmt::skip]
+static DAMAGED_DISKS: [DamagedDisk; 32] = [
+    ("nothing", &[], Ok(FRESH), None),
+    ("the first mark", &[(SUPER, 0, &[0])], Err(NO_WORKER), None),
+    ("the last mark", &[(SUPER, 511, &[0])], Err(NO_WORKER), None),
+    ("another layout", &[(SUPER, 8, &[2])], Err(VERSION), None),
+    ("a length that fits no configuration", &[(SUPER, 12, &[27])], Err(OTHER_DIGEST), None),
+    ("another number of module sectors", &[(SUPER, 20, &[2])], Err(OTHER_MODULE_SECTORS), None),
+    ("another length of the areas", &[(SUPER, 25, &[10])], Err(OTHER_AREA_SECTORS), None),
+    ("another digest of the module", &[(SUPER, 32, &[0, 0])], Err(OTHER_DIGEST), None),
+    ("another page limit", &[(MODULE, 0, &[2])], Err(OTHER_DIGEST), None),
+    ("the last byte of the module", &[(MODULE, 220, &[1])], Err(OTHER_DIGEST), None),
+    ("a version of the image that there isn't", &[(HEAD_1, 8, &[3])], Err(VERSION), None),
+    ("such a version, and another byte of the image", &[(HEAD_1, 8, &[3]), (AREA_1, 190, &[1])],
+        Err(VERSION), None),
+    ("version 2 of the image, whose journal is too small for it", &[(HEAD_1, 8, &[2])],
+        Err(SHORT_JOURNAL), None),
+    ("version 2 with such a journal, and another byte of the image",
+        &[(HEAD_1, 8, &[2]), (AREA_1, 190, &[1])], Err(SHORT_JOURNAL), None),
+    ("no mark of a head", &[(HEAD_1, 0, &[0])], Err(SNAPSHOT), None),
+    ("another place of a head", &[(HEAD_1, 504, &[2])], Err(SNAPSHOT), None),
+    ("a generation of the other area", &[(HEAD_1, 496, &[2])], Err(SNAPSHOT), None),
+    ("a length beyond the area", &[TOO_LONG], Err(SNAPSHOT), None),
+    ("the last generation", &[(HEAD_1, 496, &[255, 255, 255, 255, 255, 255, 255, 127])],
+        Err(TOO_BIG), None),
+    ("another digest of the image", &[(HEAD_1, 24, &[0, 0])], Err(SNAPSHOT), None),
+    ("a byte of memory in the image", &[(AREA_1, 190, &[1])], Err(SNAPSHOT), None),
+    ("the length and digest of the image", &[(HEAD_1, 16, WHOLE)], Ok(FRESH), None),
+    ("one byte of the image fewer", &[(HEAD_1, 16, SHORT)], Err(NO_IMAGE), None),
+    ("one byte of the image more", &[(HEAD_1, 16, LONG)], Err(NO_IMAGE), None),
+    ("a record that fits no question", &[(JOURNAL, 0, TIME), (JOURNAL, 496, STAMP)], Err(DIVERGED),
+        None),
+    ("a record of no kind", &[(JOURNAL, 0, UNKNOWN), (JOURNAL, 496, STAMP)], Ok(FRESH), None),
+    ("the same without its stamp", &[(JOURNAL, 0, TIME)], Ok(FRESH), None),
+    ("a later generation", &[LATER_JOURNAL], Err(LATER_GENERATION), None),
+    ("a later generation of another place", &[(JOURNAL, 496, LATER_BEHIND)], Ok(FRESH), None),
+    ("a later generation in the second sector", &[(JOURNAL + 1, 496, LATER_BEHIND)], Ok(FRESH),
+        None),
     // The super, the contents and both heads are read, and nothing else.
-    DamagedDisk {
-        name: "an image that isn't read",
-        is_created: true,
-        pieces: &[TOO_LONG],
-        opens: Err(SNAPSHOT),
-        calls: Some((4, 0, 1)),
-    },
+    ("an image that isn't read", &[TOO_LONG], Err(SNAPSHOT), Some((4, 0, 1))),
     // All of the image is read, and one sector of the journal, which shows a later generation.
-    DamagedDisk {
-        name: "the first sector of a journal",
-        is_created: true,
-        pieces: &[LATER_JOURNAL],
-        opens: Err(LATER_GENERATION),
-        calls: Some((4 + 129 + 1, 0, 1)),
-    },
-    DamagedDisk {
-        name: "a blank disk",
-        is_created: false,
-        pieces: &[],
-        opens: Err(NO_WORKER),
-        calls: None,
-    },
+    ("the first sector of a journal", &[LATER_JOURNAL], Err(LATER_GENERATION),
+        Some((4 + 129 + 1, 0, 1))),
 ];
 
 /// A sector with these bytes from this place on.
@@ -519,9 +153,9 @@ fn with_bytes(sector: [u8; 512], place: usize, bytes: &[u8]) -> [u8; 512] {
 
 fn put_each(disk: &mut MemDisk, pieces: &[Piece]) -> Result<(), DiskFault> {
     let mut sector = [0; 512];
-    for piece in pieces {
-        disk.read(piece.sector, &mut sector)?;
-        disk.write(piece.sector, &with_bytes(sector, piece.place, piece.bytes))?;
+    for (number, place, bytes) in pieces {
+        disk.read(*number, &mut sector)?;
+        disk.write(*number, &with_bytes(sector, *place, bytes))?;
     }
     Ok(())
 }
@@ -542,15 +176,6 @@ fn says<D: Disk>(alloc: Global, disk: &mut D) -> Result<Result<WorkerProgress, H
     }
 }
 
-/// The disk that a damage is done to.
-fn disk_of(alloc: Global, damage: &DamagedDisk) -> Result<MemDisk, Halt> {
-    if damage.is_created {
-        created_disk(alloc)
-    } else {
-        blank(alloc, SECTORS)
-    }
-}
-
 /// Whether a recovery says so after the damage, with so many calls.
 fn is_said_of(
     alloc: Global,
@@ -558,20 +183,28 @@ fn is_said_of(
     damage: &DamagedDisk,
 ) -> Result<bool, Halt> {
     let opens = says(alloc, disk)?;
-    let are_so_many = match damage.calls {
+    let are_so_many = match damage.3 {
         Some(calls) => disk.calls() == calls,
         None => true,
     };
-    Ok(opens == damage.opens && are_so_many)
+    Ok(opens == damage.2 && are_so_many)
 }
 
 fn is_told_so(alloc: Global, damage: &DamagedDisk) -> Result<bool, Halt> {
-    let mut disk = disk_of(alloc, damage)?;
-    put_each(&mut disk, damage.pieces)?;
+    let mut disk = created_disk(alloc)?;
+    put_each(&mut disk, damage.1)?;
     let mut counting = FaultDisk::new(disk, None, None);
     let is_so = is_said_of(alloc, &mut counting, damage);
     drop(counting);
     is_so
+}
+
+/// Whether a recovery finds no worker on a disk of zeros.
+fn is_blank_refused(alloc: Global) -> Result<bool, Halt> {
+    let mut disk = blank(alloc, SECTORS)?;
+    let opens = says(alloc, &mut disk);
+    drop(disk);
+    Ok(opens? == Err(NO_WORKER))
 }
 
 /// Whether a creation is refused for want of sectors, and writes nothing.
@@ -619,8 +252,9 @@ fn is_too_small(alloc: Global) -> Result<bool, Halt> {
 #[test]
 fn other_disks_are_refused(rt: HostRuntime) -> Result<(), Halt> {
     for damage in &DAMAGED_DISKS {
-        assert_row(&rt, is_told_so(rt.alloc(), damage)?, &damage.name);
+        assert_row(&rt, is_told_so(rt.alloc(), damage)?, &damage.0);
     }
+    assert_row(&rt, is_blank_refused(rt.alloc())?, &"a blank disk");
     assert_row(&rt, is_too_small(rt.alloc())?, &"a small disk");
     Ok(())
 }

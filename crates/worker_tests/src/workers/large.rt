@@ -20,26 +20,10 @@ const SECTORS: u64 = 8_516;
 /// A checkpoint into each area. Then a request, of which the image that is saved after it has a
 /// page that is another. Then two requests more.
 static PARTS: [Work; 4] = [
-    Work {
-        requests: &[],
-        fuel: 0,
-        is_saved: true,
-    },
-    Work {
-        requests: &[],
-        fuel: 0,
-        is_saved: true,
-    },
-    Work {
-        requests: &[b"hello"],
-        fuel: 1_000_000,
-        is_saved: true,
-    },
-    Work {
-        requests: &[b"again", b"world"],
-        fuel: 2_000_000,
-        is_saved: false,
-    },
+    (&[], 0, true),
+    (&[], 0, true),
+    (&[b"hello"], 1_000_000, true),
+    (&[b"again", b"world"], 2_000_000, false),
 ];
 
 /// The first question is asked after 5 steps. A request takes 600,024, the next question included.

@@ -4,23 +4,18 @@ use crate::guests::{ECHO, HELLO, SECTORS, SYNC_FOLDER, SYNC_OUTPUT, THREE, blank
 use crate::halt::Halt;
 use crate::rows::assert_row;
 use crate::workers::working::{
-    IDLE, Work, WorkerProgress, are_lines, create, live_on, open, was_stopped, work_on,
+    ANSWERED, FRESH, IDLE, Work, WorkerProgress, are_lines, create, live_on, open, was_stopped,
+    work_on,
 };
 use record_replay::LineList;
 use sector_disk::{FaultDisk, FaultPoint, MemDisk};
 use std::alloc::Global;
 use worker::Worker;
 
-/// Lines of the output, the first one with this number.
-struct Lines {
-    first: u64,
-    texts: &'static [&'static [u8]],
-}
+/// The number of the first line of the output, and the texts of all.
+type Lines = (u64, &'static [&'static [u8]]);
 
-const NONE: Lines = Lines {
-    first: 1,
-    texts: &[],
-};
+const NONE: Lines = (1, &[]);
 
 /// A first life after its creation, where it is stopped and what fronts are left. Then what the
 /// second one opens with, the lines that its recovery tells, what it does, and the lines of that.
@@ -41,116 +36,22 @@ const LONG: &[u8] = &[97; 400];
 const LONGER: &[u8] = &[97; 483];
 
 /// Up to the line of the first request.
-const FIRST: Work = Work {
-    requests: &[b"hello"],
-    fuel: 20,
-    is_saved: false,
-};
+const FIRST: Work = (&[b"hello"], 20, false);
 
 /// The same with another request.
-const OTHER: Work = Work {
-    requests: &[b"world"],
-    fuel: 20,
-    is_saved: false,
-};
+const OTHER: Work = (&[b"world"], 20, false);
 
 /// Up to the line of the second request.
-const BOTH: Work = Work {
-    requests: &[b"hello", b"world"],
-    fuel: 42,
-    is_saved: false,
-};
+const BOTH: Work = (&[b"hello", b"world"], 42, false);
 
 /// From the answer to its line.
-const TELLS: Work = Work {
-    requests: &[],
-    fuel: 14,
-    is_saved: false,
-};
+const TELLS: Work = (&[], 14, false);
 
 /// Up to the step behind the sync.
-const SYNCED: Work = Work {
-    requests: &[b"hello"],
-    fuel: 9,
-    is_saved: false,
-};
+const SYNCED: Work = (&[b"hello"], 9, false);
 
 /// All that a guest does who asks for nothing.
-const ALONE: Work = Work {
-    requests: &[],
-    fuel: 100,
-    is_saved: false,
-};
-
-/// The record isn't whole.
-const TORN: Story = Story {
-    name: "the record isn't whole",
-    guest: ECHO,
-    work: FIRST,
-    stop: Some(FaultPoint {
-        call: 1,
-        front: 504,
-    }),
-    tears: &[],
-    opens: WorkerProgress {
-        generation: 2,
-        steps: 0,
-        answers: 0,
-        lines: 0,
-        replayed: 0,
-    },
-    told: NONE,
-    goes_on: OTHER,
-    told_then: Lines {
-        first: 1,
-        texts: &[b"world"],
-    },
-};
-
-const WHOLE: Story = Story {
-    name: "all of the record's bytes that aren't zero",
-    guest: ECHO,
-    work: FIRST,
-    stop: Some(FaultPoint {
-        call: 1,
-        front: 505,
-    }),
-    tears: &[],
-    opens: WorkerProgress {
-        generation: 2,
-        steps: 6,
-        answers: 1,
-        lines: 0,
-        replayed: 6,
-    },
-    told: NONE,
-    goes_on: TELLS,
-    told_then: Lines {
-        first: 1,
-        texts: &[b"hello"],
-    },
-};
-
-const AGAIN: Story = Story {
-    name: "a line is told again",
-    guest: ECHO,
-    work: FIRST,
-    stop: None,
-    tears: &[],
-    opens: WorkerProgress {
-        generation: 2,
-        steps: 6,
-        answers: 1,
-        lines: 0,
-        replayed: 6,
-    },
-    told: NONE,
-    goes_on: TELLS,
-    told_then: Lines {
-        first: 1,
-        texts: &[b"hello"],
-    },
-};
+const ALONE: Work = (&[], 100, false);
 
 const RECOVERED: Story = Story {
     name: "a line is told in the recovery",
@@ -165,37 +66,9 @@ const RECOVERED: Story = Story {
         lines: 1,
         replayed: 28,
     },
-    told: Lines {
-        first: 1,
-        texts: &[b"hello"],
-    },
+    told: (1, &[b"hello"]),
     goes_on: TELLS,
-    told_then: Lines {
-        first: 2,
-        texts: &[b"world"],
-    },
-};
-
-const SAVED: Story = Story {
-    name: "a snapshot was taken",
-    guest: ECHO,
-    work: Work {
-        requests: &[b"hello", b"world"],
-        fuel: 42,
-        is_saved: true,
-    },
-    stop: None,
-    tears: &[],
-    opens: WorkerProgress {
-        generation: 3,
-        steps: 42,
-        answers: 2,
-        lines: 2,
-        replayed: 0,
-    },
-    told: NONE,
-    goes_on: IDLE,
-    told_then: NONE,
+    told_then: (2, &[b"world"]),
 };
 
 const UNASKED: Story = Story {
@@ -204,136 +77,48 @@ const UNASKED: Story = Story {
     work: ALONE,
     stop: None,
     tears: &[],
-    opens: WorkerProgress {
-        generation: 2,
-        steps: 0,
-        answers: 0,
-        lines: 0,
-        replayed: 0,
-    },
+    opens: FRESH,
     told: NONE,
     goes_on: ALONE,
-    told_then: Lines {
-        first: 1,
-        texts: &[b"hi"],
-    },
+    told_then: (1, &[b"hi"]),
 };
 
-const ENDED: Story = Story {
-    name: "a snapshot of its end",
-    guest: HELLO,
-    work: Work {
-        requests: &[],
-        fuel: 100,
-        is_saved: true,
-    },
-    stop: None,
-    tears: &[],
-    opens: WorkerProgress {
-        generation: 3,
-        steps: 8,
-        answers: 0,
-        lines: 1,
-        replayed: 0,
-    },
-    told: NONE,
-    goes_on: ALONE,
-    told_then: NONE,
-};
-
-/// Three records in three sectors. The stop is in the sync after them.
-const SECOND_TORN: Story = Story {
-    name: "the second of three sectors isn't whole",
-    guest: THREE,
-    work: Work {
-        requests: &[LONG, LONG, LONG],
-        fuel: 100,
-        is_saved: false,
-    },
-    stop: Some(FaultPoint { call: 4, front: 0 }),
-    tears: &[512, 499, 512],
-    opens: WorkerProgress {
-        generation: 2,
-        steps: 5,
-        answers: 1,
-        lines: 0,
-        replayed: 5,
-    },
-    told: NONE,
-    goes_on: IDLE,
-    told_then: NONE,
-};
-
-const FULL_TORN: Story = Story {
-    name: "the second of three full sectors isn't whole",
-    guest: THREE,
-    work: Work {
-        requests: &[LONGER, LONGER, LONGER],
-        fuel: 100,
-        is_saved: false,
-    },
-    stop: Some(FaultPoint { call: 4, front: 0 }),
-    tears: &[512, 499, 512],
-    opens: WorkerProgress {
-        generation: 2,
-        steps: 5,
-        answers: 1,
-        lines: 0,
-        replayed: 5,
-    },
-    told: NONE,
-    goes_on: IDLE,
-    told_then: NONE,
-};
-
-const SYNCED_FOLDER: Story = Story {
-    name: "a sync of the guest",
-    guest: SYNC_FOLDER,
-    work: SYNCED,
-    stop: None,
-    tears: &[],
-    opens: WorkerProgress {
-        generation: 2,
-        steps: 5,
-        answers: 1,
-        lines: 0,
-        replayed: 5,
-    },
-    told: NONE,
-    goes_on: IDLE,
-    told_then: NONE,
-};
-
-const SYNCED_OUTPUT: Story = Story {
-    name: "a sync that the guest was refused",
-    guest: SYNC_OUTPUT,
-    work: SYNCED,
-    stop: None,
-    tears: &[],
-    opens: WorkerProgress {
-        generation: 2,
-        steps: 0,
-        answers: 0,
-        lines: 0,
-        replayed: 0,
-    },
-    told: NONE,
-    goes_on: IDLE,
-    told_then: NONE,
-};
-
+#[rattlefmt::skip]
 static STORIES: [Story; 11] = [
-    TORN,
-    WHOLE,
-    AGAIN,
+    Story { name: "the record isn't whole", guest: ECHO, work: FIRST,
+        stop: Some(FaultPoint { call: 1, front: 504 }), tears: &[], opens: FRESH, told: NONE,
+        goes_on: OTHER, told_then: (1, &[b"world"]) },
+    Story { name: "all of the record's bytes that aren't zero", guest: ECHO, work: FIRST,
+        stop: Some(FaultPoint { call: 1, front: 505 }), tears: &[], opens: ANSWERED, told: NONE,
+        goes_on: TELLS, told_then: (1, &[b"hello"]) },
+    Story { name: "a line is told again", guest: ECHO, work: FIRST, stop: None, tears: &[],
+        opens: ANSWERED, told: NONE, goes_on: TELLS, told_then: (1, &[b"hello"]) },
     RECOVERED,
-    SAVED,
+    Story { name: "a snapshot was taken", guest: ECHO, work: (&[b"hello", b"world"], 42, true),
+        stop: None, tears: &[],
+        opens: WorkerProgress { generation: 3, steps: 42, answers: 2, lines: 2, replayed: 0 },
+        told: NONE, goes_on: IDLE, told_then: NONE },
     UNASKED,
-    ENDED,
-    SECOND_TORN,
-    FULL_TORN,
-    SYNCED_FOLDER,
-    SYNCED_OUTPUT,
+    Story { name: "a snapshot of its end", guest: HELLO, work: (&[], 100, true), stop: None,
+        tears: &[],
+        opens: WorkerProgress { generation: 3, steps: 8, answers: 0, lines: 1, replayed: 0 },
+        told: NONE, goes_on: ALONE, told_then: NONE },
+    // Three records in three sectors. The stop is in the sync after them.
+    Story { name: "the second of three sectors isn't whole", guest: THREE,
+        work: (&[LONG, LONG, LONG], 100, false), stop: Some(FaultPoint { call: 4, front: 0 }),
+        tears: &[512, 499, 512],
+        opens: WorkerProgress { generation: 2, steps: 5, answers: 1, lines: 0, replayed: 5 },
+        told: NONE, goes_on: IDLE, told_then: NONE },
+    Story { name: "the second of three full sectors isn't whole", guest: THREE,
+        work: (&[LONGER, LONGER, LONGER], 100, false), stop: Some(FaultPoint { call: 4, front: 0 }),
+        tears: &[512, 499, 512],
+        opens: WorkerProgress { generation: 2, steps: 5, answers: 1, lines: 0, replayed: 5 },
+        told: NONE, goes_on: IDLE, told_then: NONE },
+    Story { name: "a sync of the guest", guest: SYNC_FOLDER, work: SYNCED, stop: None, tears: &[],
+        opens: WorkerProgress { generation: 2, steps: 5, answers: 1, lines: 0, replayed: 5 },
+        told: NONE, goes_on: IDLE, told_then: NONE },
+    Story { name: "a sync that the guest was refused", guest: SYNC_OUTPUT, work: SYNCED, stop: None,
+        tears: &[], opens: FRESH, told: NONE, goes_on: IDLE, told_then: NONE },
 ];
 
 /// The disk that the worker leaves which was just made on this one, and whether it was stopped.
@@ -385,8 +170,8 @@ fn goes_on_so(alloc: Global, disk: &mut MemDisk, story: &Story) -> Result<bool, 
     let mut told = LineList::new(alloc);
     let mut told_then = LineList::new(alloc);
     let opens = live_on(alloc, disk, &mut told, &story.goes_on, &mut told_then);
-    let are_told = are_lines(&told, story.told.first, story.told.texts)
-        && are_lines(&told_then, story.told_then.first, story.told_then.texts);
+    let are_told = are_lines(&told, story.told.0, story.told.1)
+        && are_lines(&told_then, story.told_then.0, story.told_then.1);
     drop(told);
     drop(told_then);
     Ok(opens? == story.opens && are_told)

@@ -13,9 +13,7 @@ use worker::Worker;
 /// record: the length of the records, and one of step 6.
 const JOURNAL: u64 = 4_612;
 
-const HELLO_RECORD: [u8; 18] = [
-    16, 0, 1, 6, 0, 0, 0, 0, 0, 0, 0, 5, 0, b'h', b'e', b'l', b'l', b'o',
-];
+const HELLO_RECORD: [u8; 18] = *b"\x10\0\x01\x06\0\0\0\0\0\0\0\x05\0hello";
 
 /// The head of each area, and the first and last sector of an image there. Generation 1 is in area
 /// 1.
@@ -44,113 +42,43 @@ struct Cost {
 }
 
 /// A checkpoint and nothing else.
-const SAVE: Work = Work {
-    requests: &[],
-    fuel: 0,
-    is_saved: true,
-};
+const SAVE: Work = (&[], 0, true);
 
 /// A slice on one request, which the guest has taken.
-const ANSWERED: Work = Work {
-    requests: &[b"hello"],
-    fuel: 12,
-    is_saved: false,
-};
+const ANSWERED: Work = (&[b"hello"], 12, false);
 
 /// Up to its line.
-const TOLD: Work = Work {
-    requests: &[b"hello"],
-    fuel: 20,
-    is_saved: false,
-};
+const TOLD: Work = (&[b"hello"], 20, false);
 
 /// Three long requests, up to their line.
-const LONG_TOLD: Work = Work {
-    requests: &[&[97; 400], &[97; 400], &[97; 400]],
-    fuel: 27,
-    is_saved: false,
-};
+const LONG_TOLD: Work = (&[&[97; 400], &[97; 400], &[97; 400]], 27, false);
 
 /// And one step after it.
-const BEHIND: Work = Work {
-    requests: &[b"hello"],
-    fuel: 21,
-    is_saved: false,
-};
+const BEHIND: Work = (&[b"hello"], 21, false);
 
 /// Up to the next question.
-const ON: Work = Work {
-    requests: &[b"hello"],
-    fuel: 100,
-    is_saved: false,
-};
+const ON: Work = (&[b"hello"], 100, false);
 
 /// An image of `ECHO` has 129 sectors. Its first sector has the counts and the frames, and the last
 /// one its operands and streams.
+#[rattlefmt::skip]
 static COSTS: [Cost; 7] = [
-    Cost {
-        name: "a line: one sector, one sync",
-        guest: ECHO,
-        before: &[],
-        last: TOLD,
-        calls: (0, 1, 1),
-        changes: &[JOURNAL],
-        front: &HELLO_RECORD,
-    },
-    Cost {
-        name: "three records of 411 bytes: as many sectors as hold them",
-        guest: THREE,
-        before: &[],
-        last: LONG_TOLD,
-        calls: (0, 3, 1),
-        changes: &[JOURNAL, 4_613, 4_614],
-        front: &[],
-    },
-    Cost {
-        name: "an answer alone: nothing yet",
-        guest: ECHO,
-        before: &[],
-        last: ANSWERED,
-        calls: (0, 0, 0),
-        changes: &[],
-        front: &[],
-    },
-    Cost {
-        name: "an area of zeros: a head, and what isn't zero of the image",
-        guest: ECHO,
-        before: &[],
-        last: SAVE,
-        calls: (129, 3, 2),
-        changes: &[HEAD_0, AREA_0, LAST_0],
-        front: &[],
-    },
-    Cost {
-        name: "an image that its area holds: a head",
-        guest: ECHO,
-        before: &[SAVE],
-        last: SAVE,
-        calls: (129, 1, 2),
-        changes: &[HEAD_1],
-        front: &[],
-    },
-    Cost {
-        name: "a head, and the first sector of the image",
-        guest: ECHO,
-        before: &[SAVE, BEHIND],
-        last: SAVE,
-        calls: (129, 2, 2),
-        changes: &[HEAD_1, AREA_1],
-        front: &[],
-    },
-    Cost {
-        name: "a head, and the first and last sector",
-        guest: ECHO,
-        before: &[SAVE, TOLD],
-        last: SAVE,
-        calls: (129, 3, 2),
-        changes: &[HEAD_1, AREA_1, LAST_1],
-        front: &[],
-    },
+    Cost { name: "a line: one sector, one sync", guest: ECHO, before: &[], last: TOLD,
+        calls: (0, 1, 1), changes: &[JOURNAL], front: &HELLO_RECORD },
+    Cost { name: "three records of 411 bytes: as many sectors as hold them", guest: THREE,
+        before: &[], last: LONG_TOLD, calls: (0, 3, 1), changes: &[JOURNAL, 4_613, 4_614],
+        front: &[] },
+    Cost { name: "an answer alone: nothing yet", guest: ECHO, before: &[], last: ANSWERED,
+        calls: (0, 0, 0), changes: &[], front: &[] },
+    Cost { name: "an area of zeros: a head, and what isn't zero of the image", guest: ECHO,
+        before: &[], last: SAVE, calls: (129, 3, 2), changes: &[HEAD_0, AREA_0, LAST_0],
+        front: &[] },
+    Cost { name: "an image that its area holds: a head", guest: ECHO, before: &[SAVE], last: SAVE,
+        calls: (129, 1, 2), changes: &[HEAD_1], front: &[] },
+    Cost { name: "a head, and the first sector of the image", guest: ECHO, before: &[SAVE, BEHIND],
+        last: SAVE, calls: (129, 2, 2), changes: &[HEAD_1, AREA_1], front: &[] },
+    Cost { name: "a head, and the first and last sector", guest: ECHO, before: &[SAVE, TOLD],
+        last: SAVE, calls: (129, 3, 2), changes: &[HEAD_1, AREA_1, LAST_1], front: &[] },
 ];
 
 /// Does these parts, one after another.

@@ -47,57 +47,20 @@ struct Asked {
     steps: u64,
 }
 
+#[rattlefmt::skip]
 static ASKED: [Asked; 7] = [
-    Asked {
-        name: "a fault",
-        guest: ECHO,
-        requests: &[],
-        last: Last::Fault,
-        steps: 5,
-    },
-    Asked {
-        name: "a time",
-        guest: ECHO,
-        requests: &[],
-        last: Last::Realtime,
-        steps: 5,
-    },
-    Asked {
-        name: "a time that never falls",
-        guest: ECHO,
-        requests: &[],
-        last: Last::Monotonic,
-        steps: 5,
-    },
-    Asked {
-        name: "random bytes",
-        guest: ECHO,
-        requests: &[],
-        last: Last::Random,
-        steps: 5,
-    },
-    Asked {
-        name: "two lines",
-        guest: ECHO,
-        requests: &[],
-        last: Last::Text(b"two\nlines"),
-        steps: 5,
-    },
-    Asked {
-        name: "a longer text than there may be",
-        guest: ECHO,
-        requests: &[],
-        last: Last::Text(&[97; 4_097]),
-        steps: 5,
-    },
+    Asked { name: "a fault", guest: ECHO, requests: &[], last: Last::Fault, steps: 5 },
+    Asked { name: "a time", guest: ECHO, requests: &[], last: Last::Realtime, steps: 5 },
+    Asked { name: "a time that never falls", guest: ECHO, requests: &[], last: Last::Monotonic,
+        steps: 5 },
+    Asked { name: "random bytes", guest: ECHO, requests: &[], last: Last::Random, steps: 5 },
+    Asked { name: "two lines", guest: ECHO, requests: &[], last: Last::Text(b"two\nlines"),
+        steps: 5 },
+    Asked { name: "a longer text than there may be", guest: ECHO, requests: &[],
+        last: Last::Text(&[97; 4_097]), steps: 5 },
     // a record is kept by then, which is on no disk yet
-    Asked {
-        name: "a fault behind a request",
-        guest: THREE,
-        requests: &[b"hello"],
-        last: Last::Fault,
-        steps: 10,
-    },
+    Asked { name: "a fault behind a request", guest: THREE, requests: &[b"hello"],
+        last: Last::Fault, steps: 10 },
 ];
 
 fn random(alloc: Global) -> Result<Answer, Halt> {

@@ -4,7 +4,7 @@ use crate::guests::{ECHO, HELLO, SECTORS, blank};
 use crate::halt::{Halt, NO_WORKER};
 use crate::rows::assert_row;
 use crate::workers::working::{
-    Work, WorkerProgress, are_all_told, create, open, progress_of, was_stopped, work_on,
+    FRESH, WorkerProgress, are_all_told, create, open, progress_of, was_stopped, work_on,
 };
 use record_replay::{AnswerList, LineList};
 use sector_disk::{Disk, DiskFault, FaultDisk, FaultPoint, MemDisk};
@@ -26,10 +26,7 @@ static SAID: [Option<WorkFault>; 3] = [
 /// Generation 2 was found, and nothing was done yet.
 const SECOND: WorkerProgress = WorkerProgress {
     generation: 3,
-    steps: 0,
-    answers: 0,
-    lines: 0,
-    replayed: 0,
+    ..FRESH
 };
 
 /// How many calls of the disk were begun.
@@ -135,88 +132,32 @@ struct Task {
 
 const CREATED: WorkerProgress = WorkerProgress {
     generation: 1,
-    steps: 0,
-    answers: 0,
-    lines: 0,
-    replayed: 0,
+    ..FRESH
 };
 
+#[rattlefmt::skip]
 const ECHOES: Task = Task {
-    guest: ECHO,
-    requests: &[b"hello", b"world"],
-    fuel: 100,
-    is_saved: true,
+    guest: ECHO, requests: &[b"hello", b"world"], fuel: 100, is_saved: true,
     texts: &[b"hello", b"world"],
     opens: [
-        CREATED,
-        WorkerProgress {
-            generation: 3,
-            steps: 49,
-            answers: 2,
-            lines: 2,
-            replayed: 0,
-        },
-        WorkerProgress {
-            generation: 5,
-            steps: 49,
-            answers: 2,
-            lines: 2,
-            replayed: 0,
-        },
+        CREATED, WorkerProgress { generation: 3, steps: 49, answers: 2, lines: 2, replayed: 0 },
+        WorkerProgress { generation: 5, steps: 49, answers: 2, lines: 2, replayed: 0 },
     ],
 };
 
+#[rattlefmt::skip]
 static TASKS: [Task; 3] = [
-    Task {
-        guest: HELLO,
-        requests: &[],
-        fuel: 100,
-        is_saved: true,
-        texts: &[b"hi"],
-        opens: [
-            CREATED,
-            WorkerProgress {
-                generation: 3,
-                steps: 8,
-                answers: 0,
-                lines: 1,
-                replayed: 0,
-            },
-            WorkerProgress {
-                generation: 5,
-                steps: 8,
-                answers: 0,
-                lines: 1,
-                replayed: 0,
-            },
-        ],
-    },
+    Task { guest: HELLO, requests: &[], fuel: 100, is_saved: true, texts: &[b"hi"], opens: [
+        CREATED, WorkerProgress { generation: 3, steps: 8, answers: 0, lines: 1, replayed: 0 },
+        WorkerProgress { generation: 5, steps: 8, answers: 0, lines: 1, replayed: 0 },
+    ] },
     ECHOES,
     // up to the second line, and a cut: the second life tells both lines again
-    Task {
-        guest: ECHO,
-        requests: &[b"hello", b"world"],
-        fuel: 42,
-        is_saved: false,
-        texts: &[b"hello", b"world"],
-        opens: [
-            CREATED,
-            WorkerProgress {
-                generation: 2,
-                steps: 28,
-                answers: 2,
-                lines: 1,
-                replayed: 28,
-            },
-            WorkerProgress {
-                generation: 3,
-                steps: 28,
-                answers: 2,
-                lines: 1,
-                replayed: 0,
-            },
-        ],
-    },
+    Task { guest: ECHO, requests: &[b"hello", b"world"], fuel: 42, is_saved: false,
+        texts: &[b"hello", b"world"], opens: [
+        CREATED, WorkerProgress { generation: 2, steps: 28, answers: 2, lines: 1, replayed: 28 },
+        WorkerProgress { generation: 3, steps: 28, answers: 2, lines: 1, replayed: 0 },
+    ] },
 ];
 
 /// The worker that the disk stands for, or a new one where there is none.
@@ -258,11 +199,7 @@ fn finish<D: Disk>(
     let Some(requests) = task.requests.get(answers..) else {
         return Err(Halt::Answers);
     };
-    let work = Work {
-        requests,
-        fuel: task.fuel,
-        is_saved: task.is_saved,
-    };
+    let work = (requests, task.fuel, task.is_saved);
     work_on(alloc, worker, disk, &work, told)
 }
 

@@ -24,11 +24,7 @@ const SECTORS: u64 = 4_745;
 const FEW: &[&[u8]] = &[b"one", b"two", b"three"];
 
 /// All that a guest does on these requests, saved in the end.
-const SAVED: Work = Work {
-    requests: FEW,
-    fuel: 1_000,
-    is_saved: true,
-};
+const SAVED: Work = (FEW, 1_000, true);
 
 /// What is read of a worker.
 #[derive(Clone, Copy, PartialEq, Eq)]
@@ -75,107 +71,41 @@ const WIDE: Left = Left {
     ..ECHOED
 };
 
+#[rattlefmt::skip]
 static SUCCESSIONS: [Succession; 8] = [
-    Succession {
-        name: "one that waits for a request",
-        guest: Some(ECHO),
-        work: SAVED,
-        is_upgraded: false,
-        leaves: Ok(ECHOED),
+    Succession { name: "one that waits for a request", guest: Some(ECHO), work: SAVED,
+        is_upgraded: false, leaves: Ok(ECHOED),
         next: Some(Next {
-            guest: ECHO,
-            journal: 64,
-            says: Ok(()),
-            requests: &[b"four"],
-            first: 4,
+            guest: ECHO, journal: 64, says: Ok(()), requests: &[b"four"], first: 4,
             lines: &[b"four"],
-        }),
-    },
-    Succession {
-        name: "one of version 2, and a guest that reads three requests for a line",
-        guest: Some(ECHO),
-        work: SAVED,
-        is_upgraded: true,
-        leaves: Ok(WIDE),
+        }) },
+    Succession { name: "one of version 2, and a guest that reads three requests for a line",
+        guest: Some(ECHO), work: SAVED, is_upgraded: true, leaves: Ok(WIDE),
         next: Some(Next {
-            guest: THREE,
-            journal: JOURNAL,
-            says: Ok(()),
-            requests: FEW,
-            first: 4,
+            guest: THREE, journal: JOURNAL, says: Ok(()), requests: FEW, first: 4,
             lines: &[b"three"],
-        }),
-    },
-    Succession {
-        name: "one of version 2, and a journal that is too small for that",
-        guest: Some(ECHO),
-        work: SAVED,
-        is_upgraded: true,
-        leaves: Ok(WIDE),
+        }) },
+    Succession { name: "one of version 2, and a journal that is too small for that",
+        guest: Some(ECHO), work: SAVED, is_upgraded: true, leaves: Ok(WIDE),
         next: Some(Next {
-            guest: ECHO,
-            journal: 132,
-            says: Err(WorkFault::Upgrade(UpgradeFault::JournalTooSmall)),
-            requests: &[],
-            first: 4,
-            lines: &[],
-        }),
-    },
-    Succession {
-        name: "one that has ended",
-        guest: Some(HELLO),
-        work: SAVED,
-        is_upgraded: false,
-        leaves: Ok(Left {
-            requests: 0,
-            lines: 1,
-            dropped: 0,
-            version: Version::One,
-        }),
+            guest: ECHO, journal: 132, says: Err(WorkFault::Upgrade(UpgradeFault::JournalTooSmall)),
+            requests: &[], first: 4, lines: &[],
+        }) },
+    Succession { name: "one that has ended", guest: Some(HELLO), work: SAVED, is_upgraded: false,
+        leaves: Ok(Left { requests: 0, lines: 1, dropped: 0, version: Version::One }),
         next: Some(Next {
-            guest: HELLO,
-            journal: 64,
-            says: Ok(()),
-            requests: &[],
-            first: 2,
-            lines: &[b"hi"],
-        }),
-    },
-    Succession {
-        name: "records come after the snapshot",
-        guest: Some(ECHO),
-        work: Work {
-            is_saved: false,
-            ..SAVED
-        },
-        is_upgraded: false,
-        leaves: Err(LeaveFault::NotParked),
-        next: None,
-    },
-    Succession {
-        name: "one that has not begun",
-        guest: Some(ECHO),
-        work: IDLE,
-        is_upgraded: false,
-        leaves: Err(LeaveFault::NotParked),
-        next: None,
-    },
-    Succession {
-        name: "one that runs",
-        guest: Some(SYNC_FOLDER),
-        work: SAVED,
-        is_upgraded: false,
-        leaves: Err(LeaveFault::NotParked),
-        next: None,
-    },
-    Succession {
-        name: "no worker",
-        guest: None,
-        work: IDLE,
-        is_upgraded: false,
+            guest: HELLO, journal: 64, says: Ok(()), requests: &[], first: 2, lines: &[b"hi"],
+        }) },
+    Succession { name: "records come after the snapshot", guest: Some(ECHO),
+        work: (FEW, 1_000, false), is_upgraded: false, leaves: Err(LeaveFault::NotParked),
+        next: None },
+    Succession { name: "one that has not begun", guest: Some(ECHO), work: IDLE, is_upgraded: false,
+        leaves: Err(LeaveFault::NotParked), next: None },
+    Succession { name: "one that runs", guest: Some(SYNC_FOLDER), work: SAVED, is_upgraded: false,
+        leaves: Err(LeaveFault::NotParked), next: None },
+    Succession { name: "no worker", guest: None, work: IDLE, is_upgraded: false,
         leaves: Err(LeaveFault::Recover(RecoverFault::Layout(LayoutFault::NotAWorker))),
-        next: None,
-    },
+        next: None },
 ];
 
 /// Does the work, and then upgrades the worker where that is wanted.
@@ -263,11 +193,7 @@ fn is_said_so(
 
 /// Whether the first life of the next worker tells these lines.
 fn tells_so(alloc: Global, disk: &mut MemDisk, next: &Next) -> Result<bool, Halt> {
-    let work = Work {
-        requests: next.requests,
-        fuel: 1_000,
-        is_saved: true,
-    };
+    let work = (next.requests, 1_000, true);
     let mut told = LineList::new(alloc);
     let mut then = LineList::new(alloc);
     let lived = live_on(alloc, disk, &mut told, &work, &mut then);

@@ -5,7 +5,8 @@ use crate::guests::{ECHO, RANDOM, blank};
 use crate::halt::Halt;
 use crate::rows::assert_row;
 use crate::workers::working::{
-    IDLE, Work, WorkerProgress, are_lines, create_with, progress_of, work_on,
+    ANSWERED, FRESH, IDLE, Mishap, Work, WorkerProgress, are_lines, create_with, progress_of,
+    work_on,
 };
 use record_replay::{AnswerList, LineList};
 use sector_disk::{Disk, FaultDisk, FaultPoint, MemDisk};
@@ -27,32 +28,16 @@ const NOT_CAUGHT_UP: WorkFault = WorkFault::Upgrade(UpgradeFault::NotCaughtUp);
 const FAILED: WorkFault = WorkFault::Work(SliceFault::Failed);
 
 /// All that a guest does who asks for nothing.
-const ALONE: Work = Work {
-    requests: &[],
-    fuel: 100,
-    is_saved: false,
-};
+const ALONE: Work = (&[], 100, false);
 
 /// The same, saved in the end.
-const SAVED: Work = Work {
-    requests: &[],
-    fuel: 100,
-    is_saved: true,
-};
+const SAVED: Work = (&[], 100, true);
 
 /// Up to the question behind a line.
-const ECHOED: Work = Work {
-    requests: &[b"hello"],
-    fuel: 100,
-    is_saved: false,
-};
+const ECHOED: Work = (&[b"hello"], 100, false);
 
 /// An answer that only memory holds.
-const ANSWERED: Work = Work {
-    requests: &[b"hello"],
-    fuel: 12,
-    is_saved: false,
-};
+const ANSWERS: Work = (&[b"hello"], 12, false);
 
 /// What a first life does, which is cut, if there is one; and what the next one does before it is
 /// upgraded twice. What the two upgrades say, and the version then.
@@ -66,79 +51,25 @@ struct Case {
     version: Version,
 }
 
+#[rattlefmt::skip]
 static CASES: [Case; 8] = [
-    Case {
-        name: "a journal of 132 sectors",
-        guest: ECHO,
-        journal: 132,
-        first: None,
-        next: IDLE,
-        says: [Some(TOO_SMALL), Some(FAILED)],
-        version: Version::One,
-    },
-    Case {
-        name: "a fresh worker, and one of version 2",
-        guest: ECHO,
-        journal: JOURNAL,
-        first: None,
-        next: IDLE,
-        says: [None, None],
-        version: Version::Two,
-    },
-    Case {
-        name: "a line beyond it was told in an earlier life",
-        guest: RANDOM,
-        journal: JOURNAL,
-        first: Some(ALONE),
-        next: IDLE,
-        says: [Some(NOT_CAUGHT_UP), Some(FAILED)],
-        version: Version::One,
-    },
-    Case {
-        name: "the journal is judged first",
-        guest: RANDOM,
-        journal: 132,
-        first: Some(ALONE),
-        next: IDLE,
-        says: [Some(TOO_SMALL), Some(FAILED)],
-        version: Version::One,
-    },
-    Case {
-        name: "it has ended",
-        guest: RANDOM,
-        journal: JOURNAL,
-        first: Some(ALONE),
-        next: ALONE,
-        says: [None, None],
-        version: Version::Two,
-    },
-    Case {
-        name: "it had ended when it was saved",
-        guest: RANDOM,
-        journal: JOURNAL,
-        first: Some(SAVED),
-        next: IDLE,
-        says: [None, None],
-        version: Version::Two,
-    },
-    Case {
-        name: "it may have told a line",
-        guest: ECHO,
-        journal: JOURNAL,
-        first: Some(ECHOED),
-        next: IDLE,
-        says: [Some(NOT_CAUGHT_UP), Some(FAILED)],
-        version: Version::One,
-    },
-    Case {
-        name: "it has asked",
-        guest: ECHO,
-        journal: JOURNAL,
-        first: Some(ECHOED),
-        next: ALONE,
-        says: [None, None],
-        version: Version::Two,
-    },
+    Case { name: "a journal of 132 sectors", guest: ECHO, journal: 132, first: None, next: IDLE,
+        says: [Some(TOO_SMALL), Some(FAILED)], version: Version::One },
+    Case { name: "a fresh worker, and one of version 2", guest: ECHO, journal: JOURNAL, first: None,
+        next: IDLE, says: [None, None], version: Version::Two },
+    Case { name: "a line beyond it was told in an earlier life", guest: RANDOM, journal: JOURNAL,
+        first: Some(ALONE), next: IDLE, says: [Some(NOT_CAUGHT_UP), Some(FAILED)],
+        version: Version::One },
+    Case { name: "the journal is judged first", guest: RANDOM, journal: 132, first: Some(ALONE),
+        next: IDLE, says: [Some(TOO_SMALL), Some(FAILED)], version: Version::One },
+    Case { name: "it has ended", guest: RANDOM, journal: JOURNAL, first: Some(ALONE), next: ALONE,
+        says: [None, None], version: Version::Two },
+    Case { name: "it had ended when it was saved", guest: RANDOM, journal: JOURNAL,
+        first: Some(SAVED), next: IDLE, says: [None, None], version: Version::Two },
+    Case { name: "it may have told a line", guest: ECHO, journal: JOURNAL, first: Some(ECHOED),
+        next: IDLE, says: [Some(NOT_CAUGHT_UP), Some(FAILED)], version: Version::One },
+    Case { name: "it has asked", guest: ECHO, journal: JOURNAL, first: Some(ECHOED), next: ALONE,
+        says: [None, None], version: Version::Two },
 ];
 
 /// What two upgrades say after this work.
@@ -297,24 +228,6 @@ const PART: u16 = 504;
 /// Or nothing, all but a byte of the stamp, or all of it.
 static PREFIXES: [u16; 4] = [PART, 0, 511, 512];
 
-/// No record is left.
-const NOTHING: WorkerProgress = WorkerProgress {
-    generation: 2,
-    steps: 0,
-    answers: 0,
-    lines: 0,
-    replayed: 0,
-};
-
-/// The record is left, in version 1.
-const NARROW: WorkerProgress = WorkerProgress {
-    generation: 2,
-    steps: 6,
-    answers: 1,
-    lines: 0,
-    replayed: 6,
-};
-
 /// The process is left, in version 2. That it was widened counts as an answer.
 const WIDE: WorkerProgress = WorkerProgress {
     generation: 3,
@@ -323,13 +236,6 @@ const WIDE: WorkerProgress = WorkerProgress {
     lines: 0,
     replayed: 0,
 };
-
-/// What befalls an upgrade at a call of the disk.
-#[derive(Clone, Copy)]
-enum Mishap {
-    Stop,
-    Failure,
-}
 
 /// The disk on which an upgrade meets with a mishap, and whether it and the next one say so.
 fn meets(
@@ -371,7 +277,7 @@ fn found(
     place: FaultPoint,
 ) -> Result<Option<MemDisk>, Halt> {
     let mut told = LineList::new(alloc);
-    let worked = work_on(alloc, worker, &mut disk, &ANSWERED, &mut told);
+    let worked = work_on(alloc, worker, &mut disk, &ANSWERS, &mut told);
     drop(told);
     worked?;
     let (disk_after, is_said) = meets(alloc, worker, disk, mishap, place);
@@ -407,7 +313,7 @@ fn opens_on(alloc: Global, mut disk: MemDisk) -> Result<(Version, WorkerProgress
 /// Whether it is whole in the one version or the other. Once the barrier is done it has the answer.
 fn is_whole(opened: (Version, WorkerProgress), place: FaultPoint) -> bool {
     match opened {
-        (Version::One, stand) => stand == NARROW || (stand == NOTHING && place.call <= BARRIER),
+        (Version::One, stand) => stand == ANSWERED || (stand == FRESH && place.call <= BARRIER),
         (Version::Two, stand) => stand == WIDE && BARRIER < place.call,
     }
 }

@@ -8,6 +8,13 @@ use std::alloc::Global;
 use wasi_calls_rules::OutputStream;
 use worker::{WorkFault, Worker};
 
+/// What befalls a life or an upgrade at a call of its disk.
+#[derive(Clone, Copy)]
+pub(crate) enum Mishap {
+    Stop,
+    Failure,
+}
+
 /// Where a worker is.
 #[derive(Clone, Copy, PartialEq, Eq)]
 pub(crate) struct WorkerProgress {
@@ -29,20 +36,28 @@ pub(crate) fn progress_of(worker: &Worker) -> WorkerProgress {
     }
 }
 
-/// What a worker is told to do: requests are there, so many steps may be taken, and then it is
-/// saved or not.
-#[derive(Clone, Copy)]
-pub(crate) struct Work {
-    pub(crate) requests: &'static [&'static [u8]],
-    pub(crate) fuel: u64,
-    pub(crate) is_saved: bool,
-}
+/// What a worker is told to do: the requests that are there, how many steps may be taken, and
+/// whether it is saved then.
+pub(crate) type Work = (&'static [&'static [u8]], u64, bool);
 
 /// Nothing at all.
-pub(crate) const IDLE: Work = Work {
-    requests: &[],
-    fuel: 0,
-    is_saved: false,
+pub(crate) const IDLE: Work = (&[], 0, false);
+
+/// A fresh worker that was recovered.
+pub(crate) const FRESH: WorkerProgress = WorkerProgress {
+    generation: 2,
+    steps: 0,
+    answers: 0,
+    lines: 0,
+    replayed: 0,
+};
+
+/// One of `ECHO` that was recovered once it had its first answer.
+pub(crate) const ANSWERED: WorkerProgress = WorkerProgress {
+    steps: 6,
+    answers: 1,
+    replayed: 6,
+    ..FRESH
 };
 
 /// A worker of this guest with one page and 64 sectors of records, on this disk.
@@ -89,8 +104,8 @@ fn run<D: Disk>(
     source: &mut AnswerList,
     told: &mut LineList,
 ) -> Result<(), Halt> {
-    match worker.slice(disk, work.fuel, source, told) {
-        Ok(_now) => save(worker, disk, told, work.is_saved),
+    match worker.slice(disk, work.1, source, told) {
+        Ok(_now) => save(worker, disk, told, work.2),
         Err(fault) => Err(Halt::from(fault)),
     }
 }
@@ -103,7 +118,7 @@ pub(crate) fn work_on<D: Disk>(
     work: &Work,
     told: &mut LineList,
 ) -> Result<(), Halt> {
-    let mut source = AnswerList::new(requests(alloc, work.requests)?);
+    let mut source = AnswerList::new(requests(alloc, work.0)?);
     let worked = run(worker, disk, work, &mut source, told);
     drop(source);
     worked
