@@ -1,3 +1,4 @@
 mod PathLemmas
 mod NodeLemmas
 mod NameLemmas
+mod ParentLemmas

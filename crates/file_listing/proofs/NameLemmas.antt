@@ -1,6 +1,6 @@
 -- The names of listed paths are names that a node may have, so their text is UTF-8.
-use Rattle.std.proofs.Common.{◌≡◌, ℕ, zero, suc, ◌+◌, ◌≤◌, ◌<◌, Bool, true, false, cond, arith}
-use Rattle.std.proofs.Common.{List, [], ◌∷◌, ◌++◌, length, Option, Some, None, refl, ap, sym, ◌∙◌}
+use Rattle.std.proofs.Common.{◌≡◌, ℕ, zero, suc, ◌+◌, ◌≤◌, Bool, true, false, cond, arith}
+use Rattle.std.proofs.Common.{List, [], ◌∷◌, ◌++◌, length, Option, Some, None, refl, ap, sym}
 use Rattle.std.proofs.Common.{subst, All, inl, inr}
 use Rattle.std.specs.List.{AllByRecursion, cons_option, filter_map, find}
 use Rattle.std.specs.Option.{option_and_then}
@@ -10,7 +10,7 @@ use Rattle.std.proofs.lemmas.List.{length_push}
 use Rattle.std.proofs.lemmas.Option.{same_Some}
 use Rattle.std.proofs.lemmas.Str.{IsUtf8-append, IsUtf8-from_ascii}
 use Rattle.file_tree.specs.rules.Files.{Name, Path, Files, FileNode, IsFiles, IsNodeName, IsPlaced}
-use Rattle.file_tree.specs.rules.Files.{path_of, slash}
+use Rattle.file_tree.specs.rules.Files.{slash}
 use Rattle.file_listing.specs.declared.listed.ListedNode.{ListedNode}
 use Rattle.file_listing.specs.rules.Listed.{HaveNames, IsPathText, listed_at, listed_of, listing_in}
 use Rattle.file_listing.specs.rules.Listed.{path_text}

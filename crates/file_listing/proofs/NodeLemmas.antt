@@ -1,18 +1,18 @@
 -- What is listed of the nodes of a tree.
-use Rattle.std.proofs.Common.{◌≡◌, ◌≢◌, ℕ, zero, suc, ◌+◌, ◌≤◌, eqb, List, [], ◌∷◌, ◌++◌, take}
-use Rattle.std.proofs.Common.{Option, Some, None, refl, sym, ap, subst, ◌∙◌, arith}
+use Rattle.std.proofs.Common.{◌≡◌, ◌≢◌, ℕ, zero, suc, ◌+◌, ◌≤◌, eqb, List, [], ◌∷◌, ◌++◌}
+use Rattle.std.proofs.Common.{length, take, Option, Some, None, refl, sym, ap, subst, ◌∙◌, arith}
 use Rattle.std.specs.Prelude.{find, option_map, option_to_list, slice_get}
 use Rattle.std.specs.Option.{option_and_then}
 use Rattle.std.specs.List.{filter_map}
 use Rattle.std.proofs.lemmas.Bool.{eq-eqb, ne_eqb}
-use Rattle.std.proofs.lemmas.List.{take_more}
+use Rattle.std.proofs.lemmas.List.{take_all, take_more}
 use Rattle.std.proofs.lemmas.List.Elements.{filter_map-append}
 use Rattle.std.proofs.lemmas.Option.{slice_get_within, get_or_from_slice_get, same_Some}
 use Rattle.file_tree.specs.rules.Files.{Name, Path, Files, FileNode, IsFiles, AreRising, node_of}
 use Rattle.file_tree.specs.rules.Files.{path_of}
 use Rattle.file_tree.specs.rules.Listings.{number_at}
 use Rattle.file_listing.specs.declared.listed.ListedNode.{ListedNode}
-use Rattle.file_listing.specs.rules.Listed.{listed_at, listed_of}
+use Rattle.file_listing.specs.rules.Listed.{listed_at, listed_of, listing_in}
 use Rattle.file_listing.proofs.PathLemmas.{no_names}
 
 -- ---- one node
@@ -73,6 +73,12 @@ place_found fs i k are at = by (slice_get fs.nodes i) refl at where
             (own_place 1 fs.nodes fs.next i n are.rising is).1,
         own,
       )
+
+-- what was listed of all nodes
+pub all_listed : (fs : Files) (nodes : List ListedNode) (place : ℕ)
+    → nodes ≡ filter_map listed_of (take place fs.nodes) → length fs.nodes ≤ place
+    → nodes ≡ listing_in fs
+all_listed fs nodes place is over = is ∙ ap (filter_map listed_of) (take_all place fs.nodes over)
 
 -- the list of a front with one node more
 pub listed_more : (ns : List FileNode) (i : ℕ) (n : FileNode) → slice_get ns i ≡ Some n

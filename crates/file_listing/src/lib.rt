@@ -12,7 +12,8 @@
 //! - `list_nodes`: the nodes that have a path, but for the root, by rising numbers. Each has its
 //!   number, whether it is a directory, its size and its path (`listing_in`). A node that was
 //!   removed isn't among them, though a descriptor may name it still. Each path is UTF-8 without a
-//!   byte 0, and none of its names is empty, `.` or `..` (`HaveNames`).
+//!   byte 0, and none of its names is empty, `.` or `..` (`HaveNames`). The directory of each is
+//!   listed, too, but the root (`HaveParents`).
 //! - `read_path`: the bytes of the file that is listed under a path. Or no node is listed so, or it
 //!   is a directory (`ReadsPath`). `read_node`: the bytes of the node with a number.
 //!

@@ -3,7 +3,8 @@
 ghost use Rattle.std.specs.Prelude.{◌≡◌, ◌++◌, IfOk, OnOk, Some, option_to_list};
 ghost use Rattle.file_tree.specs.rules.Changes.{path_at};
 ghost use Rattle.file_tree.specs.rules.Files.{FileNode, node_of};
-ghost use Rattle.file_listing.specs.rules.Listed.{HaveNames, path_text, listed_of, listing_in};
+ghost use Rattle.file_listing.specs.rules.Listed.{HaveNames, HaveParents, path_text, listed_of};
+ghost use Rattle.file_listing.specs.rules.Listed.{listing_in};
 ghost use Rattle.file_listing.specs.Separators.{separator_behind};
 
 use crate::listed::ListedNode;
@@ -66,6 +67,7 @@ fn push_some(nodes: &mut Vec<ListedNode>, node: Option<ListedNode>) -> Result<()
 pub fn list_nodes(alloc: Global, tree: &Tree) -> Result<Vec<ListedNode>, AllocError>
     ensures all { IfOk result (λ nodes. nodes.items ≡ listing_in tree.now) }
     ensures named { IfOk result (λ nodes. HaveNames nodes.items) }
+    ensures parents { IfOk result (λ nodes. HaveParents nodes.items) }
 {
     let mut nodes = Vec::new(alloc);
     let count = tree.len();

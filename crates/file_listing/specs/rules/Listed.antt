@@ -1,6 +1,6 @@
 -- The nodes of a tree that are listed, by their paths (this project's own).
-use Rattle.std.specs.Prelude.{◌≡◌, ◌≢◌, ℕ, true, false, List, [], ◌∷◌, ◌++◌, length, Option, Some}
-use Rattle.std.specs.Prelude.{None, Result, Ok, Err, Contains, All, Vec}
+use Rattle.std.specs.Prelude.{◌≡◌, ◌≢◌, ◌⊎◌, ℕ, true, false, List, [], ◌∷◌, ◌++◌, length, Option}
+use Rattle.std.specs.Prelude.{Some, None, Result, Ok, Err, Contains, All, Vec}
 use Rattle.std.specs.List.{AllByRecursion, filter_map}
 use Rattle.std.specs.declared.alloc.Global.{Global}
 use Rattle.file_tree.specs.rules.Files.{Name, Path, FileNode, Files, IsNodeName, slash}
@@ -46,6 +46,23 @@ listing_in fs = filter_map listed_of fs.nodes
 -- all listed nodes have such paths
 abbrev pub HaveNames : List ListedNode → Type 0
 HaveNames = All (λ (node : ListedNode). IsPathText node.path)
+
+-- The path is that of a directory among these nodes, a `/` and a name that a node may have.
+pub record HasParentAmong (nodes : List ListedNode) (path : List ℕ) : Type 0 where
+  pub parent : ListedNode
+  pub listed : Contains nodes parent
+  pub directory : parent.is_directory ≡ true
+  pub name : Name
+  pub named : IsNodeName name
+  pub is : path ≡ parent.path ++ slash ∷ name
+
+-- The path's directory is among these nodes, or it is the root, which isn't listed.
+abbrev pub IsPlacedAmong : List ListedNode → List ℕ → Type 0
+IsPlacedAmong nodes path = HasParentAmong nodes path ⊎ IsNodeName path
+
+-- so it is with the path of each of these nodes
+abbrev pub HaveParents : List ListedNode → Type 0
+HaveParents nodes = All (λ (node : ListedNode). IsPlacedAmong nodes node.path) nodes
 
 -- the node is listed under this path
 abbrev pub IsListedAt : Files → List ℕ → ListedNode → Type 0

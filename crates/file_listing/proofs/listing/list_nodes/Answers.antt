@@ -1,11 +1,11 @@
 use Rattle.std.proofs.Common.{List, Option, take, sym, ap, subst, arith, ◌++◌, ◌∙◌}
-use Rattle.std.proofs.lemmas.List.{take_all}
 use Rattle.std.specs.Prelude.{option_to_list}
 use Rattle.std.specs.List.{filter_map}
 use Rattle.file_listing.specs.declared.listed.ListedNode.{ListedNode}
-use Rattle.file_listing.specs.rules.Listed.{HaveNames, listed_of}
+use Rattle.file_listing.specs.rules.Listed.{HaveNames, HaveParents, listed_of}
 use Rattle.file_listing.proofs.NameLemmas.{have_names}
-use Rattle.file_listing.proofs.NodeLemmas.{place_found, listed_more}
+use Rattle.file_listing.proofs.NodeLemmas.{all_listed, place_found, listed_more}
+use Rattle.file_listing.proofs.ParentLemmas.{have_parents}
 use Rattle.file_listing.proofs.listing.list_nodes.Goals as goal
 
 pub returns-clause-named : goal.returns-clause-named
@@ -14,9 +14,19 @@ returns-clause-named c =
     let place = c.loop-place.place in
     let count = c.len-count.ensures.count in
     let over = c.loop-place-test.false in
-    subst HaveNames (sym (c.loop-place.invariant
-    ∙ ap (filter_map listed_of) (take_all place tree.nodes (omega (arith, count, over)))))
+    subst HaveNames (sym (all_listed tree c.loop-place.nodes.items place c.loop-place.invariant
+    (omega (arith, count, over))))
     (have_names tree c.len-count.ensures.shape)
+
+pub returns-clause-parents : goal.returns-clause-parents
+returns-clause-parents c =
+    let tree = c.args.tree.now in
+    let place = c.loop-place.place in
+    let count = c.len-count.ensures.count in
+    let over = c.loop-place-test.false in
+    subst HaveParents (sym (all_listed tree c.loop-place.nodes.items place c.loop-place.invariant
+    (omega (arith, count, over))))
+    (have_parents tree c.len-count.ensures.shape)
 
 pub loop-place-preserved : goal.loop-place-preserved
 loop-place-preserved c =
