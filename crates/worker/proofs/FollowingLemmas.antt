@@ -3,15 +3,14 @@ use Rattle.std.proofs.Common.{◌≡◌, ℕ, List, true≢false, ap, ◌∙◌,
 use Rattle.std.specs.Prelude.{is_ok}
 use Rattle.wasm_syntax.specs.declared.module.Module.{Module}
 use Rattle.wasi_abi.specs.rules.Configs.{Settings}
-use Rattle.process.specs.rules.Legacies.{LegacyValue, legacy_of}
+use Rattle.process.specs.rules.Legacies.{legacy_of}
 use Rattle.process_rules.specs.Runs.{Kept}
 use Rattle.sector_disk.specs.rules.DiskImage.{DiskImage}
 use Rattle.sector_disk.specs.rules.Medium.{Medium}
 use Rattle.worker_store.specs.restart_theorem.Stands.{StandsFor}
 use Rattle.worker.specs.declared.handover.Handover.{Handover}
-use Rattle.worker.specs.declared.leave_fault.LeaveFault.{LeaveFault}
 use Rattle.worker.specs.declared.leave_fault.LeaveFault.TheVariants as leave
-use Rattle.worker.specs.laws.Followings.{IsFollowed, SuccessorsFollow, origin_left}
+use Rattle.worker.specs.laws.Followings.{SuccessorsFollow, origin_left}
 use Rattle.worker.specs.rules.Successions.{HandsOver, HandsOverAt, IsParked, ReadsLegacy}
 use Rattle.worker.specs.rules.Successions.{handed_over}
 

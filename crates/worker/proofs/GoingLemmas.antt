@@ -1,8 +1,8 @@
 -- Lives go on, one after another.
 use Rattle.std.proofs.Common.{◌≡◌, ℕ, ◌<◌, ◌≤◌, ◌+◌, ◌++◌, List, [], ◌∷◌, length, refl, sym, ap}
-use Rattle.std.proofs.Common.{◌∙◌, subst, inl, arith, take, get_or, ◌^◌, ◌*◌}
+use Rattle.std.proofs.Common.{◌∙◌, subst, inl, arith, ◌^◌, ◌*◌}
 use Rattle.std.specs.Prelude.{Result, Ok, Err, Option, map, replicate, IfOk}
-use Rattle.std.proofs.lemmas.List.{length-replicate, take_all, take_more}
+use Rattle.std.proofs.lemmas.List.{length-replicate}
 use Rattle.std.proofs.Math.Nat.{le_refl}
 use Rattle.wasm_syntax.specs.declared.module.Module.{Module}
 use Rattle.wasm_rules.specs.Acceptance.{IsAccepted}
@@ -53,7 +53,7 @@ use Rattle.worker.specs.rules.CallCounts.{most_calls, CallsForEvents}
 use Rattle.worker.specs.rules.Told.{TellsLife, TellsEach, TellsOpening, TellsLifeEnd, BeginFewCalls}
 use Rattle.worker.specs.rules.Told.{told_line}
 use Rattle.worker.specs.rules.StoryDisks.{IsEmptyDisk, IsEmptyDiskFor, IsRunOn, none, one_more}
-use Rattle.worker.specs.rules.StoryDisks.{TellsLives, story_medium}
+use Rattle.worker.specs.rules.StoryDisks.{story_medium}
 use Rattle.worker.specs.LifeCalls.{LivesOnce, LeavesSome}
 use Rattle.worker.specs.Endings.{EndsLife}
 use Rattle.worker.specs.Going.{HasAllRoom, IsKeptOn, IsReportedOn, LivesOn, GoneOn}

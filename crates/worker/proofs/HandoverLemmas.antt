@@ -1,5 +1,5 @@
 -- What a worker hands over, by what was found of it.
-use Rattle.std.proofs.Common.{true≢false, ◌≡◌, ◌≢◌, ◌⊎◌, ◌↔◌, inl, inr, ⊎_elim, ℕ, ◌+◌, ◌*◌, ◌<◌}
+use Rattle.std.proofs.Common.{true≢false, ◌≡◌, ◌≢◌, ◌↔◌, inl, inr, ℕ, ◌+◌, ◌*◌, ◌<◌}
 use Rattle.std.proofs.Common.{◌≤◌, Bool, true, false, List, [], refl, sym, ap, ◌∙◌, subst, arith}
 use Rattle.std.proofs.Common.{Option, Some, None, is_some, option_map}
 use Rattle.std.specs.Prelude.{IsTrue, Result, Ok, Err}
@@ -9,16 +9,14 @@ use Rattle.wasi_abi.specs.declared.answer.Question.{Question}
 use Rattle.wasi_abi.specs.declared.answer.Question.TheVariants as question
 use Rattle.wasi_abi.specs.declared.numbers.TheConstants.{NUMBERS_END}
 use Rattle.wasi_abi.specs.rules.Configs.{Settings}
-use Rattle.process_rules.specs.Processes.{Ending, ProcessState, Guest}
-use Rattle.process_rules.specs.Runs.{Kept, Next, Wants, next_of}
+use Rattle.process_rules.specs.Processes.{ProcessState, Guest}
+use Rattle.process_rules.specs.Runs.{Kept, Wants, next_of}
 use Rattle.process.specs.declared.stop.ProcessEnd.{ProcessEnd}
 use Rattle.process.specs.rules.Values.{ProcessValue, ShowsProcess, ending_of}
 use Rattle.state_image.specs.rules.ProcessImage.{Saved}
-use Rattle.state_image.specs.rules.Saving.{saved_of}
 use Rattle.sector_disk.specs.declared.fault.DiskFault.{DiskFault}
 use Rattle.sector_disk.specs.rules.DiskImage.{DiskImage}
 use Rattle.sector_disk.specs.rules.Medium.{CallsUpTo, Medium, SyncsMedium}
-use Rattle.disk_layout.specs.rules.Journal.{Record}
 use Rattle.disk_layout.specs.rules.Stored.{OnlyReads}
 use Rattle.worker_store.specs.restart_theorem.Stands.{StandsFor}
 use Rattle.worker_store.specs.restart_theorem.Successions.{IsAtRest}

@@ -1,18 +1,16 @@
 -- The turns of a batch of a worker on its disk: a slice in which lines may wait.
 use Rattle.std.specs.Prelude.{◌≡◌, ◌≢◌, ℕ, ◌⊎◌, ◌+◌, ◌-◌, ◌*◌, ◌≤◌, true, false, List, [], ◌∷◌}
-use Rattle.std.specs.Prelude.{◌++◌, length, map, suc, drop, Result, Ok, Err, Bool, None}
-use Rattle.std.specs.Prelude.{IfOk, IfErr}
+use Rattle.std.specs.Prelude.{◌++◌, length, map, Result, Ok, Err, Bool, None, IfOk, IfErr}
 use Rattle.wasm_syntax.specs.declared.module.Module.{Module}
 use Rattle.wasi_abi.specs.declared.answer.Question.{Question}
 use Rattle.wasi_abi.specs.rules.Configs.{Settings}
-use Rattle.wasi_calls_rules.specs.laws.Laws.{IsOfBytes}
-use Rattle.process_rules.specs.Processes.{ProcessState, Guest, host_of}
+use Rattle.process_rules.specs.Processes.{ProcessState, Guest}
 use Rattle.process.specs.rules.Values.{ProcessValue, ShowsProcess, waiting_in}
 use Rattle.sector_disk.specs.rules.Medium.{Medium}
 use Rattle.record_replay.specs.declared.fault.OutletFault.{OutletFault}
 use Rattle.record_replay.specs.declared.line_list.NumberedLine.{NumberedLine}
 use Rattle.record_replay.specs.rules.Calls.{Giving, Taking, Begun, Exchange, Releases, Exchanges}
-use Rattle.record_replay.specs.rules.Calls.{all_taken, ports}
+use Rattle.record_replay.specs.rules.Calls.{ports}
 use Rattle.record_replay.specs.rules.Waiting.{ReleasesAll}
 use Rattle.worker_store.specs.restart_theorem.Lives.{Act, Reply}
 use Rattle.worker_store.specs.restart_theorem.Courses.{Stage, IsInBatch}
@@ -38,10 +36,9 @@ use Rattle.worker.specs.rules.Batches.{keeping, taking, StopsBatch, IsBatchCause
 use Rattle.worker.specs.rules.CallCounts.{most_calls, CallsForEvents}
 use Rattle.worker.specs.rules.WorkFaults.{fault_of_store}
 use Rattle.worker.specs.rules.DurableCalls.{IsReplyOf}
-use Rattle.worker.specs.rules.OpenWorkers.{IsOnDisk, IsAbreast}
 use Rattle.worker.specs.StoreTurns.{owed, HasTurnCause, PaysCalls, StoreGoes, StoreStops}
 use Rattle.worker.specs.rules.Scenes.{SceneOf, scene, ports_of}
-use Rattle.worker.specs.DurableTurns.{Course, identity_of, Running, running_on, IsBetweenTurns}
+use Rattle.worker.specs.DurableTurns.{Course, Running, running_on, IsWithinAct, IsBetweenTurns}
 use Rattle.worker.specs.DurableTurns.{IsAskingOn, TurnGoes, TurnEnds, TurnFails, told_lines_of}
 use Rattle.worker.specs.DurableTurns.{to_tell, HoldsNoLine, AsksOutside, IsAskFault}
 
@@ -83,23 +80,9 @@ abbrev pub MayTell : Module → Settings → Guest → Promise → Stage → Act
 MayTell m config guest promise stage act told p = IsUnderWay m config guest promise stage act told p
     ⊎ HasLinesLeft m config guest promise stage act told p
 
--- A worker within a slice or a batch, or behind the last question of a batch, that has come to p.
--- These lines are held. The rest is as of one that runs.
-pub record IsTellingOn (c : Course) (promise : Promise) (stage : Stage) (p : ProcessState)
-    (step latest : ℕ) (here : Running) : Type 0 where
-  pub opened : promise.has_opened ≡ true
-  pub texts : IsOfBytes (host_of c.config)
-  pub shows : ShowsProcess here.worker.process c.guest p
-  pub module_is : here.worker.process.machine.guest ≡ c.code
-  pub told : ℕ
-  pub counted : told + length here.lines_held ≡ here.worker.process.host.released
-  pub queued : to_tell here.lines_held here.worker.process
-      ≡ all_taken (suc told) (drop told p.host.lines)
-  pub may : MayTell c.code c.config c.guest promise stage c.act told p
-  pub began : stage.step ≡ c.first
-  pub on_disk : IsOnDisk (identity_of c) promise p step latest here.worker.store here.disk
-  pub synced : promise.synced ≤ p.steps
-  pub abreast : IsAbreast promise stage p here.worker.is_abreast
+-- one within a slice or a batch, or behind the last question of a batch
+abbrev pub IsTellingOn : Course → Promise → Stage → ProcessState → ℕ → ℕ → Running → Type 0
+IsTellingOn = IsWithinAct MayTell
 
 -- something may be owed for the last step
 abbrev pub IsTellingTurn : Course → Promise → Stage → ProcessState → List Begun → RunningWorker

@@ -83,10 +83,11 @@ identity_of c = identity c.code c.config c.guest
 abbrev pub to_tell : List Begun → ProcessValue → List Begun
 to_tell lines_held v = lines_held ++ all_taken (first_waiting v) (waiting_in v)
 
--- A worker within a slice, which has come to p. These lines are held that it has handed over: all
--- before them were told. The disk holds what is promised, the guest's syncs up to this step
--- included, by a savepoint of this generation at most.
-pub record IsRunningOn (c : Course) (promise : Promise) (stage : Stage) (p : ProcessState)
+-- A worker within an act, which has come to p. Lines that it has handed over are held, and so many
+-- before them were told, as May says. The disk holds what is promised, the guest's syncs up to this
+-- step included, by a savepoint of this generation at most.
+pub record IsWithinAct (May : Module → Settings → Guest → Promise → Stage → Act → ℕ → ProcessState
+    → Type 0) (c : Course) (promise : Promise) (stage : Stage) (p : ProcessState)
     (step latest : ℕ) (here : Running) : Type 0 where
   pub opened : promise.has_opened ≡ true
   pub texts : IsOfBytes (host_of c.config)
@@ -96,11 +97,15 @@ pub record IsRunningOn (c : Course) (promise : Promise) (stage : Stage) (p : Pro
   pub counted : told + length here.lines_held ≡ here.worker.process.host.released
   pub queued : to_tell here.lines_held here.worker.process
       ≡ all_taken (suc told) (drop told p.host.lines)
-  pub way : IsUnderWay c.code c.config c.guest promise stage c.act told p
+  pub way : May c.code c.config c.guest promise stage c.act told p
   pub began : stage.step ≡ c.first
   pub on_disk : IsOnDisk (identity_of c) promise p step latest here.worker.store here.disk
   pub synced : promise.synced ≤ p.steps
   pub abreast : IsAbreast promise stage p here.worker.is_abreast
+
+-- one within a slice, which runs
+abbrev pub IsRunningOn : Course → Promise → Stage → ProcessState → ℕ → ℕ → Running → Type 0
+IsRunningOn = IsWithinAct IsUnderWay
 
 -- between two turns
 abbrev pub IsBetweenTurns : Course → Promise → Stage → ProcessState → List Begun → RunningWorker

@@ -79,7 +79,7 @@ module _ {D : Type 0} (medium : D → Medium) (c : Course) (promise : Promise) (
         told = running.told;
         counted = running.counted;
         queued = running.queued;
-        may = inr (lines_are_left c.code c.config c.guest promise stage c.act p question said fits
+        way = inr (lines_are_left c.code c.config c.guest promise stage c.act p question said fits
             (at_question medium c promise stage p question lines_held w disk asking says) batch
             last);
         began = running.began;

@@ -126,7 +126,7 @@ lowered medium c promise stage p lines_held w disk telling = record {
   told = telling.told;
   counted = telling.counted;
   queued = telling.queued;
-  may = telling.may;
+  way = telling.way;
   began = telling.began;
   on_disk = lowered_to medium c.code c.config c.guest promise p p.steps promise.events w.store disk
       telling.on_disk (p.steps - 1) promise.events (omega arith) (omega arith);

@@ -110,7 +110,7 @@ module _ {D : Type 0} (medium : D → Medium) (c : Course) (promise : Promise) (
             (medium disk') fault is fails,
         fails_at_call medium c promise stage (with_store w after) disk disk' OfDisk held
             owing.opened
-            (disk_ends c promise stage p owing.told (with_store w after) owing.may owing.shows
+            (disk_ends c promise stage p owing.told (with_store w after) owing.way owing.shows
             owing.module_is)
             (barrier_carries medium c.code c.config promise
             (slice_end promise (Fails OfDisk) held w) point w.store.journal is.records
@@ -209,7 +209,7 @@ module _ {D : Type 0} (medium : D → Medium) (c : Course) (promise : Promise) (
           (medium disk) (medium disk')
       lines_flushed released foretold =
           let told = told_so c promise stage p owing.told (to_tell lines_held w.process)
-          owing.queued owing.may foretold in
+          owing.queued owing.way foretold in
           let made = told.made in
           let leaves = parts_leave_begun c.code c.config promise made.promise' stage made.stage'
           (told_lines_of (to_tell lines_held w.process)) made.done in
@@ -234,7 +234,7 @@ module _ {D : Type 0} (medium : D → Medium) (c : Course) (promise : Promise) (
                   let all : length p.host.lines + 0 ≡ w'.process.host.released =
                   omega (arith, whole) in all);
               queued = none_to_tell w'.process p.host.lines none_left;
-              may = told.may;
+              way = told.may;
               began = leaves.step ∙ owing.began;
               on_disk = subst (λ s. IsOnDisk (identity_of c) made.promise' p p.steps
                   made.promise'.events s (medium disk')) (sym same_store)
@@ -274,7 +274,7 @@ module _ {D : Type 0} (medium : D → Medium) (c : Course) (promise : Promise) (
           let cut = cut_taken (suc owing.told) (drop owing.told p.host.lines) front back last fault
           (sym owing.queued ∙ are) in
           let told = refused_so c promise stage p owing.told begun cut.before cut.others cut.line
-          cut.begun_is owing.may cut.are foretold in
+          cut.begun_is owing.way cut.are foretold in
           let made = told.made in
           let exchanges : List Exchange = told_lines_of begun in
           let leaves = parts_leave_begun c.code c.config promise made.promise' stage made.stage'

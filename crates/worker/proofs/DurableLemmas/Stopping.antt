@@ -49,7 +49,7 @@ module _ {D : Type 0} (medium : D → Medium) (c : Course) (promise : Promise) (
       ends_on medium c promise promise stage stage [] w disk disk (Fails cause)
       (length promise.kept) (done_nothing c promise stage)
       (failed_end c promise stage p w stage.phase (length promise.kept) cause
-      (broken_there c promise stage p telling.told telling.may) telling.shows telling.module_is may
+      (broken_there c promise stage p telling.told telling.way) telling.shows telling.module_is may
       bound)
       (stays_on medium c promise disk telling.opened
       (keeps_now medium c.code c.config c.guest promise p p.steps promise.events w.store disk is))
@@ -67,7 +67,7 @@ module _ {D : Type 0} (medium : D → Medium) (c : Course) (promise : Promise) (
   waits_there none_there none_waits unended room says =
       let is = telling.on_disk in
       let told = told_steps in
-      let up_to = told_up_to c promise stage p telling.told telling.may in
+      let up_to = told_up_to c promise stage p telling.told telling.way in
       let counted : telling.told + 0 ≡ w.process.host.released = telling.counted in
       let whole = released_whole w.process c.guest p telling.shows none_waits in
       let all : telling.told ≡ length p.host.lines = omega (arith, counted, whole) in
@@ -78,7 +78,7 @@ module _ {D : Type 0} (medium : D → Medium) (c : Course) (promise : Promise) (
       (standstill (length promise.kept) p (NoneThere p.steps)) =
       subst (λ (q : Phase). IsBroken c.code c.config c.guest promise stage c.act
       (standstill (length promise.kept) p q)) none_there
-      (broken_there c promise stage p telling.told telling.may) in
+      (broken_there c promise stage p telling.told telling.way) in
       ends_on medium c promise promise stage stage [] w disk disk Waits (length promise.kept)
       (done_nothing c promise stage)
       (waiting_slices_end c.code c.config c.guest promise stage c.act p (saved_of w.process) broken

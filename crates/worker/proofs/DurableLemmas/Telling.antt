@@ -1,8 +1,10 @@
 -- Lines that may be told: of an act that is under way, or behind the last question of a batch.
 use Rattle.std.proofs.Common.{◌≡◌, ℕ, suc, List, ◌∷◌, ◌++◌, length, drop, refl, sym, ◌∙◌}
 use Rattle.std.proofs.Common.{subst, inl, inr, Some, ◌≤◌}
+use Rattle.wasm_syntax.specs.declared.module.Module.{Module}
+use Rattle.wasi_abi.specs.rules.Configs.{Settings}
 use Rattle.wasi_calls_rules.specs.WasiStates.{Line}
-use Rattle.process_rules.specs.Processes.{ProcessState}
+use Rattle.process_rules.specs.Processes.{ProcessState, Guest}
 use Rattle.process.specs.rules.Values.{ShowsProcess}
 use Rattle.sector_disk.specs.rules.Medium.{Medium}
 use Rattle.state_image.specs.rules.Saving.{saved_of}
@@ -20,30 +22,41 @@ use Rattle.worker_store.proofs.LawLemmas.Telling.{all_lines_are_told, lines_are_
 use Rattle.worker_store.proofs.LawLemmas.Telling.{rest_is_told, rest_is_told_in_vain}
 use Rattle.worker_store.proofs.LawLemmas.Underway.{among_first, left_is_broken}
 use Rattle.worker.specs.declared.running_worker.RunningWorker.{RunningWorker}
-use Rattle.worker.specs.DurableTurns.{Course, IsRunningOn, told_lines_of, running_on}
+use Rattle.worker.specs.DurableTurns.{Course, Running, IsWithinAct, IsRunningOn, running_on}
+use Rattle.worker.specs.DurableTurns.{told_lines_of}
 use Rattle.worker.specs.BatchTurns.{IsTellingOn, MayTell}
 use Rattle.worker.proofs.DurableLemmas.Ends.{failed_end}
 
 -- ---- one that runs may tell
 
+-- one that is within an act in one way is so in another one, which follows
+within_so : {May Other : Module → Settings → Guest → Promise → Stage → Act → ℕ → ProcessState
+    → Type 0} {c : Course} {promise : Promise} {stage : Stage} {p : ProcessState}
+    {step latest : ℕ} {here : Running} → IsWithinAct May c promise stage p step latest here
+    → ((told : ℕ) → May c.code c.config c.guest promise stage c.act told p
+    → Other c.code c.config c.guest promise stage c.act told p)
+    → IsWithinAct Other c promise stage p step latest here
+within_so within other = record {
+  opened = within.opened;
+  texts = within.texts;
+  shows = within.shows;
+  module_is = within.module_is;
+  told = within.told;
+  counted = within.counted;
+  queued = within.queued;
+  way = other within.told within.way;
+  began = within.began;
+  on_disk = within.on_disk;
+  synced = within.synced;
+  abreast = within.abreast;
+}
+
 pub telling_of : (c : Course) (promise : Promise) (stage : Stage) (p : ProcessState)
     (step latest : ℕ) (lines_held : List Begun) (w : RunningWorker) (disk : Medium)
     → IsRunningOn c promise stage p step latest (running_on lines_held w disk)
     → IsTellingOn c promise stage p step latest (running_on lines_held w disk)
-telling_of c promise stage p step latest lines_held w disk running = record {
-  opened = running.opened;
-  texts = running.texts;
-  shows = running.shows;
-  module_is = running.module_is;
-  told = running.told;
-  counted = running.counted;
-  queued = running.queued;
-  may = inl running.way;
-  began = running.began;
-  on_disk = running.on_disk;
-  synced = running.synced;
-  abreast = running.abreast;
-}
+telling_of c promise stage p step latest lines_held w disk running =
+    within_so running (λ told way. inl way)
 
 not_last : (phase : Phase) → phase ≡ Open → HasLastAsked phase → ⊥
 not_last phase is asked = subst HasLastAsked is asked
@@ -59,20 +72,8 @@ pub running_of : (c : Course) (promise : Promise) (stage : Stage) (p : ProcessSt
     (step latest : ℕ) (lines_held : List Begun) (w : RunningWorker) (disk : Medium)
     → stage.phase ≡ Open → IsTellingOn c promise stage p step latest (running_on lines_held w disk)
     → IsRunningOn c promise stage p step latest (running_on lines_held w disk)
-running_of c promise stage p step latest lines_held w disk is telling = record {
-  opened = telling.opened;
-  texts = telling.texts;
-  shows = telling.shows;
-  module_is = telling.module_is;
-  told = telling.told;
-  counted = telling.counted;
-  queued = telling.queued;
-  way = way_of c promise stage p telling.told is telling.may;
-  began = telling.began;
-  on_disk = telling.on_disk;
-  synced = telling.synced;
-  abreast = telling.abreast;
-}
+running_of c promise stage p step latest lines_held w disk is telling =
+    within_so telling (λ told. way_of c promise stage p told is)
 
 -- a batch is in a batch
 pub in_batch : (stage : Stage) (act : Act) (acts : List Act) (fuel most : ℕ)
