@@ -1,5 +1,5 @@
 -- How large the disk of a worker can be.
-use Rattle.std.proofs.Common.{ℕ, ◌≤◌, length, arith}
+use Rattle.std.proofs.Common.{arith}
 use Rattle.disk_layout.proofs.ReadingLemmas.WrittenLemmas.{config_within}
 use Rattle.disk_commands.specs.laws.LargestDisks.{LargestDisksArePictured}
 

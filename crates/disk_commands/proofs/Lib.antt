@@ -21,12 +21,14 @@ pub mod ToldLemmas
 pub mod TrapFrameLemmas
 pub mod FileLemmas
 mod SavedLemmas
+mod SeedLemmas
 pub mod CopiedLemmas
 pub mod OpeningLemmas
 pub mod StatusLineLemmas
 pub mod StatusLemmas
 pub mod StatusFileLemmas
 pub mod MetricsLemmas
+mod NodeOrderLemmas
 mod FactLemmas
 mod LargestLemmas
 mod JsonLemmas

@@ -1,6 +1,6 @@
 -- A disk in a file whose worker goes on.
-use Rattle.std.proofs.Common.{◌≡◌, refl, subst, inl, inr, ℕ, Bool, List}
-use Rattle.std.specs.Prelude.{Option, Result, IsTrue}
+use Rattle.std.proofs.Common.{◌≡◌, refl, subst, sym, inl, inr, ℕ, Bool, List}
+use Rattle.std.specs.Prelude.{Option, Result, IfSome, IsTrue}
 use Rattle.std.specs.Int.NonZero.{non_zero_u64_get}
 use Rattle.sector_disk.specs.declared.file.FileDisk.{FileDisk}
 use Rattle.sector_disk.specs.rules.File.{file_medium}
@@ -13,29 +13,32 @@ use Rattle.command_words.specs.rules.Commands.{RunMeaning}
 use Rattle.command_words.specs.rules.Printers.{PrinterState, printers, read_along}
 use Rattle.command_words.specs.rules.Prints.{printing}
 use Rattle.command_words.specs.declared.status.Status.{Status}
+use Rattle.disk_commands.specs.declared.on_disk.found_file.FoundFile.{FoundFile}
 use Rattle.disk_commands.specs.declared.on_disk.running.RunJob.{RunJob}
 use Rattle.disk_commands.specs.declared.on_disk.upgrading.Upgraded.{Upgraded}
 use Rattle.disk_commands.specs.rules.Openings.{IsOpenedFor}
 use Rattle.disk_commands.specs.rules.Refusals.{HeedsRefusal}
-use Rattle.disk_commands.specs.rules.ServedFiles.{IsJobOf, RunsFile, RunsJob, SaysUpgraded}
-use Rattle.disk_commands.specs.rules.ServedFiles.{ServesToEnd, named_metrics, run_input, seedless}
-use Rattle.disk_commands.specs.rules.ServedFiles.{UpgradesFile, job_given, named_status, opened}
-use Rattle.disk_commands.specs.rules.SeedFiles.{SaysSeedless}
+use Rattle.disk_commands.specs.rules.ServedFiles.{IsJobOf, KnownSystem, MayRun, RunsFile, RunsJob}
+use Rattle.disk_commands.specs.rules.ServedFiles.{SaysUpgraded, ServesToEnd, UpgradesFile}
+use Rattle.disk_commands.specs.rules.ServedFiles.{job_given, named_metrics, named_status, opened}
+use Rattle.disk_commands.specs.rules.ServedFiles.{run_input, seedless}
+use Rattle.disk_commands.specs.rules.SeedFiles.{KnownSeedFiles, SaysSeedless}
 use Rattle.disk_commands.specs.rules.ServedOnDisk.{RunStart, disk_job, outputs, run_start}
+use Rattle.disk_commands.specs.rules.StatusFiles.{MayWatch}
 use Rattle.disk_commands.specs.rules.Upgradings.{UpgradesOnDisk, status_so_far}
 
 -- a worker that was served on the lines of a reader, of whose status file nothing was said
-pub job_served : {D O : Type 0} (medium : D → Medium) (takes : Taking O)
-    (path metrics : Option (List ℕ)) (job : RunJob) (lines found : Option (List ℕ))
+pub job_served : {D O : Type 0} (has_found : List ℕ → FoundFile → Bool) (medium : D → Medium)
+    (takes : Taking O) (job : RunJob) (lines found : Option (List ℕ))
     (failed broken : Bool) (outside : Outside) (disk disk' : D) (outlet outlet' : O)
     (err between err' : PrinterState) (status : Status) → outside ≡ job.outside → found ≡ lines
     → broken ≡ failed → between ≡ err
     → ServesToEnd medium takes (run_start (disk_job (non_zero_u64_get job.pace.fuel)
     (non_zero_u64_get job.pace.every) (non_zero_u64_get job.pace.batch) found outside broken) disk
     outlet between) disk' (outputs outlet' err') status
-    → RunsJob medium takes path metrics (run_start (job_given job lines failed) disk outlet err)
+    → RunsJob has_found medium takes job (run_start (job_given job lines failed) disk outlet err)
     disk' (outputs outlet' err') status
-job_served {D} {O} medium takes path metrics job lines found failed broken outside disk disk' outlet
+job_served {D} {O} has_found medium takes job lines found failed broken outside disk disk' outlet
     outlet' err between err' status of_job of_lines of_failed quiet serves =
     let start : Outside → Option (List ℕ) → Bool → PrinterState → RunStart D O =
     λ o l f e. run_start (disk_job (non_zero_u64_get job.pace.fuel)
@@ -47,46 +50,54 @@ job_served {D} {O} medium takes path metrics job lines found failed broken outsi
     (subst (λ l. does (start job.outside l broken between)) of_lines
     (subst (λ o. does (start o found broken between)) of_job serves))))
 
-module _ {F O : Type 0} (handles : KnownHandles F) (files : KnownFiles F) (takes : Taking O)
+module _ {F : Type 0} {files : KnownFiles F} {said : RunMeaning} {job : RunJob}
+    {seeds : KnownSeedFiles} (is : IsJobOf seeds said job)
+    (may : MayRun files said) where
+  -- leave for the files of a job's words
+  pub status_may : IfSome (named_status job) (MayWatch files)
+  status_may = subst (λ path. IfSome path (MayWatch files)) (sym is.status) may.status
+
+  pub metrics_may : IfSome (named_metrics job) (MayWatch files)
+  metrics_may = subst (λ path. IfSome path (MayWatch files)) (sym is.metrics) may.metrics
+
+  pub disk_may : IsTrue (files.may_read job.watched.disk.now)
+  disk_may = subst (λ path. IsTrue (files.may_read path)) (sym is.disk) may.seen
+
+module _ {F O : Type 0} (known : KnownSystem F) (takes : Taking O)
     (said : RunMeaning) (lines : Option (List ℕ)) (failed : Bool) where
   -- a run before which nothing was said
   pub runs_quietly : (outlet outlet' : O) (err between err' : PrinterState) (status : Status)
       → between ≡ err
-      → RunsFile handles files takes said (run_input lines failed) (outputs outlet between)
+      → RunsFile known takes said (run_input lines failed) (outputs outlet between)
       (outputs outlet' err') status
-      → RunsFile handles files takes said (run_input lines failed) (outputs outlet err)
+      → RunsFile known takes said (run_input lines failed) (outputs outlet err)
       (outputs outlet' err') status
   runs_quietly outlet outlet' err between err' status quiet runs =
-      subst (λ old. RunsFile handles files takes said (run_input lines failed)
+      subst (λ old. RunsFile known takes said (run_input lines failed)
       (outputs outlet old) (outputs outlet' err') status) quiet runs
 
   -- a run without a seed
   pub runs_seedless : (outlet : O) (err err' : PrinterState) (status : Status)
-      → SaysSeedless said.seed_file said.seed err status err'
-      → RunsFile handles files takes said (run_input lines failed) (outputs outlet err)
+      → SaysSeedless known.seeds said.seed_file said.seed err status err'
+      → RunsFile known takes said (run_input lines failed) (outputs outlet err)
       (outputs outlet err') status
   runs_seedless outlet err err' status says = seedless says refl
 
   -- a run of a disk that was opened, of whose opening nothing was said
   pub runs_opened : (disk disk' : FileDisk F) (outlet outlet' : O)
-      (err between err' : PrinterState) (status : Status) (job : RunJob) → IsJobOf said job
-      → IsOpenedFor handles files said.rewrites said.disk disk → IsTrue (files.closed disk')
-      → between ≡ read_along said.is_verbose err
-      → RunsJob file_medium takes (named_status job) (named_metrics job)
+      (err between err' : PrinterState) (status : Status) (job : RunJob)
+      → IsJobOf known.seeds said job
+      → IsOpenedFor known.handles known.files said.rewrites said.disk disk
+      → IsTrue (known.files.closed disk') → between ≡ read_along said.is_verbose err
+      → RunsJob known.has_found file_medium takes job
       (run_start (job_given job lines failed) disk outlet between) disk' (outputs outlet' err')
       status
-      → RunsFile handles files takes said (run_input lines failed) (outputs outlet err)
+      → RunsFile known takes said (run_input lines failed) (outputs outlet err)
       (outputs outlet' err') status
   runs_opened disk disk' outlet outlet' err between err' status job is for closed quiet runs =
-      let of_path = subst (λ path. RunsJob file_medium takes path (named_metrics job)
-      (run_start (job_given job lines failed) disk outlet between) disk' (outputs outlet' err')
-      status) is.status runs in
-      let of_both = subst (λ path. RunsJob file_medium takes said.status path
-      (run_start (job_given job lines failed) disk outlet between) disk' (outputs outlet' err')
-      status) is.metrics of_path in
-      opened job is disk disk' for closed (subst (λ old. RunsJob file_medium takes said.status
-      said.metrics (run_start (job_given job lines failed) disk outlet old) disk'
-      (outputs outlet' err') status) quiet of_both)
+      opened job is disk disk' for closed (subst (λ old. RunsJob known.has_found file_medium takes
+      job (run_start (job_given job lines failed) disk outlet old) disk' (outputs outlet' err')
+      status) quiet runs)
 
 module _ {F : Type 0} (handles : KnownHandles F) (files : KnownFiles F) (path : List ℕ)
     (disk disk' : FileDisk F) where

@@ -36,11 +36,11 @@ module _ (found : List ℕ → FoundFile → Bool) (old new : PrinterState) (sta
       → IfSome path (λ text. SaysUnwatched found text.now old status new)
       → SaysUnwatchable found (path_named path) (path_named metrics) old status new
   status_untold path metrics some says =
-      let (text, is, untold) = named_untold path some says in (text, inl is, untold)
+      let (text, is, untold) = named_untold path some says in inr (text, inl is, untold)
 
   -- the one of the metrics
   pub metrics_untold : (path metrics : Option (Bor (List ℕ))) → IsSome metrics
       → IfSome metrics (λ text. SaysUnwatched found text.now old status new)
       → SaysUnwatchable found (path_named path) (path_named metrics) old status new
   metrics_untold path metrics some says =
-      let (text, is, untold) = named_untold metrics some says in (text, inr is, untold)
+      let (text, is, untold) = named_untold metrics some says in inr (text, inr is, untold)

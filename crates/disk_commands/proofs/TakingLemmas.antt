@@ -1,22 +1,20 @@
 -- Which lines of slices were taken, and which of them was refused.
 use Rattle.std.proofs.Common.{◌≡◌, inl, inr, ⊎_elim, ℕ, suc, Bool, true, false, List, [], ◌∷◌, ◌++◌}
-use Rattle.std.proofs.Common.{length, None, Some, Err, refl, sym, ap, ◌∙◌, subst, append-nil}
-use Rattle.std.specs.Prelude.{map, Option, Result}
+use Rattle.std.proofs.Common.{length, Err, refl, sym, ap, ◌∙◌, subst, append-nil}
+use Rattle.std.specs.Prelude.{map, Result}
 use Rattle.std.specs.List.{AllByRecursion}
-use Rattle.wasi_abi.specs.declared.answer.Answer.{Answer}
-use Rattle.wasi_calls_rules.specs.WasiStates.{Line}
 use Rattle.process_rules.specs.Processes.{ProcessState, Guest}
 use Rattle.process.specs.rules.Values.{ProcessValue, IsProcess}
 use Rattle.sector_disk.specs.rules.Medium.{Medium}
 use Rattle.record_replay.specs.rules.Calls.{Giving, Taking, Begun, Exchange, Asks, Tells, Released}
-use Rattle.record_replay.specs.rules.Calls.{Releases, releases_of, all_taken, last_refused, ports}
+use Rattle.record_replay.specs.rules.Calls.{Releases, releases_of, last_refused, ports}
 use Rattle.record_replay.proofs.Following.{leads_before, leads_split, releases_of-append}
 use Rattle.record_replay.specs.declared.slices.fault.SliceFault.TheVariants as slice
 use Rattle.record_replay.specs.declared.slices.fault.Refusal.TheVariants as refusal
 use Rattle.record_replay.specs.declared.slices.now.Now.{Now}
 use Rattle.record_replay.specs.rules.Workers.{WorkerValue}
-use Rattle.record_replay.specs.rules.Slices.{SliceLeadsTo, Slices}
-use Rattle.record_replay.specs.rules.Faults.{LeadsUpTo, EmitsLast, StopsAtLine, last_answer}
+use Rattle.record_replay.specs.rules.Slices.{Slices}
+use Rattle.record_replay.specs.rules.Faults.{StopsAtLine}
 use Rattle.worker.specs.declared.fault.WorkFault.{WorkFault}
 use Rattle.worker.specs.declared.fault.WorkFault.TheVariants as work
 use Rattle.worker.specs.declared.recover_fault.RecoverFault.TheVariants as recover
@@ -25,7 +23,6 @@ use Rattle.worker.specs.rules.Batches.{BatchFails, HasUntakenAnswer, TellsFront,
 use Rattle.worker.proofs.StopLemmas.{store_tells_front, stops_at_store}
 use Rattle.worker.specs.rules.Checkpoints.{HasCheckpointCause}
 use Rattle.worker.specs.rules.DurableFailures.{SlicesOnDiskInVain, IsDiskCause}
-use Rattle.worker.specs.rules.DurableFailures.{StopsAtDisk, StopsAtStore}
 use Rattle.worker.specs.rules.DurableValues.{DurableValue}
 use Rattle.worker.specs.rules.Outlets.{TakesEach, RefusesLast, HeedsOutlet, IsOutletFault, WasTaken}
 use Rattle.worker.proofs.OutletLemmas.{none_told, refuses_then, lines_taken, last_is_refused}

@@ -1,6 +1,7 @@
 pub mod FactViews
 pub mod Livings
 pub mod Members
+pub mod NodeOrders
 pub mod ComingUp
 pub mod StatusLines
 pub mod SuccessorDisks

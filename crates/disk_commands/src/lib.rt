@@ -55,9 +55,9 @@
 //!
 //! `wasmhost` calls this crate. Lives are run by `worker`, and all is read and said by
 //! `command_words`. A disk is lent to each call of a worker on it. Beside these only `open_disk`,
-//! `create_disk`, `save_file`, `live` and `succession` touch one. These five, `WatchedPaths`,
-//! `StatusFile` and `NewTrees` are the places here that open a file. `WatchedPaths` also reads the
-//! module of a worker that has trapped. `WatchFiles` reads the machine's clock.
+//! `create_disk`, `save_file`, `live` and `succession` touch one. These five, `SeedFiles`,
+//! `WatchedPaths`, `StatusFile` and `NewTrees` are the places here that open a file. `WatchedPaths`
+//! also reads the module of a worker that has trapped. `WatchFiles` reads the machine's clock.
 #![tactic(auto)]
 
 mod inspecting;
@@ -66,8 +66,8 @@ mod on_disk;
 
 pub use inspecting::{inspect_disk, list_files, tell_history};
 pub use on_disk::{
-    Drive, FoundFile, Look, NewTree, NewTrees, Pace, Seen, Sighting, StatusFile, System, Upgraded,
-    WatchFiles, WatchPaths, WatchedPaths, WatchedState, Watcher, create_disk, create_on,
+    Drive, FoundFile, Look, NewTree, NewTrees, Pace, SeedFiles, Seen, Sighting, StatusFile, System,
+    Upgraded, WatchFiles, WatchPaths, WatchedPaths, WatchedState, Watcher, create_disk, create_on,
     extract_file, look_at_file, open_disk, report_input, report_open, report_unread, run_file,
     save_file, save_on, serve, spelled_metrics, spelled_status, status_file_of, survey,
     upgrade_file, upgrade_worker, watch_files_of,

@@ -15,9 +15,8 @@ use Rattle.file_listing.specs.rules.Listed.{listing_in}
 use Rattle.worker.specs.declared.inspection.Inspection.{Inspection}
 use Rattle.worker.specs.declared.recover_fault.RecoverFault.{RecoverFault}
 use Rattle.worker.specs.rules.Inspections.{Inspects}
-use Rattle.command_words.specs.declared.telling.Obstacle.TheVariants.{Memory}
 use Rattle.command_words.specs.rules.Printers.{PrinterState, Printers}
-use Rattle.command_words.specs.rules.Reports.{SaysLine, SaysOnOutput, obstacle_words}
+use Rattle.command_words.specs.rules.Reports.{SaysOnOutput}
 use Rattle.command_words.specs.declared.status.Status.{Status}
 use Rattle.command_words.specs.declared.status.Status.TheVariants as exit
 use Rattle.disk_commands.specs.rules.Inspectings.{SaysRefusal}

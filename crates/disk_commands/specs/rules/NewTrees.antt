@@ -1,8 +1,8 @@
 -- What calls have said of a folder that is made at a path, and of what is made below it (this
 -- project's own). Nobody knows it but by such a call.
-use Rattle.std.specs.Prelude.{◌≡◌, ℕ, Bool, true, false, List, ◌∷◌, ◌++◌, Contains}
+use Rattle.std.specs.Prelude.{◌≡◌, ℕ, Bool, true, false, List, ◌∷◌, ◌++◌, Contains, IsTrue}
 use Rattle.std.specs.declared.io.ErrorKind.{ErrorKind}
-use Rattle.file_tree.specs.rules.Files.{Files, bytes_of_node, slash}
+use Rattle.file_tree.specs.rules.Files.{Files, IsNodeName, Name, bytes_of_node, slash}
 use Rattle.file_listing.specs.declared.listed.ListedNode.{ListedNode}
 use Rattle.file_listing.specs.rules.Listed.{IsPathText, listing_in}
 
@@ -57,3 +57,11 @@ pub record IsBelow (folder path : List ℕ) : Type 0 where
   pub text : List ℕ
   pub names : IsPathText text
   pub is : path ≡ below folder text
+
+-- The path is that of a folder that was made, a `/` and a name that a node may have, without a `/`.
+pub record LiesInMadeFolder (trees : KnownTrees) (path : List ℕ) : Type 0 where
+  pub front : List ℕ
+  pub made : IsTrue (trees.folder front)
+  pub name : Name
+  pub named : IsNodeName name
+  pub is : path ≡ below front name

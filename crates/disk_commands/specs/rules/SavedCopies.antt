@@ -1,6 +1,6 @@
 -- What `wasmhost save` does: all sectors of a worker's disk, or of a picture of it, are copied to a
 -- new file (this project's own).
-use Rattle.std.specs.Prelude.{◌≡◌, ◌≢◌, ◌⊎◌, ◌≤◌, ℕ, ◌++◌, List, take, Bool, true, false, codes}
+use Rattle.std.specs.Prelude.{◌≡◌, ◌≢◌, ◌⊎◌, ◌≤◌, ℕ, ◌++◌, List, take, Bool, codes}
 use Rattle.std.specs.Prelude.{IsTrue, Result, Ok, Err, OnOk, IfErr}
 use Rattle.std.specs.Fmt.{decimal}
 use Rattle.sector_disk.specs.declared.copying.CopyFault.{CopyFault}

@@ -1,5 +1,6 @@
 -- A disk in a file whose worker goes on, as the words say (this project's own).
 use Rattle.std.specs.Prelude.{◌≡◌, ◌⊎◌, ℕ, Bool, List, Option, Result, Ok, Err, false, IsTrue}
+use Rattle.std.specs.Prelude.{IfSome}
 use Rattle.std.specs.Int.NonZero.{non_zero_u64_get}
 use Rattle.sector_disk.specs.declared.file.FileDisk.{FileDisk}
 use Rattle.sector_disk.specs.rules.File.{file_medium}
@@ -18,14 +19,41 @@ use Rattle.disk_commands.specs.declared.on_disk.running.RunJob.{RunJob}
 use Rattle.disk_commands.specs.declared.on_disk.upgrading.Upgraded.{Upgraded}
 use Rattle.disk_commands.specs.rules.Leavings.{InputLeft, SaysOfInput}
 use Rattle.disk_commands.specs.rules.Openings.{IsOpenedFor, SaysUnopened}
-use Rattle.disk_commands.specs.rules.StatusFiles.{SaysUnwatchable, path_named}
+use Rattle.disk_commands.specs.rules.StatusFiles.{MayWatch, SaysUnwatchable, path_named}
 use Rattle.disk_commands.specs.rules.Refusals.{HeedsRefusal}
-use Rattle.disk_commands.specs.rules.SeedFiles.{IsSeedFrom, SaysSeedless}
+use Rattle.disk_commands.specs.rules.SeedFiles.{IsSeedFrom, KnownSeedFiles, SaysSeedless}
 use Rattle.disk_commands.specs.rules.ServedOnDisk.{DiskJob, ServesOnDisk, disk_job}
 use Rattle.disk_commands.specs.rules.ServedOnDisk.{Outputs, RunStart, outputs, run_start, run_end}
 use Rattle.disk_commands.specs.rules.Upgradings.{UpgradesOnDisk, status_so_far, upgraded_words}
 
 -- ---- a run
+
+-- what calls of a run have said: of handles and of disks' paths, of what was found at a path, and
+-- of files in which a seed may be
+pub record KnownSystem (F : Type 0) : Type 0 where
+  pub handles : KnownHandles F
+  pub files : KnownFiles F
+  pub has_found : List ℕ → FoundFile → Bool
+  pub seeds : KnownSeedFiles
+
+-- of these
+abbrev pub known_system : {F : Type 0} → KnownHandles F → KnownFiles F → (List ℕ → FoundFile → Bool)
+    → KnownSeedFiles → KnownSystem F
+known_system handles files has_found seeds = record {
+  handles = handles;
+  files = files;
+  has_found = has_found;
+  seeds = seeds;
+}
+
+-- leave for all paths of the words of a run
+pub record MayRun {F : Type 0} (files : KnownFiles F) (said : RunMeaning) : Type 0 where
+  -- the disk may be opened, and also be looked at
+  pub disk : IsTrue (files.may_write said.disk)
+  pub seen : IsTrue (files.may_read said.disk)
+  pub seed : IfSome said.seed_file (λ path. IsTrue (files.may_read path))
+  pub status : IfSome said.status (MayWatch files)
+  pub metrics : IfSome said.metrics (MayWatch files)
 
 -- the path of the status file of a job
 abbrev pub named_status : RunJob → Option (List ℕ)
@@ -36,14 +64,14 @@ abbrev pub named_metrics : RunJob → Option (List ℕ)
 named_metrics job = path_named job.watched.metrics
 
 -- The job is that of the words: their fuel, their pace, their lines for a sync, their clock or the
--- machine's, the seed that they spell or that is in their file, and their files that say where the
--- worker is, with the path of its disk.
-pub record IsJobOf (said : RunMeaning) (job : RunJob) : Type 0 where
+-- machine's, the seed that they spell or that was read of their file, and their files that say
+-- where the worker is, with the path of its disk.
+pub record IsJobOf (seeds : KnownSeedFiles) (said : RunMeaning) (job : RunJob) : Type 0 where
   pub fuel : non_zero_u64_get job.pace.fuel ≡ said.fuel
   pub every : non_zero_u64_get job.pace.every ≡ said.every
   pub batch : non_zero_u64_get job.pace.batch ≡ said.batch
   pub clock : job.outside.clock ≡ said.clock
-  pub seed : IsSeedFrom said.seed_file said.seed job.outside.seed
+  pub seed : IsSeedFrom seeds said.seed_file said.seed job.outside.seed
   pub status : named_status job ≡ said.status
   pub metrics : named_metrics job ≡ said.metrics
   pub disk : job.watched.disk.now ≡ said.disk
@@ -75,40 +103,33 @@ module _ {D O : Type 0} (medium : D → Medium) (takes : Taking O) (before : Run
     pub left : InputLeft
     pub says : SaysOfInput left served between status after.err
 
--- It is said why there is no file at one of these paths, of those that are named: by what was found
--- there or beside it, or by an error of the system.
-abbrev pub SaysNoStatusFile : Option (List ℕ) → Option (List ℕ) → PrinterState → Status
-    → PrinterState → Type 0
-SaysNoStatusFile path metrics err status err' =
-    (has_found : List ℕ → FoundFile → Bool)
-    × SaysUnwatchable has_found path metrics err status err'
-
--- It is said why there is no such file, and nothing else is done. Or the worker is served.
-abbrev pub RunsJob : {D O : Type 0} → (D → Medium) → Taking O → Option (List ℕ)
-    → Option (List ℕ) → RunStart D O → D → Outputs O → Status → Type 0
-RunsJob medium takes path metrics before disk' after status =
-    (SaysNoStatusFile path metrics before.err status after.err × (disk' ≡ before.disk)
-    × (after.outlet ≡ before.outlet))
+-- It is said why there is no file at one of the paths that are named, by what was found there or
+-- beside it, or by an error of the system, and nothing else is done. Or the worker is served.
+abbrev pub RunsJob : {D O : Type 0} → (List ℕ → FoundFile → Bool) → (D → Medium) → Taking O → RunJob
+    → RunStart D O → D → Outputs O → Status → Type 0
+RunsJob has_found medium takes job before disk' after status =
+    (SaysUnwatchable has_found (named_status job) (named_metrics job) before.err status after.err
+    × (disk' ≡ before.disk) × (after.outlet ≡ before.outlet))
     ⊎ ServesToEnd medium takes before disk' after status
 
 -- It is said why the seed or the disk keeps it from running, and no line is released. Or the disk
 -- was opened as the words say, their job was done on it, and it was closed. Where they ask for it
 -- the error output is told what a person is told.
-pub data RunsFile {F O : Type 0} (handles : KnownHandles F) (files : KnownFiles F)
-    (takes : Taking O) (said : RunMeaning) (input : RunInput) (before after : Outputs O)
-    (status : Status) : Type 0 where
-  seedless : SaysSeedless said.seed_file said.seed before.err status after.err
-      → after.outlet ≡ before.outlet
-      → RunsFile handles files takes said input before after status
-  unopened : SaysUnopened handles files said.rewrites said.disk before.err status after.err
-      → after.outlet ≡ before.outlet
-      → RunsFile handles files takes said input before after status
-  opened : (job : RunJob) → IsJobOf said job → (disk : FileDisk F) (disk' : FileDisk F)
-      → IsOpenedFor handles files said.rewrites said.disk disk → IsTrue (files.closed disk')
-      → RunsJob file_medium takes said.status said.metrics
+pub data RunsFile {F O : Type 0} (known : KnownSystem F) (takes : Taking O) (said : RunMeaning)
+    (input : RunInput) (before after : Outputs O) (status : Status) : Type 0 where
+  seedless : SaysSeedless known.seeds said.seed_file said.seed before.err status after.err
+      → after.outlet ≡ before.outlet → RunsFile known takes said input before after status
+  unopened : SaysUnopened known.handles known.files said.rewrites said.disk before.err status
+      after.err
+      → after.outlet ≡ before.outlet → RunsFile known takes said input before after status
+  opened : (job : RunJob) → IsJobOf known.seeds said job → (disk : FileDisk F)
+      (disk' : FileDisk F)
+      → IsOpenedFor known.handles known.files said.rewrites said.disk disk
+      → IsTrue (known.files.closed disk')
+      → RunsJob known.has_found file_medium takes job
       (run_start (job_given job input.lines input.failed) disk before.outlet
       (read_along said.is_verbose before.err)) disk' after status
-      → RunsFile handles files takes said input before after status
+      → RunsFile known takes said input before after status
 
 -- ---- an upgrade
 

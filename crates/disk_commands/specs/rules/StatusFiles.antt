@@ -1,8 +1,9 @@
 -- What a status file may take the place of (this project's own).
 use Rattle.std.specs.Prelude.{◌≡◌, ◌⊎◌, ℕ, Bool, IsTrue, List, [], ◌++◌, codes}
-use Rattle.std.specs.Prelude.{Option, Some, option_map}
+use Rattle.std.specs.Prelude.{Option, Some, None, option_map}
 use Rattle.std.specs.Borrow.{Bor}
 use Rattle.std.specs.declared.io.ErrorKind.{ErrorKind}
+use Rattle.sector_disk.specs.rules.Known.{KnownFiles}
 use Rattle.command_words.specs.rules.Printers.{PrinterState}
 use Rattle.command_words.specs.rules.Reports.{SaysLine}
 use Rattle.command_words.specs.declared.status.Status.{Status}
@@ -61,6 +62,11 @@ SaysTaken has_found path old status new =
 abbrev pub beside : List ℕ → List ℕ
 beside path = path ++ codes ".new"
 
+-- Leave for a status file at this path: there and beside it may be looked and a file be made.
+abbrev pub MayWatch : {F : Type 0} → KnownFiles F → List ℕ → Type 0
+MayWatch files path = IsTrue (files.may_read path) × IsTrue (files.may_make path)
+    × IsTrue (files.may_read (beside path)) × IsTrue (files.may_make (beside path))
+
 -- Both paths of a status file were found free. A file that was made at the one beside was removed.
 abbrev pub IsWatchable : (List ℕ → FoundFile → Bool) → (List ℕ → Bool) → List ℕ → Type 0
 IsWatchable has_found removed path =
@@ -80,9 +86,23 @@ SaysUnwatched has_found path old status new =
 abbrev pub path_named : Option (Bor (List ℕ)) → Option (List ℕ)
 path_named path = option_map (λ text. text.now) path
 
--- It is said of one of two files that are named why it can't be had.
+-- Two files that are named share a path: it is that of both, or one has the path beside the other.
+abbrev pub SharePath : Option (List ℕ) → Option (List ℕ) → Type 0
+SharePath (Some status) (Some metrics) =
+    (status ≡ metrics) ⊎ (status ≡ beside metrics) ⊎ (metrics ≡ beside status)
+SharePath None metrics = ⊥
+SharePath (Some status) None = ⊥
+
+-- what is told of such two
+abbrev pub shared_words : List ℕ
+shared_words =
+    codes "error: --status and --metrics need paths of their own, also with .new behind them"
+
+-- It is said that two files that are named share a path. Or it is said of one of them why it can't
+-- be had.
 abbrev pub SaysUnwatchable : (List ℕ → FoundFile → Bool) → Option (List ℕ) → Option (List ℕ)
     → PrinterState → Status → PrinterState → Type 0
 SaysUnwatchable has_found status metrics old answered new =
-    (path : List ℕ) × ((status ≡ Some path) ⊎ (metrics ≡ Some path))
-    × SaysUnwatched has_found path old answered new
+    (SharePath status metrics × SaysLine shared_words exit.Usage old answered new)
+    ⊎ ((path : List ℕ) × ((status ≡ Some path) ⊎ (metrics ≡ Some path))
+    × SaysUnwatched has_found path old answered new)

@@ -10,8 +10,9 @@
 //!
 //! # Choices
 //!
-//! - **Nodes are made by the order of their paths**, so each directory comes before what is in it.
-//!   By number it may come later: a file can be moved into a younger directory.
+//! - **Nodes are made by the order of their paths**, so each directory comes before what is in it
+//!   (`ParentsComeFirst`). By number it may come later, since a file can be moved into a younger
+//!   directory.
 //! - **The host can have each name.** A node's name is UTF-8 without a `/` or a byte 0, and it is
 //!   neither `.` nor `..`. It may have a newline.
 //! - **Nothing is synced.** The disk has all of it still.
@@ -25,11 +26,13 @@ ghost use Rattle.sector_disk.specs.rules.Known.{MayOpen};
 ghost use Rattle.command_words.specs.rules.Printers.{IsPrinted, printers};
 ghost use Rattle.command_words.specs.rules.Reports.{SaysOnOutput};
 ghost use Rattle.command_words.specs.declared.status.Status.TheVariants as exit;
+ghost use Rattle.disk_commands.specs.NodeOrders.{ParentsComeFirst};
 ghost use Rattle.disk_commands.specs.rules.ExtractedTrees.{ExtractsDisk, ExtractsFile, FailsToMake};
 ghost use Rattle.disk_commands.specs.rules.ExtractedTrees.{FillsFolder, IsMade, IsMadeBelow};
 ghost use Rattle.disk_commands.specs.rules.ExtractedTrees.{SaysUnmade, SaysUnmadeOf, WritesTree};
 ghost use Rattle.disk_commands.specs.rules.ExtractedTrees.{directories_in, written_line};
-ghost use Rattle.disk_commands.specs.rules.NewTrees.{IsBelow, IsListedBelow, below};
+ghost use Rattle.disk_commands.specs.rules.NewTrees.{IsBelow, IsListedBelow, LiesInMadeFolder};
+ghost use Rattle.disk_commands.specs.rules.NewTrees.{below};
 ghost use Rattle.disk_commands.specs.rules.Openings.{command_run};
 
 use crate::on_disk::disk_file::{Seen, open_disk};
@@ -62,6 +65,7 @@ fn make_node<R: NewTrees>(
 ) -> io::Result<()>
     requires below { IsBelow new.now.path.now path.now }
     requires listed { IsListedBelow new.now.tree.now new.now.path.now path.now node.now }
+    requires parent { LiesInMadeFolder (R.trees files.now) path.now }
     ensures made { OnOk result (IsMade (R.trees files.now) new.now.tree.now path.now node.now) }
     ensures failed { IfErr result (λ error.
         FailsToMake (R.trees files.now) path.now (error_kind error)) }
@@ -85,6 +89,8 @@ fn write_node<R: NewTrees, E: Write + Drop>(
 ) -> Result<(), Status>
     requires named { IsPathText node.now.path }
     requires listed { Contains (listing_in new.now.tree.now) node.now }
+    requires parent { LiesInMadeFolder (R.trees files.now)
+        (below new.now.path.now node.now.path) }
     ensures made { OnOk result
         (IsMadeBelow (R.trees files.now) new.now.path.now new.now.tree.now node.now) }
     ensures quiet { OnOk result (err.new ≡ err.old) }
@@ -111,6 +117,8 @@ fn write_nodes<R: NewTrees, E: Write + Drop>(
 ) -> Result<(), Status>
     requires named { HaveNames nodes.now }
     requires listed { All (Contains (listing_in new.now.tree.now)) nodes.now }
+    requires ordered { ParentsComeFirst nodes.now }
+    requires folder { IsTrue ((R.trees files.now).folder new.now.path.now) }
     ensures made { OnOk result
         (All (IsMadeBelow (R.trees files.now) new.now.path.now new.now.tree.now) nodes.now) }
     ensures quiet { OnOk result (err.new ≡ err.old) }
@@ -170,6 +178,8 @@ fn fill_folder<R: NewTrees, W: Write + Drop, E: Write + Drop>(
 ) -> Status
     requires named { HaveNames nodes.now }
     requires listed { All (Contains (listing_in new.now.tree.now)) nodes.now }
+    requires ordered { ParentsComeFirst nodes.now }
+    requires folder { IsTrue ((R.trees files.now).folder new.now.path.now) }
     ensures { FillsFolder (R.trees files.now) new.now.path.now new.now.tree.now nodes.now
         (printers out.old err.old) (printers out.new err.new) result }
 {
@@ -195,6 +205,7 @@ fn sorted_nodes(alloc: Global, tree: &Tree) -> Result<Vec<ListedNode>, AllocErro
     ensures listed { IfOk result (λ nodes. IsPermutation (listing_in tree.now) nodes.items) }
     ensures named { IfOk result (λ nodes. HaveNames nodes.items) }
     ensures of_tree { IfOk result (λ nodes. All (Contains (listing_in tree.now)) nodes.items) }
+    ensures ordered { IfOk result (λ nodes. ParentsComeFirst nodes.items) }
 {
     let mut nodes = list_nodes(alloc, tree)?;
     nodes.sort_unstable_by(|node, other| node.path.as_slice().cmp(other.path.as_slice()));

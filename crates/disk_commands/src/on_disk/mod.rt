@@ -42,6 +42,7 @@ pub use new_trees::{NewTree, NewTrees};
 pub use opening::{report_open, report_unread};
 pub use running::{System, run_file, upgrade_file};
 pub use saving::{save_file, save_on};
+pub use seed_file::SeedFiles;
 pub use serving::{Drive, serve};
 pub use showing::survey;
 pub use sighting::{Sighting, WatchedState};

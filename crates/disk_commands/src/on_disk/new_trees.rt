@@ -7,6 +7,8 @@
 //!   that of a new folder, a `/` and names of which none is `..` (`IsBelow`).
 //! - **A new folder is of a tree**, and nothing is made below it but what the tree lists, each file
 //!   with its bytes (`IsFolderOf`, `IsFileOf`).
+//! - **A folder is made before what lies in it** (`LiesInMadeFolder`). So nothing is refused for
+//!   want of its folder.
 //! - **A new folder is kept or removed, once**: `NewTree` is lent to nobody, and each of the two
 //!   takes it.
 
@@ -47,6 +49,7 @@ pub trait NewTrees: DiskFiles {
     ghost use Rattle.std.specs.Prelude.{◌≡◌, IsTrue, IfErr, IfOk, OnOk};
     ghost use Rattle.std.specs.IoError.{error_kind};
     ghost use Rattle.disk_commands.specs.rules.NewTrees.{IsBelow, IsFileOf, IsFolderOf, KnownTrees};
+    ghost use Rattle.disk_commands.specs.rules.NewTrees.{LiesInMadeFolder};
 
     ghost trees: { Self → KnownTrees };
 
@@ -58,19 +61,22 @@ pub trait NewTrees: DiskFiles {
         ensures failed { IfErr result (λ error.
             IsTrue ((trees self.now).refused path.entry.now (error_kind error))) };
 
-    /// Makes a folder of the tree below a new one, where there is no such path.
+    /// Makes a folder of the tree below a new one, where there is no such path. The folder in which
+    /// it lies was made.
     fn make_folder(&self, new: &NewTree<'_>, path: &str) -> io::Result<()>
         requires below { IsBelow new.now.path.now path.now }
         requires listed { IsFolderOf new.now.tree.now new.now.path.now path.now }
+        requires parent { LiesInMadeFolder (trees self.now) path.now }
         ensures made { OnOk result (IsTrue ((trees self.now).folder path.now)) }
         ensures failed { IfErr result (λ error.
             IsTrue ((trees self.now).refused path.now (error_kind error))) };
 
     /// Makes a file of the tree below a new folder, where there is no such path, and writes its
-    /// bytes to it.
+    /// bytes to it. The folder in which it lies was made.
     fn make_file(&self, new: &NewTree<'_>, path: &str, bytes: &[u8]) -> io::Result<()>
         requires below { IsBelow new.now.path.now path.now }
         requires listed { IsFileOf new.now.tree.now new.now.path.now path.now bytes.now }
+        requires parent { LiesInMadeFolder (trees self.now) path.now }
         ensures made { OnOk result (IsTrue ((trees self.now).file path.now bytes.now)) }
         ensures failed { IfErr result (λ error.
             IsTrue ((trees self.now).refused path.now (error_kind error))) };

@@ -5,24 +5,27 @@
 //! - **What the words of a command say is handed over whole**, and one function makes the job of a
 //!   run of it (`job_of`). The program then has no number to pass, and each is in a clause.
 
-ghost use Rattle.std.specs.Prelude.{IsTrue};
+ghost use Rattle.std.specs.Prelude.{IfSome, IsTrue};
 ghost use Rattle.std.specs.Int.NonZero.{non_zero_u64_get};
 ghost use Rattle.std.specs.Io.Buffered.{reader_remaining};
 ghost use Rattle.command_words.specs.rules.Commands.{run_said};
 ghost use Rattle.command_words.specs.rules.Printers.{printers};
-ghost use Rattle.disk_commands.specs.rules.ServedFiles.{IsJobOf, RunsFile, run_input};
-ghost use Rattle.disk_commands.specs.rules.ServedFiles.{RunsJob, ServesToEnd, UpgradesFile};
-ghost use Rattle.disk_commands.specs.rules.ServedFiles.{job_given, named_metrics, named_status};
-ghost use Rattle.disk_commands.specs.rules.SeedFiles.{IsSeedFrom};
+ghost use Rattle.disk_commands.specs.rules.ServedFiles.{IsJobOf, MayRun, RunsFile, RunsJob};
+ghost use Rattle.disk_commands.specs.rules.ServedFiles.{ServesToEnd, UpgradesFile, job_given};
+ghost use Rattle.disk_commands.specs.rules.ServedFiles.{known_system, named_metrics, named_status};
+ghost use Rattle.disk_commands.specs.rules.ServedFiles.{run_input};
+ghost use Rattle.disk_commands.specs.rules.SeedFiles.{IsSeedFrom, KnownSeedFiles};
 ghost use Rattle.disk_commands.specs.rules.ServedOnDisk.{disk_job, run_start, outputs};
+ghost use Rattle.disk_commands.specs.rules.StatusFiles.{MayWatch};
 
 use crate::on_disk::disk_file::open_disk;
 use crate::on_disk::leaving::report_input;
 use crate::on_disk::living::Pace;
-use crate::on_disk::seed_file::seed_for;
+use crate::on_disk::seed_file::{SeedFiles, seed_for};
 use crate::on_disk::serving::{Drive, serve};
 use crate::on_disk::upgrading::{say_upgraded, upgrade_worker};
 use crate::on_disk::watch_files::{WatchPaths, watch_files_of};
+use crate::on_disk::watched_paths::WatchedPaths;
 use crate::on_disk::watching::Watcher;
 use command_words::{
     BufferedLines, LineOutlet, Outside, Printer, RealTime, RequestSource, RunOrder, Status,
@@ -30,8 +33,7 @@ use command_words::{
 use record_replay::Outlet;
 use sector_disk::{Disk, DiskFile, DiskFiles, FileDisk};
 use std::alloc::Global;
-use std::io::{BufReader, Read, Seek, Write};
-use std::rt::Files;
+use std::io::{BufReader, Read, Write};
 use std::time::Clock;
 
 /// What the system lends a run.
@@ -57,8 +59,9 @@ pub(crate) struct RunJob<'a> {
 
 /// What the words say of a run, with their seed. No other place takes a number of theirs.
 fn job_of<'a>(order: &RunOrder<'a>, seed: [u8; 32]) -> RunJob<'a>
-    requires { IsSeedFrom (run_said order.now).seed_file (run_said order.now).seed seed }
-    ensures { IsJobOf (run_said order.now) result }
+    ensures { (seeds : KnownSeedFiles)
+        → IsSeedFrom seeds (run_said order.now).seed_file (run_said order.now).seed seed
+        → IsJobOf seeds (run_said order.now) result }
 {
     RunJob {
         pace: Pace {
@@ -108,7 +111,7 @@ where
 
 /// Does the job of a run on its disk: where files are named that say where the worker is, their
 /// paths must be free, and the worker goes on. Answers the exit status.
-fn run_job<D, F, R, I, C, O, E>(
+fn run_job<D, R, I, C, O, E>(
     alloc: Global,
     disk: &mut D,
     job: RunJob<'_>,
@@ -118,13 +121,15 @@ fn run_job<D, F, R, I, C, O, E>(
 ) -> Status
 where
     D: Disk,
-    F: DiskFile + Read + Write + Seek,
-    R: Files<File = F> + Clock,
+    R: WatchedPaths + Clock,
     I: Read + Drop,
     C: RealTime + Drop,
     O: Outlet,
     E: Write + Drop,
-    ensures { RunsJob D.medium O.takes (named_status job.entry) (named_metrics job.entry)
+    requires status { IfSome (named_status job) (MayWatch (R.known system.files.now)) }
+    requires metrics { IfSome (named_metrics job) (MayWatch (R.known system.files.now)) }
+    requires disk { IsTrue ((R.known system.files.now).may_read job.watched.disk.now) }
+    ensures { RunsJob (R.has_found system.entry.files.now) D.medium O.takes job.entry
         (run_start (job_given job.entry (reader_remaining I.remaining system.entry.lines.reader)
         system.entry.lines.has_failed) disk.old outlet.old err.old) disk.new
         (outputs outlet.new err.new) result }
@@ -163,15 +168,16 @@ pub fn run_file<F, R, I, C, O, E>(
     err: &mut Printer<E>,
 ) -> Status
 where
-    F: DiskFile + Read + Write + Seek,
-    R: DiskFiles<File = F> + Files<File = F> + Clock,
+    F: DiskFile,
+    R: DiskFiles<File = F> + SeedFiles + WatchedPaths + Clock,
     I: Read + Drop,
     C: RealTime + Drop,
     O: Outlet,
     E: Write + Drop,
-    requires { IsTrue ((R.known system.files.now).may_write order.now.disk.now) }
-    ensures { RunsFile F.known (R.known system.entry.files.now) O.takes (run_said order.now)
-        (run_input (reader_remaining I.remaining system.entry.lines.reader)
+    requires { MayRun (R.known system.files.now) (run_said order.now) }
+    ensures { RunsFile (known_system F.known (R.known system.entry.files.now)
+        (R.has_found system.entry.files.now) (R.seeds system.entry.files.now)) O.takes
+        (run_said order.now) (run_input (reader_remaining I.remaining system.entry.lines.reader)
         system.entry.lines.has_failed) (outputs outlet.old err.old) (outputs outlet.new err.new)
         result }
 {

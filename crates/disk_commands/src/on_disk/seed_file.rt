@@ -1,17 +1,18 @@
 //! The seed of a run: digits among its words, or a file with them.
 
-ghost use Rattle.std.specs.Prelude.{◌≡◌, ℕ, List, IfErr, IfOk, IfSome, IsNone, OnOk, Some};
+ghost use Rattle.std.specs.Prelude.{◌≡◌, ℕ, List, IfErr, IfOk, IfSome, IsNone, IsTrue, OnOk, Some};
 ghost use Rattle.std.specs.Prelude.{option_map};
 ghost use Rattle.command_words.specs.rules.Commands.{run_said};
 ghost use Rattle.command_words.specs.rules.Reports.{SaysLine, obstacle_words};
 ghost use Rattle.command_words.specs.declared.status.Status.TheVariants as exit;
 ghost use Rattle.disk_commands.specs.rules.SeedFiles.{IsNoSeed, IsSeedFrom, IsSeedIn, IsSeedOf};
-ghost use Rattle.disk_commands.specs.rules.SeedFiles.{SaysSeedless, SaysSeedlessFile};
+ghost use Rattle.disk_commands.specs.rules.SeedFiles.{LackSeed, SaysSeedless, SaysSeedlessFile};
 ghost use Rattle.disk_commands.specs.rules.SeedFiles.{seedless_words};
 
 use crate::on_disk::opening::report_unread;
 use crate::on_disk::status_line::before_newline;
 use command_words::{Obstacle, Printer, RunOrder, Status, read_seed, report};
+use sector_disk::DiskFiles;
 use std::alloc::Global;
 use std::fs::{File, OpenFile};
 use std::io::{self, Read, Write};
@@ -33,7 +34,8 @@ fn seed_of(digits: Option<&str>) -> Option<[u8; 32]>
 
 /// The seed that a text spells.
 fn seed_of_text(text: &[u8]) -> Option<[u8; 32]>
-    ensures { IfSome result (IsSeedOf (Some text.now)) }
+    ensures spelled { IfSome result (IsSeedOf (Some text.now)) }
+    ensures none { IsNone result → IsNoSeed (Some text.now) }
 {
     match std::str::from_utf8(text) {
         Ok(digits) => read_seed(digits),
@@ -43,7 +45,8 @@ fn seed_of_text(text: &[u8]) -> Option<[u8; 32]>
 
 /// The seed that the bytes of a file are: its digits, and a newline or none.
 fn seed_in(bytes: &[u8]) -> Option<[u8; 32]>
-    ensures { IfSome result (IsSeedIn bytes.now) }
+    ensures spelled { IfSome result (IsSeedIn bytes.now) }
+    ensures none { IsNone result → LackSeed bytes.now }
 {
     match before_newline(bytes) {
         Some(digits) => seed_of_text(digits),
@@ -51,17 +54,35 @@ fn seed_in(bytes: &[u8]) -> Option<[u8; 32]>
     }
 }
 
-/// The first bytes of a file.
-fn read_front<F: OpenFile + Read + Drop, R: Files<File = F>>(
-    alloc: Global,
-    files: &R,
-    path: &str,
-) -> io::Result<Vec<u8>> {
-    let mut front = Vec::new(alloc);
-    File::open(files, path)?
-        .take(FRONT_BYTES)
-        .read_to_end(&mut front)?;
-    Ok(front)
+/// Files of which one may have a seed.
+pub trait SeedFiles: DiskFiles {
+    ghost use Rattle.std.specs.Prelude.{IsTrue, IfErr, IfOk};
+    ghost use Rattle.std.specs.IoError.{error_kind};
+    ghost use Rattle.disk_commands.specs.rules.SeedFiles.{KnownSeedFiles};
+
+    ghost seeds: { Self → KnownSeedFiles };
+
+    /// The first bytes of the file at a path: as many as one with a seed may have, and one more.
+    fn read_front(&self, alloc: Global, path: &str) -> io::Result<Vec<u8>>
+        requires { IsTrue ((Self.known self.now).may_read path.now) }
+        ensures read { IfOk result (λ front. IsTrue ((seeds self.now).front path.now front.items)) }
+        ensures unread { IfErr result (λ error.
+            IsTrue ((seeds self.now).unread path.now (error_kind error))) };
+}
+
+// Of the system's files no more is known than what it answers.
+impl<F: OpenFile + Read + Write + Drop, R: Files<File = F>> SeedFiles for R {
+    ghost use Rattle.disk_commands.specs.rules.SeedFiles.{all_said_of_seed_files};
+
+    ghost seeds = { λ _. all_said_of_seed_files };
+
+    fn read_front(&self, alloc: Global, path: &str) -> io::Result<Vec<u8>> {
+        let mut front = Vec::new(alloc);
+        File::open(self, path)?
+            .take(FRONT_BYTES)
+            .read_to_end(&mut front)?;
+        Ok(front)
+    }
 }
 
 /// Says that a file has no seed, and answers the exit status.
@@ -75,22 +96,20 @@ fn say_seedless<E: Write + Drop>(err: &mut Printer<E>, path: &str) -> Status
 }
 
 /// The seed in a file. Where there is none, that is said, and the error is the exit status.
-fn seed_of_file<F, R, E>(
+fn seed_of_file<R: SeedFiles, E: Write + Drop>(
     alloc: Global,
     files: &R,
     path: &str,
     err: &mut Printer<E>,
 ) -> Result<[u8; 32], Status>
-where
-    F: OpenFile + Read + Drop,
-    R: Files<File = F>,
-    E: Write + Drop,
-    ensures spelled { IfOk result (λ seed. (bytes : List ℕ) × IsSeedIn bytes seed) }
+    requires { IsTrue ((R.known files.now).may_read path.now) }
+    ensures spelled { IfOk result (λ seed. (bytes : List ℕ)
+        × IsTrue ((R.seeds files.now).front path.now bytes) × IsSeedIn bytes seed) }
     ensures quiet { OnOk result (err.new ≡ err.old) }
     ensures said { IfErr result (λ status.
-        SaysSeedlessFile path.now err.old status err.new) }
+        SaysSeedlessFile (R.seeds files.now) path.now err.old status err.new) }
 {
-    let front = match read_front(alloc, files, path) {
+    let front = match files.read_front(alloc, path) {
         Ok(front) => front,
         Err(error) => return Err(report_unread(err, path, error)),
     };
@@ -119,21 +138,19 @@ fn seed_of_words<E: Write + Drop>(
 
 /// The seed of a run, as its words say. Where there is none, that is said, and the error is the
 /// exit status.
-pub(super) fn seed_for<F, R, E>(
+pub(super) fn seed_for<R: SeedFiles, E: Write + Drop>(
     alloc: Global,
     files: &R,
     order: &RunOrder<'_>,
     err: &mut Printer<E>,
 ) -> Result<[u8; 32], Status>
-where
-    F: OpenFile + Read + Drop,
-    R: Files<File = F>,
-    E: Write + Drop,
-    ensures spelled { IfOk result (IsSeedFrom (run_said order.now).seed_file
-        (run_said order.now).seed) }
+    requires { IfSome (run_said order.now).seed_file
+        (λ path. IsTrue ((R.known files.now).may_read path)) }
+    ensures spelled { IfOk result (IsSeedFrom (R.seeds files.now)
+        (run_said order.now).seed_file (run_said order.now).seed) }
     ensures quiet { OnOk result (err.new ≡ err.old) }
-    ensures said { IfErr result (λ status. SaysSeedless (run_said order.now).seed_file
-        (run_said order.now).seed err.old status err.new) }
+    ensures said { IfErr result (λ status. SaysSeedless (R.seeds files.now)
+        (run_said order.now).seed_file (run_said order.now).seed err.old status err.new) }
 {
     let Some(path) = order.seed_file else {
         return seed_of_words(order.seed, err);

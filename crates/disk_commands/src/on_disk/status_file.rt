@@ -18,8 +18,8 @@ ghost use Rattle.sector_disk.specs.rules.Causes.{open_cause};
 ghost use Rattle.command_words.specs.rules.Reports.{SaysLine};
 ghost use Rattle.command_words.specs.declared.status.Status.TheVariants as exit;
 ghost use Rattle.disk_commands.specs.rules.StatusFiles.{HasFoundFree, IsFreePath, IsWatchable};
-ghost use Rattle.disk_commands.specs.rules.StatusFiles.{SaysTaken, SaysUnwatched, beside};
-ghost use Rattle.disk_commands.specs.rules.StatusFiles.{found_words};
+ghost use Rattle.disk_commands.specs.rules.StatusFiles.{MayWatch, SaysTaken, SaysUnwatched};
+ghost use Rattle.disk_commands.specs.rules.StatusFiles.{beside, found_words, path_named};
 
 use crate::on_disk::found_file::FoundFile;
 use crate::on_disk::opening::report_unread;
@@ -48,6 +48,7 @@ fn look_at_free<R: WatchedPaths, E: Write + Drop>(
     path: &str,
     err: &mut Printer<E>,
 ) -> Result<FoundFile, Status>
+    requires { IsTrue ((R.known files.now).may_read path.now) }
     ensures found { IfOk result (λ here. IsTrue (R.has_found files.now path.now here)) }
     ensures free { IfOk result IsFreePath }
     ensures quiet { OnOk result (err.new ≡ err.old) }
@@ -88,7 +89,8 @@ fn clear_beside<R: WatchedPaths, E: Write + Drop>(
     path: &str,
     err: &mut Printer<E>,
 ) -> Result<(), Status>
-    requires { IsTrue ((R.known files.now).may_make path.now) }
+    requires reads { IsTrue ((R.known files.now).may_read path.now) }
+    requires makes { IsTrue ((R.known files.now).may_make path.now) }
     ensures free { OnOk result (HasFoundFree (R.has_found files.now path.now)
         × IsTrue ((R.known files.now).removed path.now)) }
     ensures quiet { OnOk result (err.new ≡ err.old) }
@@ -115,7 +117,7 @@ fn clear_paths<R: WatchedPaths, E: Write + Drop>(
     err: &mut Printer<E>,
 ) -> Result<(), Status>
     requires beside { new.now ≡ beside path.now }
-    requires may { IsTrue ((R.known files.now).may_make new.now) }
+    requires may { MayWatch (R.known files.now) path.now }
     ensures free { OnOk result (IsWatchable (R.has_found files.now) (R.known files.now).removed
         path.now) }
     ensures quiet { OnOk result (err.new ≡ err.old) }
@@ -150,6 +152,8 @@ pub struct StatusFile<'a, R: WatchedPaths> {
     path: &'a str,
     beside: String,
     ghost may: { IsTrue ((R.known files.now).may_make (string_bytes beside)) },
+    ghost reads: { IsTrue ((R.known files.now).may_read path.now) },
+    ghost makes: { IsTrue ((R.known files.now).may_make path.now) },
 }
 
 impl<R: WatchedPaths> StatusFile<'_, R> {
@@ -197,7 +201,7 @@ pub fn status_file_of<'a, R: WatchedPaths, E: Write + Drop>(
     path: Option<&'a str>,
     err: &mut Printer<E>,
 ) -> Result<Option<StatusFile<'a, R>>, Status>
-    requires { IfSome path (λ text. IsTrue ((R.known files.now).may_make (beside text.now))) }
+    requires { IfSome (path_named path) (MayWatch (R.known files.now)) }
     ensures named { IfOk result (λ file. IsSome file ↔ IsSome path.entry) }
     ensures free { IfSome path.entry (λ text. OnOk result (IsWatchable
         (R.has_found files.entry.now) (R.known files.entry.now).removed text.now)) }

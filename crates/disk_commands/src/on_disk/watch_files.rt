@@ -8,8 +8,8 @@
 //!   since the last one (`IsDue`). No clause says that a file gets its text:
 //!   `scripts/runs/program-rows` and `scripts/runs/disk-rows` show that. It also has the module of
 //!   the worker's disk, for the names of functions.
-//! - `watch_files_of`: a file is only there where both of its paths were found free. Else it is
-//!   said which one isn't, and why (`SaysUnwatchable`).
+//! - `watch_files_of`: a file is only there where both of its paths were found free, and two share
+//!   no path. Else it is said which one isn't, and why (`SaysUnwatchable`).
 //!
 //! # Choices
 //!
@@ -17,10 +17,13 @@
 //!   named.
 
 ghost use Rattle.std.specs.Prelude.{◌≡◌, ◌↔◌, IfErr, IfOk, IfSome, IsSome, IsTrue, OnOk};
+ghost use Rattle.command_words.specs.rules.Reports.{SaysLine};
+ghost use Rattle.command_words.specs.declared.status.Status.TheVariants as exit;
 ghost use Rattle.record_replay.specs.declared.slices.now.Now.TheVariants.{Spent};
 ghost use Rattle.disk_commands.specs.rules.Metrics.{disk_label, metrics_text};
-ghost use Rattle.disk_commands.specs.rules.StatusFiles.{IsWatchable, SaysUnwatchable};
-ghost use Rattle.disk_commands.specs.rules.StatusFiles.{SaysUnwatched, beside, path_named};
+ghost use Rattle.disk_commands.specs.rules.StatusFiles.{IsWatchable, MayWatch, SaysUnwatchable};
+ghost use Rattle.disk_commands.specs.rules.StatusFiles.{SaysUnwatched, SharePath, beside};
+ghost use Rattle.disk_commands.specs.rules.StatusFiles.{path_named, shared_words};
 ghost use Rattle.disk_commands.specs.rules.Watchings.{sighting_of, watch_line};
 ghost use Rattle.disk_commands.specs.Watchings.{IsDue};
 
@@ -28,6 +31,7 @@ use crate::on_disk::metrics::{print_metrics, spell_label};
 use crate::on_disk::opening::report_unread;
 use crate::on_disk::sighting::{Sighting, WatchedState};
 use crate::on_disk::status_file::{StatusFile, status_file_of};
+use crate::on_disk::status_line::behind;
 use crate::on_disk::watched_paths::WatchedPaths;
 use crate::on_disk::watching::{Watcher, print_status};
 use command_words::{Printer, Status, nanoseconds_of};
@@ -97,6 +101,7 @@ pub struct WatchFiles<'a, R: WatchedPaths> {
     disk: &'a str,
     /// When they were written last, in nanoseconds of the machine's clock that never goes back.
     last: Cell<Option<u64>>,
+    ghost reads: { IsTrue ((R.known files.now).may_read disk.now) },
 }
 
 impl<R: WatchedPaths> WatchFiles<'_, R> {
@@ -194,7 +199,7 @@ fn metrics_file_of<'a, R: WatchedPaths, E: Write + Drop>(
     disk: &str,
     err: &mut Printer<E>,
 ) -> Result<Option<MetricsFile<'a, R>>, Status>
-    requires { IfSome path (λ text. IsTrue ((R.known files.now).may_make (beside text.now))) }
+    requires { IfSome (path_named path) (MayWatch (R.known files.now)) }
     ensures named { IfOk result (λ file. IsSome file ↔ IsSome path.entry) }
     ensures free { IfSome path.entry (λ text. OnOk result (IsWatchable
         (R.has_found files.entry.now) (R.known files.entry.now).removed text.now)) }
@@ -218,24 +223,60 @@ fn metrics_file_of<'a, R: WatchedPaths, E: Write + Drop>(
     }
 }
 
-/// The files that are named, once there is something to tell. The paths of each must be free: at
-/// one nothing is, or a file that says where a worker is. Such a one beside it is removed, and it
-/// is tried that a new one can be made. Where that fails, it is said, and the error is the exit
-/// status.
+/// Whether a path is the one beside another.
+fn is_beside(path: &str, other: &str) -> bool
+    ensures { IsTrue result ↔ (path.now ≡ beside other.now) }
+{
+    match behind(path.as_bytes(), other.as_bytes()) {
+        Some(end) => end == b".new".as_slice(),
+        None => false,
+    }
+}
+
+/// Whether both files are named, and share a path as these are spelled.
+fn share_path(paths: WatchPaths<'_>) -> bool
+    ensures { IsTrue result ↔ SharePath (path_named paths.entry.status)
+        (path_named paths.entry.metrics) }
+{
+    let (Some(status), Some(metrics)) = (paths.status, paths.metrics) else {
+        return false;
+    };
+    if status == metrics || is_beside(status, metrics) {
+        return true;
+    }
+    is_beside(metrics, status)
+}
+
+/// Says that both files share a path, and answers the exit status.
+fn say_shared<E: Write + Drop>(err: &mut Printer<E>) -> Status
+    ensures { SaysLine shared_words exit.Usage err.old result err.new }
+{
+    let words = "error: --status and --metrics need paths of their own, also with .new behind them";
+    match writeln!(err, "{words}") {
+        Ok(()) => Status::Usage,
+        Err(_) => Status::Unwritten,
+    }
+}
+
+/// The files that are named, once there is something to tell. They share no path. The paths of each
+/// must be free: at one nothing is, or a file that says where a worker is. Such a one beside it is
+/// removed, and it is tried that a new one can be made. Where that fails, it is said, and the error
+/// is the exit status.
 pub fn watch_files_of<'a, R: WatchedPaths, E: Write + Drop>(
     alloc: Global,
     files: &'a R,
     paths: WatchPaths<'a>,
     err: &mut Printer<E>,
 ) -> Result<WatchFiles<'a, R>, Status>
-    requires status { IfSome paths.status (λ text.
-        IsTrue ((R.known files.now).may_make (beside text.now))) }
-    requires metrics { IfSome paths.metrics (λ text.
-        IsTrue ((R.known files.now).may_make (beside text.now))) }
+    requires status { IfSome (path_named paths.status) (MayWatch (R.known files.now)) }
+    requires metrics { IfSome (path_named paths.metrics) (MayWatch (R.known files.now)) }
+    requires disk { IsTrue ((R.known files.now).may_read paths.disk.now) }
     ensures status { IfSome paths.entry.status (λ text. OnOk result (IsWatchable
         (R.has_found files.entry.now) (R.known files.entry.now).removed text.now)) }
     ensures metrics { IfSome paths.entry.metrics (λ text. OnOk result (IsWatchable
         (R.has_found files.entry.now) (R.known files.entry.now).removed text.now)) }
+    ensures apart { OnOk result
+        (SharePath (path_named paths.entry.status) (path_named paths.entry.metrics) → ⊥) }
     ensures label { IfOk result (λ watch. IfSome watch.metrics (λ metrics.
         metrics.label.items ≡ disk_label paths.entry.disk.now)) }
     ensures named { IfOk result (λ watch. (IsSome watch.status ↔ IsSome paths.entry.status)
@@ -244,6 +285,9 @@ pub fn watch_files_of<'a, R: WatchedPaths, E: Write + Drop>(
     ensures said { IfErr result (λ status. SaysUnwatchable (R.has_found files.entry.now)
         (path_named paths.entry.status) (path_named paths.entry.metrics) err.old status err.new) }
 {
+    if share_path(paths) {
+        return Err(say_shared(err));
+    }
     let status = match status_file_of(alloc, files, paths.status, err) {
         Ok(status) => status,
         Err(code) => return Err(code),

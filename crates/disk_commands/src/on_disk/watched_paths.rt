@@ -36,8 +36,8 @@ fn look_into<F: DiskFile + Read>(alloc: Global, mut file: F) -> io::Result<Found
     Ok(FoundFile::Regular(front))
 }
 
-/// Paths that can be looked at. Only a status file is removed from one, and only a path that was
-/// found free gets a new file.
+/// Paths that can be looked at, by leave. Only a status file is removed from one, and only a path
+/// that was found free gets a new file.
 pub trait WatchedPaths: NewFiles {
     ghost use Rattle.std.specs.Prelude.{ℕ, Bool, List, IsTrue, IfOk, OnOk};
     ghost use Rattle.disk_commands.specs.declared.on_disk.found_file.FoundFile.{FoundFile};
@@ -51,20 +51,24 @@ pub trait WatchedPaths: NewFiles {
 
     /// Looks at a path. It follows no link, and opens nothing but a regular file.
     fn look_at(&self, alloc: Global, path: &str) -> io::Result<FoundFile>
+        requires { IsTrue ((Self.known self.now).may_read path.now) }
         ensures { IfOk result (λ here. IsTrue (has_found self.now path.now here)) };
 
     /// Removes a status file.
     fn remove_status_file(&self, path: &str) -> io::Result<()>
-        requires { HasFoundStatusFile (has_found self.now path.now) };
+        requires found { HasFoundStatusFile (has_found self.now path.now) }
+        requires may { IsTrue ((Self.known self.now).may_make path.now) };
 
     /// Gives a new file the name of a path.
     fn rename_new(&self, new: &NewFile<'_>, path: &str) -> io::Result<()>
-        requires { HasFoundFree (has_found self.now path.now) }
+        requires free { HasFoundFree (has_found self.now path.now) }
+        requires may { IsTrue ((Self.known self.now).may_make path.now) }
         ensures { OnOk result (IsTrue (has_renamed self.now new.now.path.now path.now)) };
 
     /// The module of the worker on the disk at a path, where it can be read. The file is opened to
     /// read it and nothing else, and no lock is taken.
-    fn module_at(&self, alloc: Global, path: &str) -> Option<ItemList<u8>>;
+    fn module_at(&self, alloc: Global, path: &str) -> Option<ItemList<u8>>
+        requires { IsTrue ((Self.known self.now).may_read path.now) };
 }
 
 // Of the system's files no more is known than what it answers.

@@ -1,4 +1,4 @@
-use Rattle.std.proofs.Common.{ap, inl, refl, true}
+use Rattle.std.proofs.Common.{ap, inl, refl}
 use Rattle.std.specs.Io.Buffered.{reader_remaining}
 use Rattle.disk_commands.proofs.ServedLemmas.{job_served}
 use Rattle.disk_commands.proofs.on_disk.running.run_job.Goals as goal
@@ -7,7 +7,8 @@ pub returns-in-Ok : goal.returns-in-Ok
 returns-in-Ok g c =
     let source = c.new-source.result in
     let lines = c.args.system.lines in
-    job_served g.D.Disk.medium g.O.Outlet.takes _ _ c.args.job
+    job_served (g.R.WatchedPaths.has_found c.args.system.files.now) g.D.Disk.medium
+    g.O.Outlet.takes c.args.job
     (reader_remaining g.I.Read.remaining lines.reader)
     (reader_remaining g.I.Read.remaining source.requests.reader.reader)
     lines.has_failed source.requests.reader.has_failed source.outside _ _ _ _ _ _ _ _
@@ -17,8 +18,4 @@ returns-in-Ok g c =
     c.in-Ok.ensures.quiet c.serve_to_end-status.ensures
 
 pub returns-in-Err : goal.returns-in-Err
-returns-in-Err g c = inl (
-  ((λ path here. true), c.in-Err.ensures.said),
-  refl,
-  refl,
-)
+returns-in-Err g c = inl (c.in-Err.ensures.said, refl, refl)
