@@ -22,6 +22,10 @@ from lib.small_modules import small
 DISK, FILE = "worker.disk", "standing"
 BESIDE = f"{FILE}.new"
 
+# What is told of two files that share a path.
+SHARED = (b"error: --status and --metrics need paths of their own, "
+          b"also with .new behind them\n")
+
 # Why a path isn't taken, on the second line.
 OTHER_BYTES = "has other bytes than a status line or metrics"
 LINK, FOLDER, SPECIAL = "is a symbolic link", "is a directory", "isn't a regular file"
@@ -586,6 +590,19 @@ def order_fault(program):
     return None
 
 
+def shared_fault(program):
+    """What is wrong where both files share a path: each run is refused, and changes nothing."""
+    pairs = (FILE, FILE), (FILE, BESIDE), (BESIDE, FILE)
+    with stage(program, {}) as folder:
+        before = all_seen(folder)
+        found = [ended_in(folder, [program, "run", DISK, "--status", one, "--metrics", other])
+                 for one, other in pairs]
+        after = all_seen(folder)
+    if found != [(2, b"", SHARED)] * len(pairs) or after != before:
+        return f"status file and metrics of one path: {found}, {changed(before, after)}"
+    return None
+
+
 ACTS = [
     *[lambda program, scene=scene: scene_fault(program, scene) for scene in [*REFUSALS, *ENDS]],
     *[lambda program, file=file: held_fault(program, file) for file in ("held", "other.disk")],
@@ -593,4 +610,5 @@ ACTS = [
       for name in (FILE, BESIDE)
       for act in (filled(b"mine\n"), linked("notes"), linked("nowhere"), os.mkdir, os.mkfifo)],
     waiting_fault, spinning_fault, still_fault, metrics_fault, outside_fault, order_fault,
+    shared_fault,
 ]

@@ -13,7 +13,7 @@
 //!   say of a creation, a run or an upgrade is handed on whole.
 //! - `check` and `create` hand over a module's bytes. The rest of `create` is `create_disk`.
 //! - `story` and `sweep` hand over all bytes of a script, and then a module's bytes, read in this
-//!   order.
+//!   order. A script of more than 256 MiB is told as a file that is too large.
 //! - `run` and `upgrade` are `run_file` and `upgrade_file`, and `show`, `inspect`, `files` and
 //!   `history` are `look_at_file`, which open the disk's file. `save` is `save_file`, which makes
 //!   one, too, and `files --all` is `extract_file`, which makes a folder. One host holds the disk
@@ -51,7 +51,7 @@ use disk_commands::{
 use std::alloc::Global;
 use std::env::{self, FillError};
 use std::fs::File;
-use std::io::{self, BufReader, ErrorKind, Input, IsTerminal, Read, Write};
+use std::io::{self, BufReader, Error, ErrorKind, Input, IsTerminal, Read, Write};
 use std::process::ExitCode;
 use std::rt::{Env, Files};
 use std::time::Clock;
@@ -62,6 +62,9 @@ use story_commands::{
 
 /// It is read to keep a number from other files. It has no bytes, and takes none from a reader.
 const NULL_DEVICE: &str = "/dev/null";
+
+/// The most bytes that a script may have: 256 MiB. The history of a full journal has fewer.
+const MOST_SCRIPT_BYTES: u64 = 268_435_456;
 
 /// How many bytes of its input a run reads ahead.
 const AHEAD: usize = 8_192;
@@ -128,10 +131,16 @@ fn read_file<R: Files>(rt: &R, alloc: Global, path: &str) -> io::Result<Vec<u8>>
     read_module(alloc, File::open(rt, path)?)
 }
 
-/// All bytes of a file.
-fn read_whole_file<R: Files>(rt: &R, alloc: Global, path: &str) -> io::Result<Vec<u8>> {
+/// All bytes of a script. A longer one than a script may be is an error, so that no device is read
+/// for ever.
+fn read_script_file<R: Files>(rt: &R, alloc: Global, path: &str) -> io::Result<Vec<u8>> {
     let mut bytes = Vec::new(alloc);
-    File::open(rt, path)?.read_to_end(&mut bytes)?;
+    File::open(rt, path)?
+        .take(MOST_SCRIPT_BYTES + 1)
+        .read_to_end(&mut bytes)?;
+    if bytes.len() as u64 > MOST_SCRIPT_BYTES {
+        return Err(Error::from(ErrorKind::FileTooLarge));
+    }
     Ok(bytes)
 }
 
@@ -268,7 +277,7 @@ fn story<R: Files, W: Write + Drop, E: Write + Drop>(
     out: &mut W,
     err: &mut Printer<E>,
 ) -> Status {
-    let script = match read_whole_file(rt, alloc, order.script) {
+    let script = match read_script_file(rt, alloc, order.script) {
         Ok(script) => script,
         Err(error) => return report_unread(err, order.script, error),
     };
@@ -314,7 +323,7 @@ fn sweep<R: Files, W: Write + Drop, E: Write + Drop>(
         Ok(fronts) => fronts,
         Err(obstacle) => return report(err, obstacle),
     };
-    let script = match read_whole_file(rt, alloc, order.script) {
+    let script = match read_script_file(rt, alloc, order.script) {
         Ok(script) => script,
         Err(error) => return report_unread(err, order.script, error),
     };
