@@ -3,8 +3,7 @@ use Rattle.std.proofs.Common.{◌≡◌, ℕ, zero, suc, ◌-◌, ◌/◌, ◌%�
 use Rattle.std.proofs.Common.{not, ◌==◌, ◌&&◌, if◌then◌else◌, Result, Ok, Err, IfOk, ℤ, pos, refl}
 use Rattle.std.proofs.Common.{arith, suc-le-suc}
 use Rattle.std.specs.Prelude.{int_div, int_rem, unsigned_abs}
-use Rattle.std.specs.Int.{Width, w8, w16, w32, w64, cast_signed, cast_unsigned}
-use Rattle.std.specs.Int.{int_div_euclid}
+use Rattle.std.specs.Int.{Width, w8, w16, w32, w64, cast_signed, cast_unsigned, int_div_euclid}
 use Rattle.std.proofs.Math.IntN.{negsuc, neg_ℤ}
 use Rattle.std.proofs.Math.Nat.{mod-lt, mod-le, div-le_self, lt_of_le_of_lt, lt_of_lt_of_le}
 use Rattle.std.proofs.Math.Pow.{pow-sub-lt, pow_mono}
@@ -18,9 +17,8 @@ use Rattle.wasm_syntax.specs.declared.value.Trap.TheVariants.{DivideByZero, Inte
 use Rattle.wasm_syntax.specs.declared.operator.UnaryOperator.{UnaryOperator}
 use Rattle.wasm_syntax.specs.declared.operator.UnaryOperator.TheVariants.{Clz, Ctz, Popcnt}
 use Rattle.wasm_syntax.specs.declared.operator.BinaryOperator.{BinaryOperator}
-use Rattle.wasm_syntax.specs.declared.operator.BinaryOperator.TheVariants.{DivS}
-use Rattle.wasm_syntax.specs.declared.operator.BinaryOperator.TheVariants.{DivU, RemS, RemU, And}
-use Rattle.wasm_syntax.specs.declared.operator.BinaryOperator.TheVariants.{Or, Xor, ShrS, ShrU}
+use Rattle.wasm_syntax.specs.declared.operator.BinaryOperator.TheVariants.{DivS, DivU, RemS, RemU}
+use Rattle.wasm_syntax.specs.declared.operator.BinaryOperator.TheVariants.{And, Or, Xor, ShrS, ShrU}
 use Rattle.wasm_syntax.specs.declared.operator.BinaryOperator.TheVariants.{Rotl, Rotr}
 use Rattle.wasm_syntax.specs.declared.operator.Conversion.{Conversion}
 use Rattle.wasm_syntax.specs.declared.operator.Conversion.TheVariants.{I32WrapI64, I64ExtendI32S}

@@ -1,5 +1,5 @@
 -- Code entries that are judged one after another.
-use Rattle.std.proofs.Common.{◌≡◌, ◌≢◌, ◌∙◌, inl, inr, ℕ, ◌+◌, List, [], ◌∷◌, ◌++◌, length, Option}
+use Rattle.std.proofs.Common.{◌≡◌, ◌≢◌, ◌∙◌, inl, inr, ℕ, ◌+◌, List, [], ◌∷◌, ◌++◌, length}
 use Rattle.std.proofs.Common.{Some, None, refl, sym, ap, subst, arith, ◌<◌}
 use Rattle.std.specs.Prelude.{Result, Ok, Err, ⊤}
 use Rattle.std.proofs.lemmas.List.{length-append}
@@ -8,7 +8,6 @@ use Rattle.wasm_syntax.specs.rules.Items.{AreItems, IsBytes}
 use Rattle.wasm_syntax.specs.rules.Modules.{IsCode}
 use Rattle.wasm_syntax.specs.laws.ReadingItems.{bytes_at, whole_at}
 use Rattle.wasm_syntax.specs.laws.ReadingWithin.{code_within_at}
-use Rattle.wasm_syntax.proofs.Grammar.Exact.{just}
 use Rattle.wasm_syntax.proofs.Grammar.Vectors.{Reads-bytes_at, whole_sound, whole_complete}
 use Rattle.wasm_syntax.proofs.Grammar.Within.{Within, FitsCode, Reads-code_within_at}
 use Rattle.wasm_decode.specs.declared.items.fault.ReadRefusal.{ReadRefusal}
@@ -17,9 +16,8 @@ use Rattle.wasm_decode.specs.declared.items.fault.ItemFault.{ItemFault}
 use Rattle.wasm_decode.specs.declared.items.fault.ItemFault.TheVariants as item
 use Rattle.wasm_decode.specs.declared.fault.DecodeFault.TheVariants.{Memory}
 use Rattle.wasm_decode.specs.declared.code_faults.CodeFault.{CodeFault}
-use Rattle.wasm_decode.specs.declared.code_faults.CodeFaults.{CodeFaults}
 use Rattle.wasm_decode.specs.rules.Faults.{decode_fault}
-use Rattle.wasm_decode.specs.rules.Parts.{AreCodeFaults, AreFaultsOf, IsCodeEntry, IsCutShort}
+use Rattle.wasm_decode.specs.rules.Parts.{AreCodeFaults, AreFaultsOf, IsCodeEntry}
 use Rattle.wasm_decode.specs.Parts.{Collects, JudgesEntry, StopsFaults}
 use Rattle.wasm_decode.proofs.PartLemmas.{none_some}
 

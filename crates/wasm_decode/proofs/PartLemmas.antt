@@ -1,6 +1,6 @@
 -- Parts of a module, by the bytes of its sections.
-use Rattle.std.proofs.Common.{◌≡◌, ◌≢◌, ◌∙◌, ℕ, ◌<◌, ◌≤◌, leb, List, [], ◌++◌, Option, Some, None}
-use Rattle.std.proofs.Common.{refl, sym, ap, subst, arith, true}
+use Rattle.std.proofs.Common.{◌≡◌, ◌∙◌, ℕ, ◌<◌, leb, List, [], ◌++◌, Option, Some, None}
+use Rattle.std.proofs.Common.{refl, sym, ap, subst, arith}
 use Rattle.std.specs.Prelude.{MatchOption, Result, Ok, Err, count_by}
 use Rattle.std.specs.List.{AllByRecursion}
 use Rattle.std.proofs.lemmas.Bool.{leb-true, le-leb}
@@ -10,7 +10,7 @@ use Rattle.wasm_syntax.specs.declared.limits.TheConstants.{FUNCTIONS}
 use Rattle.wasm_syntax.specs.rules.Items.{IsVector, IsFunctionType}
 use Rattle.wasm_syntax.specs.rules.Modules.{Section, AreSections, IsImport, body_of, preamble}
 use Rattle.wasm_syntax.specs.rules.Limits.{HasFewParameters, is_function}
-use Rattle.wasm_syntax.specs.laws.ReadingItems.{◌>>=◌, check, fixed_at, leb_u32_at, vector_at}
+use Rattle.wasm_syntax.specs.laws.ReadingItems.{◌>>=◌, fixed_at, leb_u32_at, vector_at}
 use Rattle.wasm_syntax.specs.laws.ReadingModules.{field_at}
 use Rattle.wasm_syntax.specs.laws.ReadingWithin.{function_type_within_at, import_within_at}
 use Rattle.wasm_syntax.specs.laws.ReadingWithin.{functions_left}

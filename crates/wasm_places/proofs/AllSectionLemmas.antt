@@ -10,7 +10,6 @@ use Rattle.wasm_syntax.proofs.Grammar.Exact.{parts}
 use Rattle.wasm_syntax.proofs.Grammar.Integers.{fixed_sound, fixed_complete}
 use Rattle.wasm_syntax.proofs.Grammar.Rising.{Reads-section_at, section_shorter}
 use Rattle.wasm_places.specs.declared.reader.Part.{Part}
-use Rattle.wasm_places.specs.declared.sections.FunctionSections.{FunctionSections}
 use Rattle.wasm_places.specs.Around.{first_part, section_with}
 use Rattle.wasm_places.specs.Parts.{part_bytes}
 use Rattle.wasm_places.specs.Uses.{HoldsFunctionSections, LacksSections}

@@ -1,8 +1,7 @@
 -- A fault handed on.
 use Rattle.std.proofs.Common.{◌≡◌, ◌⊎◌, inl, inr, sym, subst, Result, Ok, Err}
 use Rattle.wasm_validate.specs.declared.parts.fault.ValidFault.{ValidFault}
-use Rattle.wasm_validate.specs.declared.parts.fault.ValidFault.TheVariants.{Typing, Index}
-use Rattle.wasm_validate.specs.declared.parts.fault.ValidFault.TheVariants.{Memory}
+use Rattle.wasm_validate.specs.declared.parts.fault.ValidFault.TheVariants.{Typing, Index, Memory}
 use Rattle.wasm_validate.specs.rules.Answers.{Denies, DeniesOutright, Decides, Judges}
 use Rattle.wasm_validate.specs.rules.Answers.{DemandsInTurn}
 

@@ -19,8 +19,7 @@ use Rattle.wasm_rules.specs.Validity.{AreTypesAt, IsTableTypeValid, IsMemoryType
 use Rattle.wasm_rules.specs.Validity.{IsValid, memories_of, tables_of}
 use Rattle.wasm_validate.specs.declared.parts.imports.Before.{Before}
 use Rattle.wasm_validate.specs.declared.parts.fault.ValidFault.{ValidFault}
-use Rattle.wasm_validate.specs.declared.parts.fault.ValidFault.TheVariants.{Index, Limits}
-use Rattle.wasm_validate.specs.declared.parts.fault.ValidFault.TheVariants.{Memory}
+use Rattle.wasm_validate.specs.declared.parts.fault.ValidFault.TheVariants.{Index, Limits, Memory}
 use Rattle.wasm_validate.specs.rules.Answers.{Denies}
 use Rattle.wasm_validate.specs.rules.Faults.{HasFault}
 use Rattle.wasm_validate.specs.Parts.Parts.{IsFirstImportFault, IsImportItemValid}

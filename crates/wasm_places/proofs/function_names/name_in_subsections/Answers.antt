@@ -1,4 +1,3 @@
-use Rattle.std.proofs.Common.{rules}
 use Rattle.wasm_syntax.proofs.Grammar.Rising.{Reads-section_at, section_shorter}
 use Rattle.wasm_places.specs.Around.{section_with}
 use Rattle.wasm_places.specs.FunctionNames.{InSubsection}
