@@ -28,8 +28,7 @@ use Rattle.wasi_abi.specs.rules.Versions.{text_limit}
 use Rattle.process_rules.specs.Processes.{ProcessState, Guest, Exited, IsStart, host_of, closed}
 use Rattle.process_rules.specs.Runs.{On, Wants, next_of, after_counted_step, stepped, IsWanted}
 use Rattle.process_rules.specs.Runs.{Kept, LeadsTo, Moves, Given, Wider, widened, Runs, Reaches}
-use Rattle.process_rules.specs.Runs.{none}
-use Rattle.process_rules.specs.Runs.{step, take, widen}
+use Rattle.process_rules.specs.Runs.{none, step, take, widen}
 use Rattle.process_rules.specs.laws.Examples.{ComesTo, at_rest, abc_and_end, echo_memory, echo_end}
 use Rattle.process_rules.specs.laws.Examples.{EchoEnds}
 use Rattle.process_rules.specs.laws.WideningExamples.{EchoWantsMore}

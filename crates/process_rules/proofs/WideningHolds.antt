@@ -15,9 +15,8 @@ use Rattle.process_rules.specs.laws.WideningExamples.{HelloIsWidened}
 use Rattle.process_rules.proofs.Along.{Along, last as at_last, goes, known_from_start}
 use Rattle.process_rules.proofs.Ended.{comes}
 use Rattle.process_rules.proofs.ExamplesHold.{first_memory, last_memory, all_memory, hi_line}
-use Rattle.process_rules.proofs.ExamplesHold.{guest_of, within, first, last, begins}
-use Rattle.process_rules.proofs.ExamplesHold.{goes_on, writes as narrow_writes, eight}
-use Rattle.process_rules.proofs.ExamplesHold.{hello_reaches}
+use Rattle.process_rules.proofs.ExamplesHold.{guest_of, within, first, last, begins, goes_on}
+use Rattle.process_rules.proofs.ExamplesHold.{writes as narrow_writes, eight, hello_reaches}
 use Rattle.process_rules.proofs.ExamplesValid.{hello_is_valid}
 use Rattle.process_rules.proofs.OneStart.{start_once}
 use Rattle.process_rules.proofs.Quiet.{runs_join}

@@ -4,8 +4,6 @@ use Rattle.std.proofs.Common.{length, take, drop, get_or, Some, Ok, Err, refl, s
 use Rattle.std.proofs.Common.{subst, arith, append_assoc, length-append}
 use Rattle.std.proofs.lemmas.List.{take_more}
 use Rattle.std.proofs.Math.Seq.{drop-append_seam, split_at}
-use Rattle.std.specs.Prelude.{Result}
-use Rattle.wasi_abi.specs.declared.answer.Answer.{Answer}
 use Rattle.wasi_calls_rules.specs.laws.Laws.{Emits}
 use Rattle.disk_layout.specs.declared.record.Record.{Record}
 use Rattle.process_rules.specs.Processes.{ProcessState, Guest}

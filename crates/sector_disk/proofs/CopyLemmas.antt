@@ -1,5 +1,5 @@
 -- Sectors that are read from one disk and written to another: one sector on.
-use Rattle.std.proofs.Common.{◌≡◌, ◌∙◌, ◌⊎◌, refl, sym, ap, subst, ℕ, ◌+◌, ◌-◌, ◌<◌, ◌≤◌, ◌≢◌, List}
+use Rattle.std.proofs.Common.{◌≡◌, ◌∙◌, ◌⊎◌, refl, sym, ap, subst, ℕ, ◌+◌, ◌-◌, ◌<◌, ◌≤◌, List}
 use Rattle.std.proofs.Common.{[], ◌++◌, length, take, drop, Err, Result, ⊎_elim, inl, inr, arith}
 use Rattle.std.proofs.lemmas.List.{get_or-drop, get_or-take, ext_get_or, take_all, drop_all}
 use Rattle.std.proofs.lemmas.List.{append-nil, length-replicate, length-take-le}
@@ -10,7 +10,6 @@ use Rattle.sector_disk.specs.rules.Medium.{LeavesOnly, Passes, Reads, Stays, Tak
 use Rattle.sector_disk.specs.rules.Run.{IsTornRun, IsWrittenRun}
 use Rattle.sector_disk.specs.rules.Copying.{HasFrontOnly, WasOnlyRead, IsOwnFault, sector_of_zeros}
 use Rattle.sector_disk.specs.declared.fault.DiskFault.{DiskFault}
-use Rattle.sector_disk.specs.declared.fault.DiskFault.TheVariants.{Range, Memory}
 use Rattle.sector_disk.specs.declared.sector.TheConstants.{SECTOR_SIZE}
 use Rattle.sector_disk.proofs.Moments.{started, goes_on, leaves_only, stays_on, stays_passes}
 use Rattle.sector_disk.proofs.Moments.{stays_crashed, stays_shows, shows_crashed, shows_follow}

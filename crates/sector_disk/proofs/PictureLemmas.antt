@@ -1,7 +1,7 @@
 -- What is read of a disk that another host may write.
 use Rattle.std.proofs.Common.{◌≡◌, ◌∙◌, ◌<◌, ◌≤◌, ◌+◌, ℕ, zero, suc, List, [], ◌∷◌, ◌++◌}
 use Rattle.std.proofs.Common.{length, length-append, refl, sym, ap, subst, arith, Bool, true}
-use Rattle.std.proofs.Common.{false, Err, inl, inr, ◌⊎◌, ◌≢◌, take}
+use Rattle.std.proofs.Common.{false, Err, inl, inr, ◌≢◌, take}
 use Rattle.std.proofs.lemmas.List.{append_assoc, length-take-le}
 use Rattle.sector_disk.specs.rules.Answered.{AnsweredCalls, ReadLogged, faults_of, is_given_up}
 use Rattle.sector_disk.specs.rules.Answered.{after_failure}

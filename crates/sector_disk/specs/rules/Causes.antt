@@ -3,10 +3,9 @@ use Rattle.std.specs.IoError.{error_kind}
 use Rattle.std.specs.declared.io.ErrorKind.{ErrorKind}
 use Rattle.std.specs.declared.io.ErrorKind.TheVariants.{IsADirectory, NotADirectory, NotFound}
 use Rattle.std.specs.declared.io.ErrorKind.TheVariants.{PermissionDenied, ReadOnlyFilesystem}
-use Rattle.std.specs.declared.io.ErrorKind.TheVariants.{AlreadyExists, StorageFull}
-use Rattle.std.specs.declared.io.ErrorKind.TheVariants.{QuotaExceeded, FileTooLarge}
-use Rattle.std.specs.declared.io.ErrorKind.TheVariants.{InvalidFilename, FilesystemLoop}
-use Rattle.std.specs.declared.io.ErrorKind.TheVariants.{NotSeekable}
+use Rattle.std.specs.declared.io.ErrorKind.TheVariants.{AlreadyExists, StorageFull, QuotaExceeded}
+use Rattle.std.specs.declared.io.ErrorKind.TheVariants.{FileTooLarge, InvalidFilename}
+use Rattle.std.specs.declared.io.ErrorKind.TheVariants.{FilesystemLoop, NotSeekable}
 use Rattle.std.specs.declared.fs.locks.TryLockError.{TryLockError}
 use Rattle.std.specs.declared.fs.locks.TryLockError.TheVariants.{Error, WouldBlock}
 use Rattle.sector_disk.specs.declared.open_fault.OpenCause.{OpenCause}

@@ -1,4 +1,4 @@
-use Rattle.std.proofs.Common.{◌≡◌, ◌<◌, ◌≤◌, ◌+◌, [], ◌∷◌, ◌++◌, ℕ, drop, refl, sym, subst, arith}
+use Rattle.std.proofs.Common.{◌≡◌, ◌<◌, ◌≤◌, ◌+◌, [], ◌++◌, ℕ, drop, refl, subst, arith}
 use Rattle.std.proofs.Common.{◌⊎◌, rules, inl, inr, ⊎_elim}
 use Rattle.sector_disk.specs.rules.Medium.{Medium, After, BothFollow, spare}
 use Rattle.sector_disk.specs.rules.Run.{IsTornRun, IsWrittenRun}

@@ -1,7 +1,7 @@
 use Rattle.std.proofs.Common.{inr, ◌≡◌, ◌+◌, rules, ◌<◌, length, refl, sym, ap, ◌∙◌, subst, arith}
 use Rattle.std.proofs.lemmas.List.{length_push}
 use Rattle.std.proofs.lemmas.List.Elements.{All-push}
-use Rattle.sector_disk.specs.rules.DiskImage.{DiskImage, with_sector, IsTorn}
+use Rattle.sector_disk.specs.rules.DiskImage.{DiskImage}
 use Rattle.sector_disk.specs.rules.Memory.{memory_medium, calls_in}
 use Rattle.sector_disk.specs.rules.Pending.{IsWriteWithin, Leaves}
 use Rattle.sector_disk.specs.laws.Fronts.{whole-with_front}
