@@ -1,6 +1,6 @@
 -- Floats that are told with their place, piece by piece.
-use Rattle.std.proofs.Common.{◌≡◌, ℕ, List, ◌++◌, Option, Some, subst}
-use Rattle.std.specs.Prelude.{Result, Ok, Err, OnOk, MatchOption}
+use Rattle.std.proofs.Common.{◌≡◌, ℕ, List, ◌++◌, Option, Some}
+use Rattle.std.specs.Prelude.{Result, Ok, Err, OnOk}
 use Rattle.std.specs.Io.KnownBytes.{Appends}
 use Rattle.wasm_places.specs.declared.place.ModulePlace.{ModulePlace}
 use Rattle.wasm_places.specs.declared.uses.TypeUse.{TypeUse}

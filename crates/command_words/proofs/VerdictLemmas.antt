@@ -28,7 +28,6 @@ use Rattle.command_words.specs.rules.Verdicts.{EndsWithMore, IsImportOffered, Sa
 use Rattle.command_words.specs.rules.Verdicts.{TellsOfLink, first_pages, pages_text}
 use Rattle.command_words.specs.declared.status.Status.{Status}
 use Rattle.command_words.specs.declared.status.Status.TheVariants as exit
-use Rattle.command_words.proofs.LineLemmas.Printed.{prints_both}
 use Rattle.command_words.proofs.PrinterLemmas.{writes_so}
 
 -- ---- tests

@@ -1,8 +1,7 @@
 -- The lives of a script, and what reading it line by line gives.
 use Rattle.std.proofs.Common.{◌≡◌, ℕ, true, List, [], ◌∷◌, ◌++◌, map, Some, None, refl, sym, ap}
-use Rattle.std.proofs.Common.{◌∙◌, subst, append_assoc, append-nil}
+use Rattle.std.proofs.Common.{◌∙◌, subst, append_assoc}
 use Rattle.std.specs.Prelude.{Option, option_map, option_and_then, unwrap_or, IsSome}
-use Rattle.std.specs.Option.{option_to_list}
 use Rattle.worker.specs.declared.story.life.PlannedLife.{PlannedLife}
 use Rattle.story_commands.specs.declared.stories.draft.StoryDraft.{StoryDraft}
 use Rattle.story_commands.specs.declared.stories.line.ScriptLine.{ScriptLine}

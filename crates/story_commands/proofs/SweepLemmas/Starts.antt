@@ -11,14 +11,13 @@ use Rattle.wasi_abi.specs.rules.Configs.{Settings}
 use Rattle.sector_disk.specs.declared.fault_point.FaultPoint.{FaultPoint}
 use Rattle.worker.specs.declared.story.life.PlannedLife.{PlannedLife}
 use Rattle.worker.specs.declared.story.report.LifeReport.{LifeReport}
-use Rattle.worker.specs.declared.story.report.LifeEnd.TheVariants.{Stopped}
 use Rattle.worker.specs.declared.story.starting.StoryStart.{StoryStart}
 use Rattle.worker.specs.Going.{HaveStarted}
 use Rattle.worker.specs.rules.StoryDisks.{TellsLives}
 use Rattle.story_commands.specs.declared.sweeping.cutting.Sweep.{Sweep}
 use Rattle.story_commands.specs.declared.sweeping.fault.SweepFault.{SweepFault}
 use Rattle.story_commands.specs.declared.sweeping.running.RunLives.{RunLives}
-use Rattle.story_commands.specs.rules.Sweeps.{HasDoneAll, end_at, front_left, given_to}
+use Rattle.story_commands.specs.rules.Sweeps.{HasDoneAll, front_left}
 use Rattle.story_commands.specs.rules.Sweeps.{and_idle, given_when_opened, idle_life}
 use Rattle.story_commands.specs.laws.CutRuns.{AgreesBehind, CallsBegun, HasRunCut, IsPlainRun}
 use Rattle.story_commands.specs.laws.CutRuns.{IsStarted, IsSweepOf, IsSweptAt}

@@ -1,4 +1,4 @@
-use Rattle.std.proofs.Common.{List, [], ◌++◌, subst, sym}
+use Rattle.std.proofs.Common.{List, [], subst, sym}
 use Rattle.std.specs.List.{flat_map}
 use Rattle.std.proofs.lemmas.Grind.{flat_map-append}
 use Rattle.record_replay.specs.declared.line_list.NumberedLine.{NumberedLine}
