@@ -1,5 +1,5 @@
 -- What a writer took of a text, one write after another.
-use Rattle.std.proofs.Common.{◌≡◌, true, ℕ, ◌-◌, List, [], ◌++◌, length, take, drop, None, Some, Ok}
+use Rattle.std.proofs.Common.{◌≡◌, true, ℕ, ◌-◌, List, ◌++◌, length, take, drop, None, Some, Ok}
 use Rattle.std.proofs.Common.{Err, sym, ap, ◌∙◌, append_assoc, take-append-drop}
 use Rattle.std.proofs.lemmas.List.{take_rest}
 use Rattle.std.specs.Prelude.{Option, Result, IsErr, OnErr, OnOk}

@@ -6,3 +6,4 @@ pub mod Refusals
 pub mod Drawing
 pub mod Asking
 pub mod Later
+pub mod Whole

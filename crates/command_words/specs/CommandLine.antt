@@ -1,5 +1,5 @@
 -- What a command of the command line is made of.
-use Rattle.std.specs.Prelude.{◌≡◌, ◌-◌, false, codes, IsSomeAnd}
+use Rattle.std.specs.Prelude.{◌≡◌, false, codes, IsSomeAnd}
 use Rattle.clap.specs.Words.{App, Rule, Text, app_of, is_broken, rule_of}
 use Rattle.clap.specs.declared.builder.arg.Arg.{Arg}
 use Rattle.clap.specs.declared.builder.command.Command.TheViews.{out-Command}

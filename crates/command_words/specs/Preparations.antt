@@ -3,8 +3,6 @@ use Rattle.std.specs.Prelude.{ℕ, Result, Ok, Err}
 use Rattle.wasi_abi.specs.rules.Configs.{Settings}
 use Rattle.command_words.specs.declared.preparing.Prepared.{Prepared}
 use Rattle.command_words.specs.declared.preparing.Unprepared.{Unprepared}
-use Rattle.command_words.specs.declared.configuring.Unconfigured.TheVariants as unconfigured
-use Rattle.command_words.specs.declared.preparing.Unprepared.TheVariants as unprepared
 
 -- a configuration with the sectors of its worker, or why there is none
 abbrev pub prepared_with : Settings → Result ℕ Unprepared → Result Prepared Unprepared

@@ -1,6 +1,5 @@
 -- A text around its place.
 use Rattle.std.specs.Prelude.{◌≡◌, ℕ, List, ◌++◌, codes}
-use Rattle.command_words.specs.declared.telling.Obstacle.TheVariants as obstacle
 
 -- The text is these two with a tip between them: to write after `--` what begins with a hyphen.
 abbrev pub IsAroundTip : List ℕ → List ℕ → List ℕ → Type 0

@@ -3,7 +3,6 @@ use Rattle.std.specs.Prelude.{ℕ, List, Result, Ok, Err, ⊤, if◌then◌else�
 use Rattle.machine.specs.declared.from_bytes.fault.ModuleFault.{ModuleFault}
 use Rattle.machine.specs.rules.Acceptance.{HasAcceptedModule, HasNoAcceptedModule}
 use Rattle.machine.specs.rules.Acceptance.{ModuleFaultDenies, is_want}
-use Rattle.command_words.specs.declared.lines.fault.LineFault.TheVariants as line
 use Rattle.command_words.specs.declared.status.Status.{Status}
 use Rattle.command_words.specs.declared.status.Status.TheVariants as exit
 

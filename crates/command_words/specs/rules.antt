@@ -11,6 +11,7 @@ pub mod Reports
 pub mod Requests
 pub mod Seeds
 pub mod Later
+pub mod WholeLines
 pub mod Listings
 pub mod ModuleLimits
 pub mod Statuses

@@ -23,8 +23,9 @@
 //!   `Refused` only if they don't, or the pages are out of bounds.
 //! - `prepare`, `report_unprepared`: what a worker needs, before there is a disk, or why it can't
 //!   be had.
-//! - `RequestSource`, `LineReader`, `BufferedLines`, `read_request`: request lines, in their order,
-//!   and why one is refused. Clocks and random words come from the outside (`Outside`, `RealTime`).
+//! - `RequestSource`, `LineReader`, `BufferedLines`, `WholeLines`, `read_request`: request lines,
+//!   in their order, and why one is refused. Clocks and random words come from the outside
+//!   (`Outside`, `RealTime`).
 //! - `LineOutlet`, `Printer`: all that the program says is printed by one that knows whether a
 //!   write has failed. `Unwritten` comes with a failed write.
 //! - `read_seed`, `seeded`, `read_module`, `split_once`, `cut_line`, `digest_digits`, `spell_line`,
@@ -43,8 +44,9 @@
 //! (`Verdicts.antt`); `ListsAll` (`Listings.antt`); `ChecksModule` (`Checks.antt`); `TellsOfFloat`
 //! (`Floats.antt`); `IsFlawIn`, `flaw_words` (`Flaws.antt`); `PrinterState`, `IsSaid`, `SaysText`,
 //! `HeedsBoth`, `TellsPerson` (`Printers.antt`); `SaysOfOutput` (`Reports.antt`); `lines_of`
-//! (`Pieces.antt`); `PrintsOneLine` (`Prints.antt`); `answer_words`, `record_line`
-//! (`Records.antt`). In `specs/laws/`, what the laws say: `all_printed` (`Printed.antt`).
+//! (`Pieces.antt`); `IsWholeFront`, `TakesIn` (`WholeLines.antt`); `PrintsOneLine` (`Prints.antt`);
+//! `answer_words`, `record_line` (`Records.antt`). In `specs/laws/`, what the laws say:
+//! `all_printed` (`Printed.antt`).
 //!
 //! # Who may touch what
 //!
@@ -81,7 +83,7 @@ pub use configuring::Sizes;
 pub use digests::digest_digits;
 pub use lines::{
     BufferedLines, LineFault, LineFlaw, LineOutlet, LineReader, NumberedRequests, Outside,
-    ReadAhead, RealTime, Request, RequestSource, count_later, flaw_in, nanoseconds_of,
+    ReadAhead, RealTime, Request, RequestSource, WholeLines, count_later, flaw_in, nanoseconds_of,
     read_decimal, read_request, spell_answer, spell_line, spell_record, split_at_space, trap_name,
     words_of_cut, words_of_limit,
 };

@@ -202,6 +202,7 @@ module _ (name : Text) (words : List Text) (no_help : bytes_eq name (codes "help
       & (keeps_text 2 (codes "metrics") (λ v. tt), unused)
       & (keeps_flag 2 (codes "verbose") (inl refl), no_flag (codes "verbose") (inr refl))
       & (keeps_text 2 (codes "seed-file") (λ v. tt), unused)
+      & (keeps_flag 2 (codes "whole-lines") (inl refl), no_flag (codes "whole-lines") (inr refl))
       & (keeps_help, unused)
       & tt))
       & (λ here e. below_taken _ words e

@@ -37,7 +37,7 @@ abbrev pub is_flag : Text → Bool
 is_flag id = bytes_eq id (codes "rewrite") || (bytes_eq id (codes "device")
     || (bytes_eq id (codes "json") || (bytes_eq id (codes "verbose")
     || (bytes_eq id (codes "all") || (bytes_eq id (codes "story")
-    || bytes_eq id (codes "live"))))))
+    || (bytes_eq id (codes "live") || bytes_eq id (codes "whole-lines")))))))
 
 -- what is asked of the value of an argument
 pub data Asked : Type 0 where
@@ -160,6 +160,7 @@ options_are_taken rows good = record {
   life = first_passes (codes "life") rows good;
   rewrite = first_passes (codes "rewrite") rows good;
   verbose = first_passes (codes "verbose") rows good;
+  whole_lines = first_passes (codes "whole-lines") rows good;
   device = first_passes (codes "device") rows good;
   json = first_passes (codes "json") rows good;
   story = first_passes (codes "story") rows good;

@@ -116,6 +116,7 @@ plain_run = record {
   metrics = None;
   is_verbose = false;
   seed_file = None;
+  whole_lines = false;
 }
 
 -- lines for a run
@@ -139,6 +140,7 @@ run_lines =
     ∷ example (codes "run a.disk --verbose") (run (record plain_run { is_verbose = true }))
     ∷ example (codes "run a.disk --seed-file a.seed")
     (run (record plain_run { seed_file = Some (codes "a.seed") }))
+    ∷ example (codes "run a.disk --whole-lines") (run (record plain_run { whole_lines = true }))
     ∷ example (codes "run -- a.disk") (run plain_run)
     ∷ []
 

@@ -93,10 +93,10 @@ abbrev pub watched_run_app : App
 watched_run_app = with_rule (with_rule (with_rule seeded_run_app (flag_rule (codes "rewrite")))
     (text_rule (codes "status"))) (text_rule (codes "metrics"))
 
--- the same, with `--verbose` and `--seed-file` where they are wanted
+-- the same, with `--verbose`, `--seed-file` and `--whole-lines` where they are wanted
 abbrev pub run_app : App
-run_app = with_rule (with_rule watched_run_app (flag_rule (codes "verbose")))
-    (text_rule (codes "seed-file"))
+run_app = with_rule (with_rule (with_rule watched_run_app (flag_rule (codes "verbose")))
+    (text_rule (codes "seed-file"))) (flag_rule (codes "whole-lines"))
 
 -- `show DISK`, with `--live` where it is wanted
 abbrev pub show_app : App

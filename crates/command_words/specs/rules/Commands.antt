@@ -97,7 +97,7 @@ pub record CreateMeaning : Type 0 where
 
 -- What a run says: the paths of the disk, of a status file, of a file of metrics and of a file with
 -- a seed, and a seed, as texts; whether it writes all sectors back first; whether it says what a
--- terminal is told; and the others as numbers.
+-- terminal is told; whether it takes whole lines alone; and the others as numbers.
 pub record RunMeaning : Type 0 where
   pub disk : Text
   pub fuel : ℕ
@@ -110,6 +110,7 @@ pub record RunMeaning : Type 0 where
   pub metrics : Option Text
   pub is_verbose : Bool
   pub seed_file : Option Text
+  pub whole_lines : Bool
 
 -- what a story says: the paths of the script and of the module, and its sizes
 pub record StoryMeaning : Type 0 where
@@ -180,6 +181,7 @@ run_said order = record {
   metrics = option_map (λ text. text.now) order.metrics;
   is_verbose = order.is_verbose;
   seed_file = option_map (λ text. text.now) order.seed_file;
+  whole_lines = order.whole_lines;
 }
 
 -- what an order to tell a story says
@@ -301,6 +303,7 @@ run_in rows disk = record {
   metrics = first_of (codes "metrics") rows;
   is_verbose = flag_in (codes "verbose") rows;
   seed_file = first_of (codes "seed-file") rows;
+  whole_lines = flag_in (codes "whole-lines") rows;
 }
 
 -- What a story means with these paths and the rows of what is after its word. Where no number is
@@ -444,6 +447,7 @@ pub record TakesOptions (rows : List Row) : Type 0 where
   pub life : TakesNumber 1 (codes "life") rows
   pub rewrite : TakesFlag (codes "rewrite") rows
   pub verbose : TakesFlag (codes "verbose") rows
+  pub whole_lines : TakesFlag (codes "whole-lines") rows
   pub device : TakesFlag (codes "device") rows
   pub json : TakesFlag (codes "json") rows
   pub story : TakesFlag (codes "story") rows

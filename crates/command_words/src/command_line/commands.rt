@@ -241,9 +241,11 @@ fn run_command<'a>(alloc: Global) -> Result<Command<'a>, AllocError>
 {
     let verbose = "Say on the error output what a terminal is told";
     let seed_file = "File with the seed, in place of --seed";
+    let whole_lines = "Don't take a last line that lacks its newline";
     watched_run_command(alloc)?
         .arg(flag(alloc, "verbose", verbose))?
-        .arg(text_option(alloc, "seed-file", "FILE", seed_file))
+        .arg(text_option(alloc, "seed-file", "FILE", seed_file))?
+        .arg(flag(alloc, "whole-lines", whole_lines))
 }
 
 fn show_command<'a>(alloc: Global) -> Result<Command<'a>, AllocError>

@@ -179,6 +179,7 @@ fn run_of<'a>(matches: &ArgMatches<'a>, disk: &'a str) -> RunOrder<'a>
         metrics: text_of(matches, "metrics"),
         is_verbose: flag_of(matches, "verbose"),
         seed_file: text_of(matches, "seed-file"),
+        whole_lines: flag_of(matches, "whole-lines"),
     }
 }
 

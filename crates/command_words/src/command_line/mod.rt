@@ -92,6 +92,8 @@ pub struct RunOrder<'a> {
     pub is_verbose: bool,
     /// The file with a seed.
     pub seed_file: Option<&'a str>,
+    /// Whether a last line that lacks its newline isn't taken.
+    pub whole_lines: bool,
 }
 
 /// What the words say of a story.

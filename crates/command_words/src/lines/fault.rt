@@ -11,14 +11,14 @@ pub enum LineFault {
     #[error("refused request line")]
     Form,
     /// The reader failed.
-    #[error("failed N2 Source")]
+    #[error("failed N2 Source\nthe standard input can't be read")]
     Read,
     #[error("failed N4 Memory")]
     Memory,
     /// The machine's clock can't be read.
-    #[error("failed N2 Source")]
+    #[error("failed N2 Source\nthe machine's clock can't be read")]
     Clock,
     /// The words of the seed can't be counted further.
-    #[error("failed N2 Source")]
+    #[error("failed N2 Source\nthe random words of the seed are used up")]
     Words,
 }

@@ -9,6 +9,7 @@
 ghost use Rattle.std.specs.Prelude.{◌≡◌, true, false};
 ghost use Rattle.command_words.specs.rules.Pieces.{lines_of};
 ghost use Rattle.command_words.specs.rules.Later.{CountsLater, IsLaterLine, IsOtherLine};
+ghost use Rattle.command_words.specs.rules.WholeLines.{IsWholeFront};
 
 use crate::lines::request::read_request;
 use crate::pieces::cut_line;
@@ -42,11 +43,14 @@ pub fn count_later(limit: usize, text: &[u8], taken: u64) -> usize
 }
 
 /// The bytes through the last newline.
-fn whole_lines(bytes: &[u8]) -> &[u8] {
-    match bytes.iter().rposition(|&byte| byte == b'\n') {
-        Some(last) => &bytes[..=last],
-        None => b"",
+pub(super) fn whole_lines(bytes: &[u8]) -> &[u8]
+    ensures { IsWholeFront bytes.now result.now }
+{
+    let mut end = bytes.len();
+    while end > 0 && bytes[end - 1] != b'\n' {
+        end -= 1;
     }
+    &bytes[..end]
 }
 
 /// Whether one of the whole lines of a text is such.

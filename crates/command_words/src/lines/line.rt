@@ -13,7 +13,7 @@ use crate::lines::reader::LineReader;
 
 /// So many bytes beside the text are no line: more than a number, a letter, two spaces and a
 /// newline.
-const TOO_LONG: usize = 24;
+pub(super) const TOO_LONG: usize = 24;
 
 /// Reads a line with its newline. Its text may have `limit` bytes.
 fn read_through<R: LineReader>(

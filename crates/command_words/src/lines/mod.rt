@@ -16,6 +16,7 @@ mod records;
 pub mod request;
 mod source;
 mod trap_names;
+mod whole;
 
 pub use buffered::BufferedLines;
 pub use fault::LineFault;
@@ -31,3 +32,4 @@ pub use records::{spell_answer, spell_record};
 pub use request::{Request, read_decimal, read_request, split_at_space};
 pub use source::RequestSource;
 pub use trap_names::trap_name;
+pub use whole::WholeLines;
