@@ -1,7 +1,5 @@
 -- When a status line is due.
 use Rattle.std.specs.Prelude.{◌⊎◌, ⊤, ◌+◌, ◌≤◌, ◌<◌, ℕ, Option, None, Some}
-use Rattle.process.specs.declared.stop.ProcessEnd.TheVariants as end
-use Rattle.record_replay.specs.declared.slices.now.Now.TheVariants as now
 
 -- A worker that runs on is told again: a second after the last time, and where no time is known, or
 -- the clock has gone back. Times are in nanoseconds.

@@ -13,7 +13,7 @@ ghost use Rattle.disk_commands.specs.rules.DiskStatuses.{opening_fault, call_fau
 ghost use Rattle.disk_commands.specs.rules.DiskStatuses.{status_of_call, status_of_recovery};
 ghost use Rattle.disk_commands.specs.rules.DiskStatuses.{status_on_disk, status_of_work};
 
-use command_words::{LineFault, Printer, Status, status_of_line};
+use command_words::{LineFault, Printer, Status, say_line, status_of_line};
 use record_replay::{ReplayFault, SliceFault};
 use sector_disk::DiskFault;
 use std::io::Write;
@@ -96,7 +96,19 @@ fn status_of_recovery(fault: RecoverFault) -> Status
     }
 }
 
+/// What to do where the disk of a worker that goes on has failed: a write or a sync may have.
+const DISK_FAILED: &str = "the disk has failed: see to its device, then run it once with --rewrite";
+
 impl OnDiskFault {
+    /// Whether a call of the disk has failed.
+    fn is_of_disk(self) -> bool {
+        match self {
+            OnDiskFault::Disk(DiskFault::Memory) => false,
+            OnDiskFault::Disk(_) | OnDiskFault::Call(WorkFault::Disk(_)) => true,
+            OnDiskFault::Recovery(_) | OnDiskFault::Call(_) | OnDiskFault::Line(_) => false,
+        }
+    }
+
     /// The exit status.
     pub(crate) fn status(self) -> Status
         ensures { result ≡ status_on_disk self }
@@ -121,6 +133,17 @@ pub(crate) fn say_disk_fault<E: Write + Drop>(err: &mut Printer<E>, fault: OnDis
     } else {
         Status::Unwritten
     }
+}
+
+/// The same of a worker that goes on. Where its disk has failed a second line says what to do.
+pub(crate) fn say_life_fault<E: Write + Drop>(err: &mut Printer<E>, fault: OnDiskFault) -> Status
+    ensures { IsSaid (status_on_disk fault) err.old result err.new }
+{
+    let status = say_disk_fault(err, fault);
+    if status == Status::IoError && fault.is_of_disk() {
+        return say_line(err, status, DISK_FAILED);
+    }
+    status
 }
 
 /// The exit status of what a worker's call says.

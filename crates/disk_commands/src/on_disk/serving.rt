@@ -57,7 +57,7 @@ ghost use Rattle.disk_commands.specs.rules.Watchings.{WatchesEnd};
 ghost use Rattle.disk_commands.specs.Livings.{HasGoneOn, RunsOpen};
 
 use crate::on_disk::ending::say;
-use crate::on_disk::fault::{OnDiskFault, say_disk_fault};
+use crate::on_disk::fault::{OnDiskFault, say_life_fault};
 use crate::on_disk::living::{Pace, live};
 use crate::on_disk::showing::print_number;
 use crate::on_disk::watching::Watcher;
@@ -173,7 +173,7 @@ where
             worker,
             watcher,
         ),
-        Err(fault) => say_disk_fault(err, fault),
+        Err(fault) => say_life_fault(err, fault),
     }
 }
 
@@ -224,6 +224,6 @@ where
             worker.close();
             status
         }
-        Err(fault) => say_disk_fault(err, OnDiskFault::from(fault)),
+        Err(fault) => say_life_fault(err, OnDiskFault::from(fault)),
     }
 }

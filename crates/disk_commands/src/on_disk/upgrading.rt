@@ -24,7 +24,7 @@ ghost use Rattle.disk_commands.specs.rules.ServedOnDisk.{outputs};
 ghost use Rattle.disk_commands.specs.rules.Upgradings.{UpgradesOnDisk, from_list};
 ghost use Rattle.disk_commands.specs.rules.Upgradings.{status_so_far, upgraded_words};
 
-use crate::on_disk::fault::{OnDiskFault, say_disk_fault};
+use crate::on_disk::fault::{OnDiskFault, say_life_fault};
 use crate::on_disk::serving::tell_recovered;
 use command_words::{LineOutlet, Obstacle, Printer, Status, report};
 use record_replay::{AnswerList, Now, Outlet, Source};
@@ -109,7 +109,7 @@ fn bring_up<D: Disk, O: Outlet, E: Write + Drop>(
         Version::Two => Ok(Upgraded::Before),
         Version::One => match upgrade_open(alloc, worker, disk, outlet) {
             Ok(()) => Ok(Upgraded::Now),
-            Err(fault) => Err(say_disk_fault(err, OnDiskFault::from(fault))),
+            Err(fault) => Err(say_life_fault(err, OnDiskFault::from(fault))),
         },
     }
 }
@@ -139,7 +139,7 @@ pub fn upgrade_worker<D: Disk, O: Outlet, E: Write + Drop>(
             worker.close();
             upgraded
         }
-        Err(fault) => Err(say_disk_fault(err, OnDiskFault::from(fault))),
+        Err(fault) => Err(say_life_fault(err, OnDiskFault::from(fault))),
     }
 }
 

@@ -33,10 +33,10 @@ returns-in-Err-clause-serves g c =
     (g.R.LineReader.unread c.args.source.now.requests.reader) c.args.source.now.outside
     (g.R.LineReader.has_failed c.args.source.now.requests.reader))
     c.args.disk.now c.args.outlet.now c.args.err.now)
-    (run_end c.recover.new.disk c.recover.new.outlet c.say_disk_fault.new.err
-    (g.R.LineReader.has_failed c.args.source.now.requests.reader)) c.say_disk_fault.result
+    (run_end c.recover.new.disk c.recover.new.outlet c.say_life_fault.new.err
+    (g.R.LineReader.has_failed c.args.source.now.requests.reader)) c.say_life_fault.result
     c.in-Err.fault c.from.result refl c.in-Err.ensures
-    c.in-Err.ensures.heeds c.from.ensures c.say_disk_fault.ensures
+    c.in-Err.ensures.heeds c.from.ensures c.say_life_fault.ensures
 
 pub returns-in-Err-clause-refusal : goal.returns-in-Err-clause-refusal
 returns-in-Err-clause-refusal g c =
@@ -44,5 +44,5 @@ returns-in-Err-clause-refusal g c =
 
 pub returns-in-Err-clause-watched : goal.returns-in-Err-clause-watched
 returns-in-Err-clause-watched g c =
-    watches_fault (g.T.Watcher.is_notified c.args.drive.watcher.now) c.say_disk_fault.result
-    c.say_disk_fault.new.err c.from.result c.args.err.now c.say_disk_fault.ensures
+    watches_fault (g.T.Watcher.is_notified c.args.drive.watcher.now) c.say_life_fault.result
+    c.say_life_fault.new.err c.from.result c.args.err.now c.say_life_fault.ensures

@@ -29,10 +29,10 @@ returns-in-Err-clause-serves g c = (
   c.go_on.new.source.requests.taken,
   c.tell_recovered.ensures,
   c.in-Err.ensures.gone,
-  c.say_disk_fault.ensures,
+  c.say_life_fault.ensures,
 )
 
 pub returns-in-Err-clause-watched : goal.returns-in-Err-clause-watched
 returns-in-Err-clause-watched g c =
-    watches_fault (g.T.Watcher.is_notified c.args.drive.watcher.now) c.say_disk_fault.result
-    c.say_disk_fault.new.err c.in-Err.fault c.tell_recovered.new.err c.say_disk_fault.ensures
+    watches_fault (g.T.Watcher.is_notified c.args.drive.watcher.now) c.say_life_fault.result
+    c.say_life_fault.new.err c.in-Err.fault c.tell_recovered.new.err c.say_life_fault.ensures

@@ -29,6 +29,6 @@ returns-in-Err g c = (
       c.in-One.is,
   c.tell_recovered.ensures,
   c.in-Err.ensures,
-  subst (λ told. IsSaid (status_on_disk told) c.tell_recovered.new.err c.say_disk_fault.result
-      c.say_disk_fault.new.err) c.from.ensures c.say_disk_fault.ensures,
+  subst (λ told. IsSaid (status_on_disk told) c.tell_recovered.new.err c.say_life_fault.result
+      c.say_life_fault.new.err) c.from.ensures c.say_life_fault.ensures,
 )

@@ -22,12 +22,12 @@ pub returns-in-Err-clause-upgrades : goal.returns-in-Err-clause-upgrades
 returns-in-Err-clause-upgrades g c =
     none_upgraded g.D.Disk.medium g.O.Outlet.takes c.in-Err.fault c.from.result
     c.args.disk.now c.recover.new.disk c.args.outlet.now c.recover.new.outlet
-    c.args.err.now c.say_disk_fault.new.err c.say_disk_fault.result
+    c.args.err.now c.say_life_fault.new.err c.say_life_fault.result
     c.in-Err.ensures c.in-Err.ensures.heeds c.from.ensures
-    c.say_disk_fault.ensures
+    c.say_life_fault.ensures
 
 pub returns-in-Err-clause-refusal : goal.returns-in-Err-clause-refusal
 returns-in-Err-clause-refusal g c =
     heeds_in_upgrade g.D.Disk.medium g.O.Outlet.takes c.args.disk.now c.recover.new.disk
-    c.args.outlet.now c.recover.new.outlet c.args.err.now c.say_disk_fault.new.err
-    (Err c.say_disk_fault.result) (returns-in-Err-clause-upgrades g c)
+    c.args.outlet.now c.recover.new.outlet c.args.err.now c.say_life_fault.new.err
+    (Err c.say_life_fault.result) (returns-in-Err-clause-upgrades g c)
