@@ -5,10 +5,6 @@ use Rattle.worker.specs.declared.story.report.LifeReport.{LifeReport}
 use Rattle.command_words.specs.rules.Printers.{PrinterState, Printers, IsPrinted, HasOneFailed}
 use Rattle.command_words.specs.declared.status.Status.{Status}
 use Rattle.command_words.specs.declared.status.Status.TheVariants as exit
-use Rattle.worker.specs.declared.fault.WorkFault.TheVariants as work
-use Rattle.worker.specs.declared.upgrade_fault.UpgradeFault.TheVariants as upgrade
-use Rattle.record_replay.specs.declared.slices.fault.Refusal.TheVariants as refusal
-use Rattle.record_replay.specs.declared.slices.fault.SliceFault.TheVariants as slice
 use Rattle.story_commands.specs.rules.Stories.{story_text}
 use Rattle.story_commands.specs.rules.SweepTexts.{swept_line, plan_line}
 
