@@ -18,7 +18,8 @@
 //!   `history` are `look_at_file`, which open the disk's file. `save` is `save_file`, which makes
 //!   one, too, and `files --all` is `extract_file`, which makes a folder. One host holds the disk
 //!   at a time, and with `--live` others only look at it. `run` also hands over the lines of the
-//!   standard input and the machine's clock.
+//!   standard input and the machine's clock. With `--whole-lines` these are whole lines
+//!   (`WholeLines`), and last it is said if a rest was left.
 //! - Before all that the numbers of standard streams that are closed are taken (`StreamNumbers`),
 //!   so that no file gets one. No clause says so: `scripts/runs/closed-streams` shows it.
 //! - A file that can't be read is told by `report_unread`, want of memory by `report`, and a fault
@@ -41,8 +42,8 @@
 
 use command_words::{
     BufferedLines, CheckOrder, CreateOrder, FilesOrder, LineOutlet, Obstacle, Order, Printer,
-    RunOrder, Sizes, Status, StoryOrder, SweepOrder, WordsFault, check_module, read_module,
-    read_words, report, report_output, report_words,
+    RunOrder, Sizes, Status, StoryOrder, SweepOrder, WholeLines, WordsFault, check_module,
+    read_module, read_words, report, report_output, report_words, say_line,
 };
 use disk_commands::{
     Look, Seen, System, create_disk, extract_file, look_at_file, report_unread, run_file,
@@ -218,6 +219,19 @@ fn ahead_for(batch: u64) -> usize {
     if batch > 1 { AHEAD_OF_BATCHES } else { AHEAD }
 }
 
+/// Tells after a run that the last line was left, if it was. Answers the exit status.
+fn tell_left<R: Read + Drop, E: Write + Drop>(
+    input: &WholeLines<R>,
+    status: Status,
+    err: &mut Printer<E>,
+) -> Status {
+    if input.has_left() {
+        say_line(err, status, "the last line has no newline, and was left")
+    } else {
+        status
+    }
+}
+
 /// Runs the worker of a disk on the lines of the standard input and the machine's clock.
 fn run<R: Files<File = File> + Input + Clock, W: Write + Drop, E: Write + Drop>(
     rt: &R,
@@ -230,7 +244,8 @@ fn run<R: Files<File = File> + Input + Clock, W: Write + Drop, E: Write + Drop>(
         return report(err, Obstacle::Memory);
     };
     let ahead = ahead_for(order.batch.get());
-    let Ok(reader) = BufReader::with_capacity(alloc, ahead, rt.reader()) else {
+    let mut input = WholeLines::new(alloc, rt.reader(), order.whole_lines);
+    let Ok(reader) = BufReader::with_capacity(alloc, ahead, &mut input) else {
         return report(err, Obstacle::Memory);
     };
     let system = System {
@@ -238,7 +253,8 @@ fn run<R: Files<File = File> + Input + Clock, W: Write + Drop, E: Write + Drop>(
         lines: BufferedLines::new(reader),
         clock: rt,
     };
-    run_file(alloc, system, order, &mut outlet, err)
+    let status = run_file(alloc, system, order, &mut outlet, err);
+    tell_left(&input, status, err)
 }
 
 /// Brings the worker of a disk to version 2, and says so after its lines.
