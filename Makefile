@@ -8,8 +8,8 @@ DATADIR ?= $(PREFIX)/share
 DOCDIR ?= $(DATADIR)/doc/wasmhost
 UNITDIR ?= $(LIBDIR)/systemd/system
 
-# A release has the program beside this file.
-PROGRAM := $(or $(wildcard wasmhost),crates/wasmhost/out/wasmhost)
+# A release has the program beside this file. A shell would look for a bare name on its PATH.
+PROGRAM := $(or $(wildcard ./wasmhost),crates/wasmhost/out/wasmhost)
 DOCS := README.md $(addprefix docs/,COMMANDS.md DEPLOYMENT.md FORMATS.md OPERATING.md \
 	PERFORMANCE.md WORKERS.md) LICENSE-MIT LICENSE-APACHE
 UNIT := wasmhost@.service
@@ -18,7 +18,7 @@ SOURCES := crates.txt
 
 # Runs the story of a worker whose power is cut twice. It proves nothing.
 demo:
-	@scripts/make/demo $(wildcard wasmhost)
+	@scripts/make/demo $(wildcard ./wasmhost)
 
 # Builds the program without any proof. `make build` puts the proved one in its place.
 program: $(SOURCES)
