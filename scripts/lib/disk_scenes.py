@@ -485,7 +485,8 @@ def trap_scene(number, name, module, steps, frames):
     form_of.commit(disk, 3, form.trapped_image(steps, number))
     words = f"trapped {name}\n"
     return words.strip(), [
-        created(trap_file(number), total=form_of.total), runs(b"1 r a\n", "", words + frame_lines(frames)),
+        created(trap_file(number), total=form_of.total),
+        runs(b"1 r a\n", "", words + frame_lines(frames)),
         Bytes(bytes(disk)), shows(counted(3, steps, 0, 0, 0)), inspected("nothing"), SameFacts(),
         runs(b"1 r a\nnothing", "", words), shows(counted(5, steps, 0, 0, 0))]
 
@@ -606,6 +607,9 @@ def outside_scene():
         runs(b"1 r a\n2 r b\n", told(14, 16), "exited 0\n", options[2])]
 
 
+# What is told of an input that can't be read.
+NO_INPUT = "failed N2 Source\nthe standard input can't be read\n"
+
 # What has no room.
 FULL_FILE = "/dev/full"
 FULL = [
@@ -625,7 +629,7 @@ FULL = [
         Command(["show", "disk"], 7, ANYTHING, ANYTHING, b"", FULL_FILE), shows(FRESH)]),
     ("an input that can't be read", [
         created(),
-        Command(["run", "disk"], 4, "", "failed N2 Source\n", None, changes=True),
+        Command(["run", "disk"], 4, "", NO_INPUT, None, changes=True),
         shows(counted(2, 0, 0, 0, 0)), runs(b"1 r a\n", "1 o a\n")]),
 ]
 

@@ -16,6 +16,12 @@ EXAMPLES = os.path.join(ROOT, "examples")
 # recovery that wants memory, or a call of the worker (N4).
 NO_MEMORY, WANT_OF_MEMORY = 5, re.compile(rb"failed ([A-Z][0-9]) Memory\n")
 
+# What a run and an upgrade say on their second line of a disk that has failed.
+DISK_FAILED = b"the disk has failed: see to its device, then run it once with --rewrite"
+
+# What a run says of a last line that it has left.
+LAST_LEFT = b"the last line has no newline, and was left\n"
+
 # How long one run may take: much longer than any does, on however slow a machine.
 SECONDS = 300
 

@@ -7,7 +7,7 @@ import shutil
 import subprocess
 
 from lib.extract_scenes import MODULES
-from lib.guest_runs import ROOT, ended, scratch
+from lib.guest_runs import DISK_FAILED, ROOT, ended, scratch
 from lib.not_tried import not_tried
 
 LEAST = ["--pages", "1", "--files", "1", "--journal", "64"]
@@ -72,7 +72,7 @@ def short_run_fault(program):
     after that. The next run prints the line again."""
     ended([program, "create", "long.disk", "hello.wasm"])
     found = ended([*SHORT, program, "run", "long.disk"])
-    if found != (4, HI[1], b"failed N1 Disk\n"):
+    if found != (4, HI[1], b"failed N1 Disk\n%s\n" % DISK_FAILED):
         return f"a run of a disk that is too long: {found}"
     found = ended([program, "run", "long.disk", "--rewrite"])
     return None if found == HI else f"behind that, a run with --rewrite: {found}"
