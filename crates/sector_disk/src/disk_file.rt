@@ -30,11 +30,10 @@ use std::os::unix::fs::{FileExt, FileTypeExt};
 /// A handle of a file with one lock for the whole file, which at most one handle holds.
 pub trait DiskFile: OpenFile + FileExt + Drop {
     ghost use Rattle.std.specs.Prelude.{IsTrue, IfErr, IfOk, OnOk, ◌<◌, ◌^◌, ◌/◌};
-    ghost use Rattle.std.specs.IoError.{error_kind};
     ghost use Rattle.sector_disk.specs.declared.open_fault.OpenFault.TheVariants.{Io};
     ghost use Rattle.sector_disk.specs.rules.DiskImage.{IsDiskImage};
     ghost use Rattle.sector_disk.specs.rules.Known.{KnownHandles};
-    ghost use Rattle.sector_disk.specs.rules.Causes.{lock_fault, open_cause};
+    ghost use Rattle.sector_disk.specs.rules.Causes.{error_cause, lock_fault};
 
     ghost known: { KnownHandles Self };
 
@@ -50,30 +49,30 @@ pub trait DiskFile: OpenFile + FileExt + Drop {
         ensures measured { IfOk result (λ found.
             IsTrue (known.measured self.now found.0 found.1.image)) }
         ensures refused { IfErr result (λ error.
-            IsTrue (known.failed self.now (Io (open_cause (error_kind error))))) };
+            IsTrue (known.failed self.now (Io (error_cause error)))) };
 
     /// Makes the file so many bytes long. Bytes that it gets are zeros.
     fn resize(&self, bytes: u64) -> io::Result<()>
         ensures resized { OnOk result (IsTrue (known.resized self.now bytes)) }
         ensures refused { IfErr result (λ error.
-            IsTrue (known.failed self.now (Io (open_cause (error_kind error))))) };
+            IsTrue (known.failed self.now (Io (error_cause error)))) };
 
     /// Whether the file is a block device.
     fn is_block_device(&self) -> io::Result<bool>
         ensures found { IfOk result (λ is. IsTrue (known.device self.now is)) }
         ensures refused { IfErr result (λ error.
-            IsTrue (known.failed self.now (Io (open_cause (error_kind error))))) };
+            IsTrue (known.failed self.now (Io (error_cause error)))) };
 
     /// Writes zeros to a sector.
     fn write_zeros(&self, sector: u64) -> io::Result<()>
         requires { sector < 2 ^ 54 }
         ensures refused { IfErr result (λ error.
-            IsTrue (known.failed self.now (Io (open_cause (error_kind error))))) };
+            IsTrue (known.failed self.now (Io (error_cause error)))) };
 
     /// Makes all of the file durable.
     fn sync_whole(&self) -> io::Result<()>
         ensures refused { IfErr result (λ error.
-            IsTrue (known.failed self.now (Io (open_cause (error_kind error))))) };
+            IsTrue (known.failed self.now (Io (error_cause error)))) };
 }
 
 /// Whether a disk can be in such a file: a regular one, or a block device.

@@ -12,19 +12,22 @@
 //!   call. These two, `sync_data` and `try_lock` call again after an interrupt. No clause says so:
 //!   it is read in the kit's code, and seen by `scripts/runs/file-calls`.
 //! - An empty file is a disk of no sectors.
-ghost use Rattle.std.specs.Prelude.{◌≡◌, ◌<◌, ◌≤◌, ◌^◌, ◌↔◌, [], IfErr, IfOk, IsErrOf, IsTrue};
+ghost use Rattle.std.specs.Prelude.{◌≡◌, ◌<◌, ◌≤◌, ◌^◌, ◌*◌, ◌↔◌, [], IfErr, IfOk, IsErrOf};
+ghost use Rattle.std.specs.Prelude.{IsTrue, OnOk};
 ghost use Rattle.sector_disk.specs.declared.open_fault.OpenFault.TheVariants.{Io};
 ghost use Rattle.sector_disk.specs.rules.DiskImage.{IsDiskImage};
 ghost use Rattle.sector_disk.specs.declared.open_fault.OpenCause.TheVariants.{TooLarge};
 
 use crate::file_call::{Failure, FileCall, NO_BYTES};
 use crate::file_log::FileLog;
+use crate::file_number::FileNumber;
 use crate::filling::{fill_new_file, lock, take_device};
 use crate::first_image::FirstImage;
 use crate::{
     Disk, DiskFault, DiskFile, DiskFiles, NewFile, NewFiles, OpenCause, OpenFault, SECTOR_SIZE,
 };
 use std::fs::OpenFile;
+use std::io;
 use std::os::unix::fs::FileExt;
 
 /// From so many sectors on a file is refused: its bytes would have numbers from 2^63 on.
@@ -54,12 +57,14 @@ impl<F: DiskFile> FileDisk<F> {
     ghost use Rattle.sector_disk.specs.rules.DiskImage.{zeros};
     ghost use Rattle.sector_disk.specs.rules.File.{answers_of, file_medium, file_of, first_of};
     ghost use Rattle.sector_disk.specs.rules.Open.{IsMadeAt, IsOpenedAt, IsTakenAt, IsSeenAt};
-    ghost use Rattle.sector_disk.specs.rules.Open.{IsUnseenAt, IsUnmade, IsUnopenedAt, IsUntaken};
+    ghost use Rattle.sector_disk.specs.rules.Open.{IsUnfilled, IsUnseenAt, IsUnmade};
+    ghost use Rattle.sector_disk.specs.rules.Open.{IsUnopenedAt, IsUntaken};
 
     /// Makes a file of so many sectors of zeros, locks it, and makes its entry in its folder
     /// durable. It fails where there is such a path already, and from 2^54 sectors on. All zeros
     /// are written, so that a device without room for them is found now, and not in a later write.
-    /// After an error the file that it made is removed. Else it is there, to be kept or removed.
+    /// In the end the path still leads to the file. After an error the file that it made is
+    /// removed. Else it is there, to be kept or removed.
     pub fn create<'a, R: NewFiles<File = F>>(
         files: &R,
         path: &'a str,
@@ -77,13 +82,29 @@ impl<F: DiskFile> FileDisk<F> {
             return Err(OpenFault::Io(OpenCause::TooLarge));
         }
         let (file, new) = files.make_new(path)?;
-        match fill_new_file(files, &new, &file, sectors) {
-            Ok(()) => Ok((FileDisk::zeroed(file, sectors), new)),
+        let disk = FileDisk::zeroed(file, sectors);
+        match disk.fill_at(files, &new) {
+            Ok(()) => Ok((disk, new)),
             Err(fault) => {
                 files.remove_new(new);
                 Err(fault)
             }
         }
+    }
+
+    /// Fills its file, which is new, and looks whether the file is in its place then.
+    fn fill_at<R: NewFiles<File = F>>(&self, files: &R, new: &NewFile<'_>) -> Result<(), OpenFault>
+        requires { self.now.count < 2 ^ 54 }
+        ensures resized { OnOk result (IsTrue (F.known.resized (file_of self.now)
+            (self.now.count * SECTOR_SIZE))) }
+        ensures locked { OnOk result (IsTrue (F.known.locked (file_of self.now))) }
+        ensures in_place { OnOk result
+            (IsTrue ((R.known files.now).in_place new.now.path.now self.now)) }
+        ensures failed { IfErr result
+            (IsUnfilled F.known (R.known files.now) new.now.path.now (file_of self.now)) }
+    {
+        fill_new_file(files, new, &self.file, self.count)?;
+        files.look_again(new, self)
     }
 
     /// Takes so many sectors of a block device that is there, locks it, and writes zeros to them.
@@ -160,6 +181,13 @@ impl<F: DiskFile> FileDisk<F> {
             first: FirstImage::of(sectors),
             past: FileLog::new(),
         }
+    }
+}
+
+impl<F: OpenFile> FileDisk<F> {
+    /// The number of its file.
+    pub(crate) fn file_number(&self) -> io::Result<FileNumber> {
+        Ok(FileNumber::of(&self.file.metadata()?))
     }
 }
 

@@ -30,8 +30,9 @@
 //! - `FileDisk` logs each call that it made of its file, with the answer. After a write or a sync
 //!   that failed every call answers `Io`, and the file isn't asked (`logged`). `open`, `create` and
 //!   `create_on_device` give the disk of the file at the path, with its lock (`IsOpenedAt`,
-//!   `IsMadeAt`, `IsTakenAt`). Else a call for that path or of that file has failed, and
-//!   `OpenFault` says so (`IsUnopenedAt`, `IsUnmade`, `IsUntaken`).
+//!   `IsMadeAt`, `IsTakenAt`). A new file was found at its path once it was filled. Else a call for
+//!   that path or of that file has failed, and `OpenFault` says so (`IsUnopenedAt`, `IsUnmade`,
+//!   `IsUntaken`).
 //! - `take_picture` reads a disk that another host may write meanwhile, and writes and syncs
 //!   nothing. The picture has each sector as the file gave it, and the first ones gave the same
 //!   when they were read again (`IsPictured`).
@@ -67,6 +68,7 @@ mod fault_point;
 mod file;
 mod file_call;
 mod file_log;
+mod file_number;
 mod filling;
 mod first_image;
 mod folder;
@@ -91,6 +93,7 @@ pub use fault::DiskFault;
 pub use fault_disk::FaultDisk;
 pub use fault_point::FaultPoint;
 pub use file::FileDisk;
+pub use file_number::FileNumber;
 pub use first_image::FirstImage;
 pub use memory::MemDisk;
 pub use open_fault::{OpenCause, OpenFault};

@@ -1,13 +1,13 @@
 //! What an error of the operating system says of a path.
 ghost use Rattle.std.specs.Prelude.{◌≡◌};
-ghost use Rattle.std.specs.IoError.{error_kind};
-ghost use Rattle.sector_disk.specs.rules.Causes.{open_cause, lock_fault};
+ghost use Rattle.std.specs.IoError.{raw_os_error};
+ghost use Rattle.sector_disk.specs.rules.Causes.{error_cause, lock_fault, numbered_cause};
+ghost use Rattle.sector_disk.specs.rules.Causes.{open_cause, system_number};
 ghost use Rattle.sector_disk.specs.declared.open_fault.OpenFault.TheVariants.{Io};
 
 use crate::{OpenCause, OpenFault};
 use std::fs::TryLockError;
-use std::io;
-use std::io::ErrorKind;
+use std::io::{Error, ErrorKind};
 
 /// What an error of this kind says of a path.
 fn open_cause(kind: ErrorKind) -> OpenCause
@@ -25,16 +25,49 @@ fn open_cause(kind: ErrorKind) -> OpenCause
         ErrorKind::FileTooLarge => OpenCause::TooLarge,
         ErrorKind::InvalidFilename => OpenCause::LongName,
         ErrorKind::FilesystemLoop => OpenCause::Loop,
+        ErrorKind::DirectoryNotEmpty => OpenCause::NotEmpty,
         ErrorKind::NotSeekable => OpenCause::NoSectors,
         _ => OpenCause::Other,
     }
 }
 
-impl From<io::Error> for OpenFault {
-    ghost from_gives = { λ error fault. fault ≡ Io (open_cause (error_kind error)) };
+/// What a number of Linux says of a path that the kit gives no kind: 5 is `EIO`, 23 `ENFILE` and 24
+/// `EMFILE`.
+fn numbered_cause(number: u32) -> Option<OpenCause>
+    ensures { result ≡ numbered_cause number }
+{
+    match number {
+        5 => Some(OpenCause::FailedDevice),
+        23 | 24 => Some(OpenCause::ManyFiles),
+        _ => None,
+    }
+}
 
-    fn from(error: io::Error) -> Self {
-        OpenFault::Io(open_cause(error.kind()))
+/// The number of an error of the system. Any other error has 0, which is none.
+fn system_number(error: &Error) -> u32
+    ensures { result ≡ system_number (raw_os_error error.now) }
+{
+    match error.raw_os_error() {
+        Some(number) => number.unsigned_abs(),
+        None => 0,
+    }
+}
+
+/// What an error says of a path.
+fn error_cause(error: &Error) -> OpenCause
+    ensures { result ≡ error_cause error.now }
+{
+    match numbered_cause(system_number(error)) {
+        Some(cause) => cause,
+        None => open_cause(error.kind()),
+    }
+}
+
+impl From<Error> for OpenFault {
+    ghost from_gives = { λ error fault. fault ≡ Io (error_cause error) };
+
+    fn from(error: Error) -> Self {
+        OpenFault::Io(error_cause(&error))
     }
 }
 
@@ -44,7 +77,7 @@ impl From<TryLockError> for OpenFault {
     fn from(error: TryLockError) -> Self {
         match error {
             TryLockError::WouldBlock => OpenFault::Busy,
-            TryLockError::Error(error) => OpenFault::Io(open_cause(error.kind())),
+            TryLockError::Error(error) => OpenFault::Io(error_cause(&error)),
         }
     }
 }

@@ -39,9 +39,17 @@ pub enum OpenCause {
     LongName,
     /// The links of the path lead nowhere.
     Loop,
+    /// The folder has something in it.
+    NotEmpty,
+    /// This process, or all of them, may open no more files.
+    ManyFiles,
+    /// The device has failed, or the way to it.
+    FailedDevice,
     /// A block device is wanted, and the path is none.
     NoDevice,
     /// The path is neither a regular file nor a block device: it has no sectors.
     NoSectors,
+    /// The path has got another file since its own was made.
+    Displaced,
     Other,
 }

@@ -35,6 +35,10 @@ pub record KnownFiles (F : Type 0) : Type 0 where
   pub refused : List ℕ → OpenFault → Bool
   -- the entry of a new file there couldn't be made durable
   pub unsynced : List ℕ → OpenFault → Bool
+  -- a new file there was found to be still the one that this disk is in, with all that it was given
+  pub in_place : List ℕ → FileDisk F → Bool
+  -- the path of a new file was found to lead to another one or to none, or couldn't be looked at
+  pub displaced : List ℕ → OpenFault → Bool
   -- a new file was left there, or it was to be removed
   pub kept : List ℕ → Bool
   pub removed : List ℕ → Bool
@@ -72,6 +76,8 @@ all_said_of_files = record {
   made = λ path file. true;
   refused = λ path why. true;
   unsynced = λ path why. true;
+  in_place = λ path disk. true;
+  displaced = λ path why. true;
   kept = λ path. true;
   removed = λ path. true;
   closed = λ disk. true;

@@ -58,13 +58,20 @@ module _ {F : Type 0} (handles : KnownHandles F) (files : KnownFiles F) (path : 
     pub sectors : (file_medium disk).sectors ≡ count
     pub first : first_of disk ≡ zeros count
     pub untouched : answers_of disk ≡ []
+    pub in_place : IsTrue (files.in_place path disk)
+
+  -- Why a file that was made there isn't filled: a call of it or of its folder has failed, or the
+  -- path leads to another one by then.
+  abbrev pub IsUnfilled : F → OpenFault → Type 0
+  IsUnfilled file why = IsTrue (handles.failed file why) ⊎ IsTrue (files.unsynced path why)
+      ⊎ IsTrue (files.displaced path why)
 
   -- Why none is made there. There are too many sectors; or the system refuses the path; or a file
-  -- was made, a call of it or of its folder has failed, and it was removed again.
+  -- was made, it couldn't be filled in its place, and it was to be removed again.
   abbrev pub IsUnmade : ℕ → OpenFault → Type 0
   IsUnmade count why = IsTooLarge count why ⊎ IsTrue (files.refused path why)
       ⊎ ((file : F) × IsTrue (files.made path file) × IsTrue (files.removed path)
-      × (IsTrue (handles.failed file why) ⊎ IsTrue (files.unsynced path why)))
+      × IsUnfilled file why)
 
   -- The disk on a block device at this path, locked and not asked for anything yet: its first so
   -- many sectors, of zeros.
