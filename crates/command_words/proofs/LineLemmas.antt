@@ -7,3 +7,4 @@ pub mod Drawing
 pub mod Asking
 pub mod Later
 pub mod Whole
+pub mod Far

@@ -3,7 +3,7 @@ use Rattle.std.proofs.Common.{◌≡◌, ◌∙◌, inl, inr, refl, sym, ap, sub
 use Rattle.std.proofs.Common.{true, false, List, ◌++◌, length, get_or, Option, Some, ◌≤◌, not}
 use Rattle.std.proofs.Common.{codes}
 use Rattle.std.specs.Prelude.{nat_le, nat_lt, slice_get, Result, Ok, Err, OnOk, if◌then◌else◌}
-use Rattle.std.specs.Prelude.{IfErr, ⊤}
+use Rattle.std.specs.Prelude.{IfErr, IfOk}
 use Rattle.std.specs.Fmt.{decimal}
 use Rattle.std.specs.Io.KnownBytes.{Appends}
 use Rattle.std.proofs.lemmas.Bool.Decides.{nat_tests}
@@ -16,14 +16,15 @@ use Rattle.machine.specs.declared.instance.fault.LinkFault.{LinkFault}
 use Rattle.machine.specs.declared.instance.fault.LinkFault.TheVariants.{TooManyPages}
 use Rattle.machine.specs.declared.from_bytes.fault.ModuleFault.{ModuleFault}
 use Rattle.machine.specs.declared.from_bytes.fault.ModuleFault.TheVariants.{Decode, Valid, Link}
-use Rattle.machine.specs.rules.Acceptance.{IsReported, passed_in}
+use Rattle.machine.specs.rules.Acceptance.{IsReported, is_want, passed_in}
 use Rattle.wasm_decode.specs.declared.items.limit.PassedLimit.{PassedLimit}
 use Rattle.wasm_decode.specs.declared.fault.DecodeFault.TheVariants as decode
-use Rattle.command_words.specs.Statuses.{status_by}
+use Rattle.command_words.specs.Statuses.{IsRight, status_by}
 use Rattle.command_words.specs.declared.bounds.Bound.TheVariants as bound
 use Rattle.command_words.specs.rules.Bounds.{IsOutside, range_words}
 use Rattle.command_words.specs.rules.Reports.{SaysLine}
-use Rattle.command_words.specs.rules.Checks.{ChecksModule, EndsAsAsked, IsChecked, TellsWhy}
+use Rattle.command_words.specs.rules.Checks.{ChecksModule, EndsAsAsked, IsChecked, ShowsAccepted}
+use Rattle.command_words.specs.rules.Checks.{TellsWhy, accepted_text}
 use Rattle.command_words.specs.rules.Verdicts.{EndsWithMore, IsImportOffered, SaysMore, TellsMore}
 use Rattle.command_words.specs.rules.Verdicts.{TellsOfLink, first_pages, pages_text}
 use Rattle.command_words.specs.declared.status.Status.{Status}
@@ -116,6 +117,37 @@ module _ {T E : Type 0} (r : Result T E) (old new : PrinterState) (n : ℕ) wher
       by_test true e = absurd (grind (arith, nat_tests))
       by_test false e = written_so false e bytes steady
 
+-- the words of a module that is accepted, as they are written for a test of its pages
+abbrev pub accepted_written : ℕ → Bool → List ℕ
+accepted_written n few = if few then codes "accepted\n"
+    else codes "accepted\ncreate it with --pages " ++ (decimal n ++ codes "\n")
+
+module _ {T E : Type 0} (r : Result T E) (old new : PrinterState) (n : ℕ) where
+  told_so : (few : Bool) → nat_le n 16 ≡ few
+      → OnOk r (Appends old.contents new.contents (accepted_written n few))
+      → OnOk r (Appends old.contents new.contents (accepted_text n))
+  told_so few is bytes = subst (λ t. OnOk r (Appends old.contents new.contents t))
+      (ap (accepted_written n) (sym is)) bytes
+
+  pub few_accepted : n ≤ 16 → OnOk r (Appends old.contents new.contents (accepted_written n true))
+      → OnOk r (Appends old.contents new.contents (accepted_text n))
+  few_accepted few bytes = by_test (nat_le n 16) refl
+    where
+      by_test : (b : Bool) → nat_le n 16 ≡ b
+          → OnOk r (Appends old.contents new.contents (accepted_text n))
+      by_test true e = told_so true e bytes
+      by_test false e = absurd (grind (arith, nat_tests))
+
+  pub many_accepted : 16 < n
+      → OnOk r (Appends old.contents new.contents (accepted_written n false))
+      → OnOk r (Appends old.contents new.contents (accepted_text n))
+  many_accepted many bytes = by_test (nat_le n 16) refl
+    where
+      by_test : (b : Bool) → nat_le n 16 ≡ b
+          → OnOk r (Appends old.contents new.contents (accepted_text n))
+      by_test true e = absurd (grind (arith, nat_tests))
+      by_test false e = told_so false e bytes
+
 -- what holds of the limit that is found holds of the limit that is passed
 pub of_limit : (P : PassedLimit → Type 0) (found passed : PassedLimit) (limit : Option PassedLimit)
     → Some found ≡ limit → limit ≡ Some passed → P found → P passed
@@ -123,6 +155,12 @@ of_limit P found passed limit is told h =
     let both : Some found ≡ Some passed = is ∙ told in
     let same : found ≡ passed = cc in
     subst P same h
+
+-- no fault has the status of an accepted module
+undone_by : (want : Bool)
+    → ◌≡◌ {A = Status} (if want then exit.OutOfMemory else exit.Refused) exit.Done → ⊥
+undone_by true is = absurd cc
+undone_by false is = absurd cc
 
 -- ---- what is told last
 
@@ -152,13 +190,26 @@ module _ (bytes : List ℕ) where
   ends_with (Err e) why mid new told = tt
 
   pub told_why : (lists_all : Bool) (pages : ℕ) (new : PrinterState)
-      (verdict : Result ⊤ ModuleFault) → IfErr verdict (IsReported pages bytes)
+      (verdict : Result ℕ ModuleFault) → IfErr verdict (IsReported pages bytes)
       → IfErr verdict (λ fault. EndsAsAsked lists_all bytes fault new)
       → status_by verdict ≡ exit.Refused → TellsWhy lists_all pages bytes new
-  told_why lists_all pages new (Ok done) reported more is = absurd cc
+  told_why lists_all pages new (Ok first) reported more is = absurd cc
   told_why lists_all pages new (Err fault) reported more is = (fault, reported, more)
 
   -- ---- a check
+
+  -- a verdict whose line was printed
+  pub shown_accepted : (pages : ℕ) (old new : PrinterState)
+      (verdict : Result ℕ ModuleFault) → IsRight pages bytes verdict
+      → IfOk verdict (λ first. Appends old.contents new.contents (accepted_text first))
+      → status_by verdict ≡ exit.Done → ShowsAccepted pages bytes old new
+  shown_accepted pages old new (Ok first) right printed is = (
+    right.0,
+    right.1,
+    subst (λ n. Appends old.contents new.contents (accepted_text n)) right.2 printed,
+  )
+  shown_accepted pages old new (Err fault) right printed is =
+      absurd (undone_by (is_want fault) is)
 
   pub checked : (lists_all : Bool) (pages n : ℕ) (out out' err : PrinterState) (status : Status)
       → n ≡ pages → 1 ≤ pages → pages ≤ 256 → IsChecked lists_all n bytes out status out'

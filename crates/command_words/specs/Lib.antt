@@ -4,6 +4,7 @@ pub mod laws
 pub mod rules
 pub mod CommandLine
 pub mod Commands
+pub mod FunctionNames
 pub mod Outside
 pub mod Preparations
 pub mod Reports

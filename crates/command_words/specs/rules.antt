@@ -21,4 +21,5 @@ pub mod Verdicts
 pub mod Entries
 pub mod Flaws
 pub mod Floats
+pub mod FunctionNames
 pub mod Preparations

@@ -3,7 +3,8 @@
 //! # Promises
 //!
 //! - `check_bytes`: `Done` says that the bytes spell a module that is accepted with so many pages
-//!   (`accepted`), and that `accepted` was printed (`printed`). `Refused` says that they spell none
+//!   (`accepted`), and that `accepted` was printed, and how it is created where it begins with more
+//!   than `create` allows by default (`printed`). `Refused` says that they spell none
 //!   (`refused`). What else is known of it is told last, or if that is asked for all imports and
 //!   functions that are in the way (`more`). All others are `OutOfMemory` and `Unwritten`
 //!   (`known`), and `Unwritten` comes just where a write has failed (`heeded`).
@@ -20,7 +21,7 @@
 //!   memory, since the host's room is in no contract. Tests and refused allocations show it. Tests
 //!   also show the text of refusals, which derived `Display`s print.
 
-ghost use Rattle.std.specs.Prelude.{◌≡◌, ◌≤◌, ◌⊎◌, ◌^◌, true, false, IsOk, Err, IfErr, OnErr, OnOk};
+ghost use Rattle.std.specs.Prelude.{◌≡◌, ◌≤◌, ◌⊎◌, ◌^◌, true, false, Err, IfErr, IfOk, OnErr, OnOk};
 ghost use Rattle.std.specs.Prelude.{MatchOption, Some, codes};
 ghost use Rattle.std.specs.Io.KnownBytes.{Appends};
 ghost use Rattle.machine.specs.declared.from_bytes.fault.ModuleFault.{ModuleFault};
@@ -28,7 +29,8 @@ ghost use Rattle.machine.specs.rules.Acceptance.{HasAcceptedModule, HasNoAccepte
 ghost use Rattle.machine.specs.rules.Acceptance.{IsReported, passed_in};
 ghost use Rattle.wasm_decode.specs.declared.items.limit.PassedLimit.{PassedLimit};
 ghost use Rattle.command_words.specs.rules.Bounds.{IsOutside};
-ghost use Rattle.command_words.specs.rules.Checks.{ChecksModule, EndsAsAsked, TellsWhy};
+ghost use Rattle.command_words.specs.rules.Checks.{ChecksModule, EndsAsAsked, ShowsAccepted};
+ghost use Rattle.command_words.specs.rules.Checks.{TellsWhy, accepted_text};
 ghost use Rattle.command_words.specs.rules.Listings.{EndsWithList};
 ghost use Rattle.command_words.specs.rules.ModuleLimits.{TellsLimit};
 ghost use Rattle.command_words.specs.rules.Printers.{HeedsWrites, printers};
@@ -37,25 +39,28 @@ ghost use Rattle.command_words.specs.declared.status.Status.TheVariants as exit;
 ghost use Rattle.command_words.specs.rules.Verdicts.{EndsWithMore};
 
 use crate::bounds::{Bound, PAGES_BOUND, words_of_range};
+use crate::configuring::PAGES;
 use crate::module_limits::print_limit;
 use crate::printer::Printer;
 use crate::status::Status;
 use crate::telling::say_line;
-use crate::verdicts::{print_list, print_more, print_unlisted};
+use crate::verdicts::{first_pages, print_list, print_more, print_unlisted};
 use machine::{ModuleFault, accept};
 use std::alloc::Global;
 use std::io::{self, Write};
 
-/// Whether the bytes spell a module that is accepted with so many pages, and why not.
-fn verdict_on(alloc: Global, wasm: &[u8], pages: u32) -> Result<(), ModuleFault>
+/// Whether the bytes spell a module that is accepted with so many pages, with how many its memory
+/// begins, and why not.
+fn verdict_on(alloc: Global, wasm: &[u8], pages: u32) -> Result<u32, ModuleFault>
     requires { pages ≤ 2 ^ 16 }
     ensures right { IsRight pages wasm.now result }
     ensures reported { IfErr result (IsReported pages wasm.now) }
 {
     match accept(alloc, wasm, pages) {
         Ok(machine) => {
+            let first = first_pages(machine.module().module());
             drop(machine);
-            Ok(())
+            Ok(first)
         }
         Err(fault) => Err(fault),
     }
@@ -131,16 +136,31 @@ fn print_refusal_as_asked<W: Write + Drop>(
     }
 }
 
+/// Prints that a module is accepted, whose memory begins with so many pages. Where those are more
+/// than `create` allows by default, the option that allows them is on a line of its own.
+fn print_accepted<W: Write + Drop>(pages: u32, out: &mut Printer<W>) -> io::Result<()>
+    ensures printed { OnOk result
+        (Appends out.old.contents out.new.contents (accepted_text pages)) }
+    ensures steady { OnOk result (out.new.failed ≡ out.old.failed) }
+    ensures failed { OnErr result (out.new.failed ≡ true) }
+{
+    if u64::from(pages) <= PAGES {
+        writeln!(out, "accepted")
+    } else {
+        writeln!(out, "accepted\ncreate it with --pages {pages}")
+    }
+}
+
 /// Prints a verdict: `accepted`, or why not.
 fn print_verdict<W: Write + Drop>(
     alloc: Global,
     wasm: &[u8],
     lists_all: bool,
-    verdict: Result<(), ModuleFault>,
+    verdict: Result<u32, ModuleFault>,
     out: &mut Printer<W>,
 ) -> io::Result<()>
-    ensures accepted { IsOk verdict
-        → OnOk result (Appends out.old.contents out.new.contents (codes "accepted\n")) }
+    ensures accepted { IfOk verdict (λ first.
+        OnOk result (Appends out.old.contents out.new.contents (accepted_text first))) }
     ensures limit { lists_all ≡ false → (fault : ModuleFault) (passed : PassedLimit)
         → verdict ≡ Err fault → passed_in fault ≡ Some passed
         → OnOk result (TellsLimit wasm.now (codes "refused") passed out.old out.new) }
@@ -149,17 +169,17 @@ fn print_verdict<W: Write + Drop>(
     ensures failed { OnErr result (out.new.failed ≡ true) }
 {
     match verdict {
-        Ok(()) => writeln!(out, "accepted"),
+        Ok(first) => print_accepted(first, out),
         Err(fault) => print_refusal_as_asked(alloc, wasm, lists_all, fault, out),
     }
 }
 
 /// The exit status of a verdict that is printed.
-fn status_of(verdict: Result<(), ModuleFault>) -> Status
+fn status_of(verdict: Result<u32, ModuleFault>) -> Status
     ensures { result ≡ status_by verdict }
 {
     match verdict {
-        Ok(()) => Status::Done,
+        Ok(_) => Status::Done,
         Err(fault) if fault.is_want_of_memory() => Status::OutOfMemory,
         Err(_) => Status::Refused,
     }
@@ -177,8 +197,7 @@ pub fn check_bytes<W: Write + Drop>(
 ) -> Status
     requires { pages ≤ 2 ^ 16 }
     ensures accepted { result ≡ exit.Done → HasAcceptedModule pages wasm.now }
-    ensures printed { result ≡ exit.Done
-        → Appends out.old.contents out.new.contents (codes "accepted\n") }
+    ensures printed { result ≡ exit.Done → ShowsAccepted pages wasm.now out.old out.new }
     ensures refused { result ≡ exit.Refused → HasNoAcceptedModule pages wasm.now }
     ensures more { result ≡ exit.Refused → TellsWhy lists_all pages wasm.now out.new }
     ensures heeded { HeedsWrites out.old result out.new }

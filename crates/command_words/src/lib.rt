@@ -29,8 +29,8 @@
 //! - `LineOutlet`, `Printer`: all that the program says is printed by one that knows whether a
 //!   write has failed. `Unwritten` comes with a failed write.
 //! - `read_seed`, `seeded`, `read_module`, `split_once`, `cut_line`, `digest_digits`, `spell_line`,
-//!   `spell_answer`, `spell_record`, `say_text`, `say_line`, `report`, `report_words`,
-//!   `report_output`: the words of all these.
+//!   `spell_answer`, `spell_record`, `spell_told_text`, `is_printable`, `name_in`, `print_name`,
+//!   `say_text`, `say_line`, `report`, `report_words`, `report_output`: the words of all these.
 //! - `laws`: words without a fault mean an order, by rules and by over a hundred examples.
 //!
 //! # Definitions to read
@@ -61,6 +61,7 @@ mod command_line;
 mod configuring;
 mod digests;
 mod entries;
+mod function_names;
 pub mod laws;
 mod lines;
 mod module_bytes;
@@ -81,11 +82,12 @@ pub use command_line::{
 };
 pub use configuring::Sizes;
 pub use digests::digest_digits;
+pub use function_names::{name_in, print_name};
 pub use lines::{
     BufferedLines, LineFault, LineFlaw, LineOutlet, LineReader, NumberedRequests, Outside,
-    ReadAhead, RealTime, Request, RequestSource, WholeLines, count_later, flaw_in, nanoseconds_of,
-    read_decimal, read_request, spell_answer, spell_line, spell_record, split_at_space, trap_name,
-    words_of_cut, words_of_limit,
+    ReadAhead, RealTime, Request, RequestSource, WholeLines, count_later, flaw_in, is_printable,
+    nanoseconds_of, read_decimal, read_request, spell_answer, spell_line, spell_record,
+    spell_told_text, split_at_space, trap_name, words_of_cut, words_of_limit,
 };
 pub use module_bytes::read_module;
 pub use pieces::{cut_line, split_once};

@@ -228,7 +228,7 @@ meaning_of (Sweep order) = sweep (sweep_said order)
 
 -- ---- what is behind a command
 
--- the number that a text spells in decimal digits
+-- the number that a text spells in decimal digits; a plus and zeros in front change nothing
 abbrev pub spelled_number : Text → ℕ
 spelled_number text = digits_value 10 (without_leading_plus text)
 

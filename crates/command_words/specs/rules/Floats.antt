@@ -1,6 +1,6 @@
 -- What is told of floats in the bytes of a module (this project's own).
-use Rattle.std.specs.Prelude.{◌≡◌, ◌==◌, ℕ, List, [], ◌++◌, codes, Option, Some, None, slice_get}
-use Rattle.std.specs.Prelude.{if◌then◌else◌, MatchOption, ⊤}
+use Rattle.std.specs.Prelude.{◌≡◌, ◌==◌, ℕ, ◌<◌, ◌^◌, List, [], ◌++◌, codes, Option, Some, None}
+use Rattle.std.specs.Prelude.{slice_get, if◌then◌else◌, MatchOption, ⊤}
 use Rattle.std.specs.Fmt.{decimal}
 use Rattle.wasm_places.specs.declared.place.ModulePlace.{ModulePlace}
 use Rattle.wasm_places.specs.declared.place.ModulePlace.TheVariants as place
@@ -10,6 +10,7 @@ use Rattle.wasm_places.specs.declared.uses.TypeUse.TheVariants as used
 use Rattle.wasm_places.specs.rules.Floats.{float_words}
 use Rattle.wasm_places.specs.rules.Places.{LiesAt}
 use Rattle.wasm_places.specs.rules.Uses.{IsTypeUse, names_in}
+use Rattle.command_words.specs.rules.FunctionNames.{IsNameIn, name_words}
 use Rattle.command_words.specs.rules.Printers.{PrinterState, IsPrinted}
 
 -- what the section with this id holds (Core Specification 1.0, section 5.5.2)
@@ -48,13 +49,24 @@ use_text used.Unread = []
 abbrev pub type_text : ℕ → TypeUse → List ℕ
 type_text number found = codes " in type " ++ decimal number ++ use_text found
 
--- A place, if there is one: `in function 12`. A type comes with the function that has it first.
-abbrev pub place_text : Option ModulePlace → TypeUse → List ℕ
-place_text (Some (place.Function number)) found = codes " in function " ++ decimal number
-place_text (Some (place.Type number)) found = type_text number found
-place_text (Some (place.Section id)) found =
+-- A place, if there is one: `in function 12 (compute)`, where it has a name. A type comes with the
+-- function that has it first.
+abbrev pub place_text : Option ModulePlace → Option (List ℕ) → TypeUse → List ℕ
+place_text (Some (place.Function number)) name found =
+    codes " in function " ++ decimal number ++ name_words name
+place_text (Some (place.Type number)) name found = type_text number found
+place_text (Some (place.Section id)) name found =
     codes " in the " ++ section_word id ++ codes " section"
-place_text None found = []
+place_text None name found = []
+
+-- Where the place is a function that can be named, the module has this name for it, or none that
+-- may be printed.
+abbrev pub IsNameAt : List ℕ → Option ModulePlace → Option (List ℕ) → Type 0
+IsNameAt bytes (Some (place.Function number)) name =
+    number < 2 ^ 32 → IsNameIn (Some bytes) number name
+IsNameAt bytes (Some (place.Type number)) name = ⊤
+IsNameAt bytes (Some (place.Section id)) name = ⊤
+IsNameAt bytes None name = ⊤
 
 -- Where the place is a type, that function has it first, or none has, or it can't be read.
 abbrev pub IsUseAt : List ℕ → Option ModulePlace → TypeUse → Type 0
@@ -63,9 +75,9 @@ IsUseAt bytes (Some (place.Function number)) found = ⊤
 IsUseAt bytes (Some (place.Section id)) found = ⊤
 IsUseAt bytes None found = ⊤
 
--- where floats come from mostly, and how they are left out
+-- where floats of C come from mostly, and how they are left out
 abbrev pub float_hint : List ℕ
-float_hint = codes "; printf has floats, but not with -lc-printscan-no-floating-point\n"
+float_hint = codes "; in C printf has floats, but not with -lc-printscan-no-floating-point\n"
 
 -- the name of what is at an offset, if it is of floats
 abbrev pub float_at : List ℕ → ℕ → Option (List ℕ × List ℕ)
@@ -86,4 +98,5 @@ abbrev pub TellsOfFloat : List ℕ → ℕ → PrinterState → PrinterState →
 TellsOfFloat bytes at old new = MatchOption (float_at bytes at) (new ≡ old)
     (λ name. (lies : Option ModulePlace) × LiesAt bytes at lies
     × (found : TypeUse) × IsUseAt bytes lies found
-    × IsPrinted old new (name.0 ++ name.1 ++ place_text lies found ++ float_hint))
+    × (called : Option (List ℕ)) × IsNameAt bytes lies called
+    × IsPrinted old new (name.0 ++ name.1 ++ place_text lies called found ++ float_hint))

@@ -23,12 +23,18 @@ answer_words (answer.Random bytes) = codes "random " ++ encode_lower bytes
 abbrev pub is_printable : List ℕ → Bool
 is_printable text = is_utf8 text && not (list_any is_ascii_control text)
 
--- A request as the input of `run` has it: its number, `r` and its text. Of a text that isn't plain
--- it has `x` in place of `r`, and the digits of its bytes.
+-- A text as a line tells it: as it is, or by the digits of its bytes where it isn't printable.
+abbrev pub told_text : List ℕ → List ℕ
+told_text text = if is_printable text then text else encode_lower text
+
+-- which of the two it is, in the line of a request
+abbrev pub request_letter : List ℕ → List ℕ
+request_letter text = if is_printable text then codes " r " else codes " x "
+
+-- A request as the input of `run` has it: its number, `r` and its text. Of a text that isn't
+-- printable it has `x` in place of `r`.
 abbrev pub numbered_request : ℕ → List ℕ → List ℕ
-numbered_request number text =
-    if is_printable text then decimal number ++ codes " r " ++ text
-    else decimal number ++ codes " x " ++ encode_lower text
+numbered_request number text = decimal number ++ request_letter text ++ told_text text
 
 -- What was answered. A request, or their end, has this number.
 abbrev pub numbered_words : ℕ → Answer → List ℕ

@@ -39,6 +39,12 @@ const REQUESTS: &str = "\
 Requests are lines of the standard input. N r TEXT is request N, from 1 on, and N e the end
 of all requests. For example: 1 r hello";
 
+/// What comes before an upgrade, and what it isn't.
+const LINES_FIRST: &str = "\
+It prints the lines that the worker owes, and then a line of its own. To keep the worker's lines
+with the others, first: wasmhost run DISK </dev/null >>LINES
+New code is no upgrade: wasmhost create NEW MODULE --from DISK";
+
 /// A path, which has to be given.
 fn path_argument<'a>(alloc: Global, name: &'a str, help: &'a str) -> Arg<'a>
     ensures { IsArgument (path_rule name.entry.now) result }
@@ -299,7 +305,7 @@ fn upgrade_command<'a>(alloc: Global) -> Result<Command<'a>, AllocError>
     ensures { IfOk result (IsCommand upgrade_app) }
 {
     let about = "Bring the worker of a disk to version 2, with texts of 65536 bytes";
-    disk_command(alloc, "upgrade", about, WORKER_DISK)
+    Ok(disk_command(alloc, "upgrade", about, WORKER_DISK)?.after_help(LINES_FIRST))
 }
 
 fn save_command<'a>(alloc: Global) -> Result<Command<'a>, AllocError>

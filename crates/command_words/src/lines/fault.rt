@@ -10,8 +10,8 @@ pub enum LineFault {
     /// A line of another form, or with a text that is too long.
     #[error("refused request line")]
     Form,
-    /// The reader failed.
-    #[error("failed N2 Source\nthe standard input can't be read")]
+    /// The reader failed. The standard input may be one that has nothing now and doesn't wait.
+    #[error("failed N2 Source\nthe standard input can't be read, or doesn't wait (O_NONBLOCK)")]
     Read,
     #[error("failed N4 Memory")]
     Memory,

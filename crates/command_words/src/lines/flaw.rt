@@ -1,11 +1,11 @@
 //! What is wrong with a line that is refused.
 
 ghost use Rattle.std.specs.Prelude.{◌≡◌};
-ghost use Rattle.command_words.specs.declared.lines.flaw.LineFlaw.TheVariants.{Cut};
-ghost use Rattle.command_words.specs.rules.Flaws.{IsFlawIn, IsFlawOf, flaw_words, text_limit_words};
+ghost use Rattle.command_words.specs.rules.Flaws.{IsFlawIn, IsFlawOf, excess_words};
+ghost use Rattle.command_words.specs.rules.Flaws.{text_limit_words};
 
 use crate::lines::fault::LineFault;
-use crate::lines::request::read_request;
+use crate::lines::request::{is_far_request, read_request};
 use wasi_abi::Version;
 
 /// What is wrong with a line of another form.
@@ -15,6 +15,8 @@ pub enum LineFlaw {
     Long { bytes: usize },
     /// It begins as a request does, is longer than one may be, and its end wasn't read.
     Cut,
+    /// It would be a request, but its number is 2^63 or more.
+    Far,
     /// It is no request, however long a text may be, and none begins so.
     Form,
 }
@@ -28,6 +30,7 @@ fn flaw_of(is_cut: bool, line: &[u8]) -> LineFlaw
         Some(request) => LineFlaw::Long {
             bytes: request.text_length(),
         },
+        None if is_far_request(line) => LineFlaw::Far,
         None => LineFlaw::Form,
     }
 }
@@ -47,17 +50,17 @@ pub fn words_of_limit(version: Version) -> &'static str
     ensures { result.now ≡ text_limit_words version }
 {
     match version {
-        Version::One => "version 1 takes 4096: wasmhost upgrade",
+        Version::One => "version 1 takes 4096",
         Version::Two => "version 2 takes 65536",
     }
 }
 
-/// What is told of a line whose end wasn't read, where the worker is of this version.
+/// That a line whose end wasn't read is longer than a worker of this version takes.
 pub fn words_of_cut(version: Version) -> &'static str
-    ensures { result.now ≡ flaw_words version Cut }
+    ensures { result.now ≡ excess_words version }
 {
     match version {
-        Version::One => "more than 4096 bytes, and version 1 takes 4096: wasmhost upgrade",
+        Version::One => "more than 4096 bytes, and version 1 takes 4096",
         Version::Two => "more than 65536 bytes, and version 2 takes 65536",
     }
 }

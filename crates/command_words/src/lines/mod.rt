@@ -28,7 +28,7 @@ pub use outside::Outside;
 pub use printing::spell_line;
 pub use reader::{LineReader, ReadAhead};
 pub use real_time::{RealTime, nanoseconds_of};
-pub use records::{spell_answer, spell_record};
+pub use records::{is_printable, spell_answer, spell_record, spell_told_text};
 pub use request::{Request, read_decimal, read_request, split_at_space};
 pub use source::RequestSource;
 pub use trap_names::trap_name;

@@ -4,6 +4,8 @@
 //!
 //! - `spell_answer`: an answer as a script of `story` says it (`answer_words`). `spell_record`: a
 //!   record on a line, as `history` prints it (`record_line`).
+//! - `spell_told_text`: a text, or its digits where it isn't printable (`told_text`). `files` tells
+//!   paths so, too.
 //!
 //! # Choices
 //!
@@ -19,7 +21,8 @@ ghost use Rattle.std.specs.Io.KnownBytes.{Appends};
 ghost use Rattle.hex.specs.Hex.{encode_lower};
 ghost use Rattle.wasi_abi.specs.declared.answer.Answer.TheVariants as answers;
 ghost use Rattle.command_words.specs.rules.Records.{answer_words, is_printable, numbered_words};
-ghost use Rattle.command_words.specs.rules.Records.{record_line, numbered_request};
+ghost use Rattle.command_words.specs.rules.Records.{numbered_request, record_line};
+ghost use Rattle.command_words.specs.rules.Records.{request_letter, told_text};
 
 use disk_layout::Record;
 use std::io::{self, Write};
@@ -40,7 +43,7 @@ fn has_control(bytes: &[u8]) -> bool
 }
 
 /// Whether a text is UTF-8 without control bytes.
-fn is_printable(text: &[u8]) -> bool
+pub fn is_printable(text: &[u8]) -> bool
     ensures { result ≡ is_printable text.now }
 {
     is_utf8(text) && !has_control(text)
@@ -65,6 +68,17 @@ fn spell_digits<W: Write>(out: &mut W, bytes: &[u8]) -> io::Result<()>
         out.write_all(&digits_of(*byte))?;
     }
     Ok(())
+}
+
+/// Spells a text, or its digits where it isn't printable.
+pub fn spell_told_text<W: Write>(out: &mut W, text: &[u8]) -> io::Result<()>
+    ensures { OnOk result (Appends (W.contents out.old) (W.contents out.new)
+        (told_text text.now)) }
+{
+    if is_printable(text) {
+        return out.write_all(text);
+    }
+    spell_digits(out, text)
 }
 
 /// Spells a text of a script after its word.
@@ -99,17 +113,26 @@ pub fn spell_answer<W: Write>(out: &mut W, answer: &Answer) -> io::Result<()>
     }
 }
 
+/// Spells whether a request's text comes as it is or by its digits.
+fn spell_letter<W: Write>(out: &mut W, text: &[u8]) -> io::Result<()>
+    ensures { OnOk result (Appends (W.contents out.old) (W.contents out.new)
+        (request_letter text.now)) }
+{
+    if is_printable(text) {
+        out.write_all(b" r ")
+    } else {
+        out.write_all(b" x ")
+    }
+}
+
 /// Spells a request of this number.
 fn spell_request<W: Write>(out: &mut W, number: u128, text: &[u8]) -> io::Result<()>
     ensures { OnOk result (Appends (W.contents out.old) (W.contents out.new)
         (numbered_request number text.now)) }
 {
-    if is_printable(text) {
-        write!(out, "{number} r ")?;
-        return out.write_all(text);
-    }
-    write!(out, "{number} x ")?;
-    spell_digits(out, text)
+    write!(out, "{number}")?;
+    spell_letter(out, text)?;
+    spell_told_text(out, text)
 }
 
 /// Spells what was answered. A request, or their end, has this number.

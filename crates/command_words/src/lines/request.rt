@@ -5,10 +5,13 @@
 //! - `read_request`: what one line says, where it is a request line with a text of at most so many
 //!   bytes (`spelled`, `found`). `trap_name`: how last words call a trap.
 
-ghost use Rattle.std.specs.Prelude.{◌≡◌, ◌≢◌, ◌<◌, ◌≤◌, ◌^◌, ℕ, List, ◌∷◌, ◌++◌, Some, IfSome};
-ghost use Rattle.std.specs.Prelude.{IsSome, IsSomeAnd, codes, length, slice_index};
+ghost use Rattle.std.specs.Prelude.{◌≡◌, ◌≢◌, ◌⊎◌, ◌↔◌, ◌<◌, ◌≤◌, ◌^◌, ℕ, List, ◌∷◌, ◌++◌, Some};
+ghost use Rattle.std.specs.Prelude.{IfSome, IsSome, IsSomeAnd, IsTrue, true, codes, length};
+ghost use Rattle.std.specs.Prelude.{slice_index};
+ghost use Rattle.std.specs.Char.{is_ascii_digit};
 ghost use Rattle.std.specs.Fmt.{decimal};
-ghost use Rattle.command_words.specs.rules.Flaws.{text_length};
+ghost use Rattle.std.specs.List.{list_all};
+ghost use Rattle.command_words.specs.rules.Flaws.{IsFarRequest, is_numeral, text_length};
 ghost use Rattle.command_words.specs.rules.Texts.{IsShortRequest, IsRequestLine, request_line};
 ghost use Rattle.command_words.specs.rules.Numbers.{IsNumberedRequest, request_number};
 
@@ -98,6 +101,64 @@ pub fn split_at_space(line: &[u8]) -> Option<(&[u8], &[u8])>
 {
     let space = first_space(line)?;
     Some((&line[..space], &line[space + 1..]))
+}
+
+fn all_digits(bytes: &[u8]) -> bool
+    ensures { result ≡ list_all is_ascii_digit bytes.now }
+{
+    bytes.iter().all(|byte| byte.is_ascii_digit())
+}
+
+/// Whether these are the digits of a number from 1 on, without zeros in front.
+fn is_numeral(digits: &[u8]) -> bool
+    ensures { result ≡ is_numeral digits.now }
+{
+    match digits {
+        [] | [b'0', ..] => false,
+        _ => all_digits(digits),
+    }
+}
+
+/// Whether a text comes behind a number, as in the line of a request.
+fn is_text_said(said: &[u8]) -> bool
+    ensures { IsTrue result ↔ ((text : List ℕ) × (said.now ≡ codes "r " ++ text)) }
+{
+    matches!(said, [b'r', b' ', ..])
+}
+
+/// Whether a text of any length comes behind a number, or the end of all requests.
+fn is_request_said(said: &[u8]) -> bool
+    ensures { IsTrue result ↔ ((said.now ≡ codes "e")
+        ⊎ ((text : List ℕ) × (said.now ≡ codes "r " ++ text))) }
+{
+    if said == b"e".as_slice() {
+        return true;
+    }
+    is_text_said(said)
+}
+
+/// Whether digits are of a number from 2^63 on, without zeros in front.
+fn is_far_number(digits: &[u8]) -> bool
+    ensures { IsTrue result ↔ ((is_numeral digits.now ≡ true)
+        × ((n : ℕ) → n < 2 ^ 63 → digits.now ≡ decimal n → ⊥)) }
+{
+    match read_number(digits) {
+        Some(_) => false,
+        None => is_numeral(digits),
+    }
+}
+
+/// Whether it is the line of a request but for its number, which is 2^63 or more.
+pub(crate) fn is_far_request(line: &[u8]) -> bool
+    ensures { IsTrue result ↔ IsFarRequest line.now }
+{
+    let Some((digits, said)) = split_at_space(line) else {
+        return false;
+    };
+    if !is_far_number(digits) {
+        return false;
+    }
+    is_request_said(said)
 }
 
 /// What is said after the number and its space: `r text`, with a text of at most `limit` bytes, or

@@ -2,13 +2,16 @@
 
 ghost use Rattle.std.specs.Prelude.{◌≡◌, ◌++◌, true, OnErr, OnOk, codes};
 ghost use Rattle.std.specs.Fmt.{decimal};
-ghost use Rattle.command_words.specs.rules.Floats.{IsUseAt, TellsOfFloat, first_text, float_at};
-ghost use Rattle.command_words.specs.rules.Floats.{float_hint, float_name, names_text, place_text};
-ghost use Rattle.command_words.specs.rules.Floats.{section_word, type_text, use_text};
+ghost use Rattle.command_words.specs.FunctionNames.{lent_bytes};
+ghost use Rattle.command_words.specs.rules.Floats.{IsNameAt, IsUseAt, TellsOfFloat, first_text};
+ghost use Rattle.command_words.specs.rules.Floats.{float_at, float_hint, float_name, names_text};
+ghost use Rattle.command_words.specs.rules.Floats.{place_text, section_word, type_text, use_text};
+ghost use Rattle.command_words.specs.rules.FunctionNames.{name_words};
 ghost use Rattle.command_words.specs.rules.Printers.{IsPrinted};
 ghost use Rattle.wasm_places.specs.Named.{AreFloatWords};
 ghost use Rattle.wasm_places.specs.rules.Uses.{names_in};
 
+use crate::function_names::{name_in, print_name};
 use crate::printer::Printer;
 use std::io::{self, Write};
 use wasm_places::{
@@ -92,18 +95,36 @@ fn print_type<W: Write + Drop>(
     print_use(out, found)
 }
 
-/// Prints a place, if there is one. A type comes with the function that has it first.
+/// Prints the number of a function, and its name, if it has one.
+fn print_function<W: Write + Drop>(
+    out: &mut Printer<W>,
+    number: u64,
+    name: Option<&[u8]>,
+) -> io::Result<()>
+    ensures printed { OnOk result (IsPrinted out.old out.new (codes " in function "
+        ++ decimal number ++ name_words (lent_bytes name.entry))) }
+    ensures steady { OnOk result (out.new.failed ≡ out.old.failed) }
+    ensures failed { OnErr result (out.new.failed ≡ true) }
+{
+    write!(out, " in function {number}")?;
+    print_name(out, name)
+}
+
+/// Prints a place, if there is one. A function comes with its name, and a type with the function
+/// that has it first.
 fn print_place<W: Write + Drop>(
     out: &mut Printer<W>,
     place: Option<ModulePlace>,
+    name: Option<&[u8]>,
     found: TypeUse<'_>,
 ) -> io::Result<()>
-    ensures printed { OnOk result (IsPrinted out.old out.new (place_text place found.entry)) }
+    ensures printed { OnOk result (IsPrinted out.old out.new
+        (place_text place (lent_bytes name.entry) found.entry)) }
     ensures steady { OnOk result (out.new.failed ≡ out.old.failed) }
     ensures failed { OnErr result (out.new.failed ≡ true) }
 {
     match place {
-        Some(ModulePlace::Function(number)) => write!(out, " in function {number}"),
+        Some(ModulePlace::Function(number)) => print_function(out, number, name),
         Some(ModulePlace::Type(number)) => print_type(out, number, found),
         Some(ModulePlace::Section(id)) => {
             let word = section_word(id);
@@ -118,20 +139,22 @@ fn print_words<W: Write + Drop>(
     out: &mut Printer<W>,
     words: FloatWords,
     place: Option<ModulePlace>,
+    name: Option<&[u8]>,
     found: TypeUse<'_>,
 ) -> io::Result<()>
     ensures printed { OnOk result (IsPrinted out.old out.new (words.value_type.now
-        ++ words.operation.now ++ place_text place found.entry ++ float_hint)) }
+        ++ words.operation.now ++ place_text place (lent_bytes name.entry) found.entry
+        ++ float_hint)) }
     ensures steady { OnOk result (out.new.failed ≡ out.old.failed) }
     ensures failed { OnErr result (out.new.failed ≡ true) }
 {
     let value_type = words.value_type;
     let operation = words.operation;
     write!(out, "{value_type}{operation}")?;
-    print_place(out, place, found)?;
+    print_place(out, place, name, found)?;
     writeln!(
         out,
-        "; printf has floats, but not with -lc-printscan-no-floating-point"
+        "; in C printf has floats, but not with -lc-printscan-no-floating-point"
     )
 }
 
@@ -144,6 +167,21 @@ fn use_at(wasm: &[u8], place: Option<ModulePlace>) -> TypeUse<'_>
         Some(ModulePlace::Function(_)) => TypeUse::Unread,
         Some(ModulePlace::Section(_)) => TypeUse::Unread,
         None => TypeUse::Unread,
+    }
+}
+
+/// The name of the function at a place, where that is one, and it may be printed.
+fn name_at(wasm: &[u8], place: Option<ModulePlace>) -> Option<&[u8]>
+    ensures { IsNameAt wasm.now place (lent_bytes result) }
+{
+    match place {
+        Some(ModulePlace::Function(number)) => match u32::try_from(number) {
+            Ok(number) => name_in(Some(wasm), number),
+            Err(_) => None,
+        },
+        Some(ModulePlace::Type(_)) => None,
+        Some(ModulePlace::Section(_)) => None,
+        None => None,
     }
 }
 
@@ -178,7 +216,7 @@ pub(super) fn print_float_in<W: Write + Drop>(
     }
 }
 
-/// Prints what is of floats at an offset, and where that is.
+/// Prints what is of floats at an offset, and where that is. A function is named.
 pub(crate) fn print_float<W: Write + Drop>(
     out: &mut Printer<W>,
     wasm: &[u8],
@@ -191,7 +229,8 @@ pub(crate) fn print_float<W: Write + Drop>(
     match words_at(wasm, at) {
         Some(words) => {
             let place = place_of(wasm, at);
-            print_words(out, words, place, use_at(wasm, place))
+            let name = name_at(wasm, place);
+            print_words(out, words, place, name, use_at(wasm, place))
         }
         None => Ok(()),
     }

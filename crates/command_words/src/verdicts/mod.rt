@@ -6,4 +6,4 @@ mod listing;
 mod telling;
 
 pub(crate) use listing::print_list;
-pub(crate) use telling::{print_more, print_unlisted};
+pub(crate) use telling::{first_pages, print_more, print_unlisted};

@@ -63,7 +63,7 @@ fn print_refused_import<W: Write + Drop>(
 }
 
 /// How many pages the memory of a module begins with.
-fn first_pages(module: &Module) -> u32
+pub(crate) fn first_pages(module: &Module) -> u32
     ensures { result ≡ first_pages module.now }
 {
     match module.memories.as_slice().first() {
