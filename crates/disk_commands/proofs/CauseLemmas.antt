@@ -429,22 +429,28 @@ module _ {D O : Type 0} (medium : D → Medium) (takes : Taking O) where
     says_why status (is_unopened why run heeded said) =
         said_as before.err status (status_on_disk (opening_fault why)) said
         (by_opening why (λ IsOfOpening IsOfCall is. opening why run heeded is) heeded)
-    says_why status (over now source' between done lives outcome heeded tells (inl said)) =
+    says_why status (over now source' between last done reads lives outcome heeded tells bytes
+        of_disk (inl said)) =
         subst Says (sym said.0) (zero (record {
           now = now;
           source' = source';
           between = between;
           done = done;
+          last = last;
+          reads = reads;
           lives = lives;
           outcome = outcome;
           heeded = heeded;
           told = tells;
+          bytes = bytes;
+          of_disk = of_disk;
           printed = said.1;
         }) (sym heeded ∙ steady_unless (MayRefuse (act_given before.given) (Ok []))
         (source_behind before.given lives.worker) source' lives.heard
         (none_refused (act_given before.given) (Ok []) (λ source. absurd (cc))
         (λ telling. telling))))
-    says_why status (over now source' between done lives outcome heeded tells (inr unsaid)) =
+    says_why status (over now source' between last done reads lives outcome heeded tells bytes
+        of_disk (inr unsaid)) =
         subst Says (sym unsaid.0) (seven (inr unsaid.1))
     says_why status (broken why told source' between lives breaks heeded is tells said) =
         said_as between status (status_on_disk told) said

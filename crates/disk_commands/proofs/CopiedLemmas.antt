@@ -23,9 +23,8 @@ use Rattle.worker.proofs.CopyLemmas.{first_sectors_decide, opened_is_fresh, stan
 use Rattle.worker.specs.declared.inspection.Inspection.{Inspection}
 use Rattle.worker.specs.declared.recover_fault.RecoverFault.{RecoverFault}
 use Rattle.worker.specs.rules.Inspections.{Inspects}
-use Rattle.command_words.specs.declared.telling.Obstacle.TheVariants.{Unread}
-use Rattle.command_words.specs.rules.Printers.{IsSaid, PrinterState, Printers}
-use Rattle.command_words.specs.rules.Reports.{SaysLine, obstacle_words}
+use Rattle.command_words.specs.rules.Printers.{IsSaid, PrinterState, Printers, printers}
+use Rattle.command_words.specs.rules.Reports.{SaysLine}
 use Rattle.command_words.specs.declared.status.Status.{Status}
 use Rattle.command_words.specs.declared.status.Status.TheVariants as exit
 use Rattle.disk_commands.specs.laws.Copied.{CopiesStandForTheSame, CopiesWhatStands}
@@ -33,6 +32,7 @@ use Rattle.disk_commands.specs.laws.Copied.{SavedFilesStandForTheSame, SavesWhat
 use Rattle.disk_commands.specs.rules.DiskStatuses.{opening_fault, status_on_disk}
 use Rattle.disk_commands.specs.rules.Openings.{open_words, command_run}
 use Rattle.disk_commands.specs.rules.SavedCopies.{IsSavedInFile, SavesCopy, SavesTold, SaysCopied}
+use Rattle.disk_commands.specs.rules.SavedCopies.{uncopied_words}
 use Rattle.disk_commands.proofs.WatchingLemmas.{undone_on_disk}
 
 -- ---- statuses
@@ -53,7 +53,7 @@ if_done : (sectors : ℕ) (answer : Result (Unit {0}) CopyFault) (before after :
     (P : Type 0) → SaysCopied sectors answer before after exit.Done → OnOk answer P → P
 if_done sectors (Ok done) before after P says on = on
 if_done sectors (Err why) before after P says on =
-    absurd (no_line (obstacle_words Unread) before.err after.err says.0)
+    absurd (no_line (uncopied_words why) before.err after.err says.0)
 
 -- ---- a copy
 
@@ -151,14 +151,17 @@ module _ {D F : Type 0} (medium : D → Medium) (handles : KnownHandles F) (file
         copy' = saved.copy';
         made = saved.made;
         closed = saved.closed;
-        kept = saved.keeps refl;
+        kept = (saved.ends.keeps refl).2;
         copies = λ shown shows m config answers n stands.
             let read_so = stays_shows (medium read) (medium disk') saved.saves.only_read.stays shown
             shows in
             let same = told_sectors told (medium opened) (medium read) looks shown read_so m config
             answers n stands in
             copies_what_stands (medium read) (medium disk') (file_medium saved.copy)
-            (file_medium saved.copy') before after exit.Done saved.saves
+            (file_medium saved.copy') before (printers after.out saved.told) exit.Done
+            (subst (λ s. SavesCopy (medium read) (medium disk') (file_medium saved.copy)
+            (file_medium saved.copy') before (printers after.out saved.told) s)
+            (saved.ends.keeps refl).0 saved.saves)
             (began_as_zeros handles files path sectors saved.copy saved.made) shown shows m config
             answers n stands
             (enough sectors (total_sectors (geometry_of config (length stands.wasm)))

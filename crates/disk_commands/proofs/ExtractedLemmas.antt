@@ -1,34 +1,45 @@
 -- Nodes that are made below a folder, one after another.
-use Rattle.std.proofs.Common.{◌≡◌, ◌≢◌, ℕ, ◌+◌, ◌<◌, Bool, List, ◌∷◌, ◌++◌, length, take, drop}
+use Rattle.std.proofs.Common.{◌≡◌, ℕ, ◌+◌, ◌<◌, Bool, List, ◌∷◌, ◌++◌, length, take, drop}
 use Rattle.std.proofs.Common.{get_or, get_or-take, append_assoc, refl, subst, sym, ap, ◌∙◌}
 use Rattle.std.proofs.Common.{inl, inr, arith}
 use Rattle.std.specs.Prelude.{All, Contains, IsTrue}
 use Rattle.std.specs.List.Sorted.{IsPermutation}
-use Rattle.std.specs.declared.io.ErrorKind.{ErrorKind}
+use Rattle.std.specs.IoError.{error_kind}
+use Rattle.std.specs.declared.io.Error as io
 use Rattle.std.proofs.lemmas.List.{drop_more, length-take-le, take-append-drop}
 use Rattle.std.proofs.lemmas.List.Elements.{All-contains_itself}
 use Rattle.std.proofs.lemmas.List.Sorted.{All-permutation}
-use Rattle.command_words.specs.rules.Printers.{PrinterState, printers}
+use Rattle.command_words.specs.rules.Printers.{PrinterState}
 use Rattle.command_words.specs.declared.status.Status.{Status}
-use Rattle.command_words.specs.declared.status.Status.TheVariants as exit
 use Rattle.file_tree.specs.rules.Files.{Files, bytes_of_node, slash}
 use Rattle.file_listing.specs.declared.listed.ListedNode.{ListedNode}
 use Rattle.file_listing.specs.rules.Listed.{IsPlacedAmong, listing_in}
 use Rattle.disk_commands.specs.NodeOrders.{ParentsComeFirst}
-use Rattle.disk_commands.specs.rules.ExtractedTrees.{FailsToMake, FillsFolder, IsMadeAs}
-use Rattle.disk_commands.specs.rules.ExtractedTrees.{IsMadeBelow, SaysUnmade, WritesTree}
+use Rattle.disk_commands.specs.rules.ExtractedTrees.{FailsToMake, IsMadeAs, IsMadeBelow}
+use Rattle.disk_commands.specs.rules.ExtractedTrees.{SaysUnmade, SaysUnwritten}
 use Rattle.disk_commands.specs.rules.NewTrees.{KnownTrees, LiesInMadeFolder, below}
 use Rattle.disk_commands.specs.rules.Openings.{SaysUnread}
 
 -- why nothing is made at a path, by two names of the path
-pub unmade_at : (trees : KnownTrees) (asked told path : List ℕ) (kind : ErrorKind)
+pub unmade_at : (trees : KnownTrees) (asked told path : List ℕ) (error : io.Error)
     (old : PrinterState) (status : Status) (new : PrinterState) → asked ≡ path → told ≡ path
-    → FailsToMake trees asked kind → SaysUnread told kind old status new
+    → FailsToMake trees asked (error_kind error) → SaysUnread told error old status new
     → SaysUnmade trees path old status new
-unmade_at trees asked told path kind old status new one other fails says = (
-  kind,
-  subst (λ (p : List ℕ). FailsToMake trees p kind) one fails,
-  subst (λ (p : List ℕ). SaysUnread p kind old status new) other says,
+unmade_at trees asked told path error old status new one other fails says = inl (
+  error,
+  subst (λ (p : List ℕ). FailsToMake trees p (error_kind error)) one fails,
+  subst (λ (p : List ℕ). SaysUnread p error old status new) other says,
+)
+
+-- why a file that was made there isn't written, in the same way
+pub unwritten_at : (trees : KnownTrees) (asked told path : List ℕ) (error : io.Error)
+    (old : PrinterState) (status : Status) (new : PrinterState) → asked ≡ path → told ≡ path
+    → IsTrue (trees.unwritten asked (error_kind error)) → SaysUnread told error old status new
+    → SaysUnwritten trees path old status new
+unwritten_at trees asked told path error old status new one other fails says = (
+  error,
+  subst (λ (p : List ℕ). IsTrue (trees.unwritten p (error_kind error))) one fails,
+  subst (λ (p : List ℕ). SaysUnread p error old status new) other says,
 )
 
 -- nodes in some order are those of the tree
@@ -84,29 +95,3 @@ lies_in_made trees folder fs nodes k node made first short is done =
       is = ap (below folder) has.is
           ∙ sym (append_assoc folder (slash ∷ has.parent.path) (slash ∷ has.name));
     }
-
--- a folder that was made and filled, by two names of its path, of its tree and of its nodes
-pub writes_folder : (trees : KnownTrees) (folder at : List ℕ) (fs tree : Files)
-    (nodes given : List ListedNode) (out out' err err' : PrinterState) (status : Status)
-    → at ≡ folder → tree ≡ fs
-    → given ≡ nodes → IsTrue (trees.folder folder) → IsPermutation (listing_in fs) nodes
-    → FillsFolder trees at tree given (printers out err) (printers out' err') status
-    → (status ≡ exit.Done → IsTrue (trees.kept at))
-    → (status ≢ exit.Done → IsTrue (trees.removed at))
-    → WritesTree trees folder fs (printers out err) (printers out' err') status
-writes_folder trees folder at fs tree nodes given out out' err err' status is whose same made listed
-    fills keeps removes =
-    inl (record {
-      made = made;
-      nodes = nodes;
-      listed = listed;
-      fills = subst (λ (p : List ℕ). FillsFolder trees p fs nodes (printers out err)
-          (printers out' err') status) is
-          (subst (λ (f : Files). FillsFolder trees at f nodes (printers out err)
-          (printers out' err') status) whose
-          (subst (λ (n : List ListedNode). FillsFolder trees at tree n (printers out err)
-          (printers out' err') status) same
-          fills));
-      keeps = λ none. subst (λ (p : List ℕ). IsTrue (trees.kept p)) is (keeps none);
-      removes = λ some. subst (λ (p : List ℕ). IsTrue (trees.removed p)) is (removes some);
-    })

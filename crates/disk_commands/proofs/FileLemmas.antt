@@ -23,11 +23,6 @@ use Rattle.disk_commands.specs.rules.Openings.{CommandRun, command_run, IsWritte
 use Rattle.disk_commands.specs.rules.Openings.{SaysUnopened}
 use Rattle.disk_commands.specs.rules.SeenDisks.{DoesSeen}
 
--- what is known of a path is known of the same path
-pub known_at : (known : List ℕ → Bool) (there path : List ℕ) → there ≡ path → IsTrue (known there)
-    → IsTrue (known path)
-known_at known there path is holds = subst (λ p. IsTrue (known p)) is holds
-
 module _ {F : Type 0} (opened disk : FileDisk F) where
   -- what was written back of an untouched disk
   pub is_written_back : answers_of opened ≡ []

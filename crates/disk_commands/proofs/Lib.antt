@@ -1,3 +1,4 @@
+pub mod AwaitedLemmas
 pub mod WatchingLemmas
 pub mod ShowingLemmas
 pub mod HearingLemmas
@@ -9,6 +10,9 @@ pub mod UpgradingLemmas
 pub mod ReleasedLemmas
 pub mod ShownLemmas
 pub mod OnDiskLemmas
+pub mod ClearedLemmas
+pub mod MadeLemmas
+pub mod FilledLemmas
 pub mod SuccessorLemmas
 mod SucceededLemmas
 pub mod AnsweredLemmas
@@ -18,11 +22,14 @@ pub mod ServedLemmas
 pub mod UnwrittenLemmas
 pub mod TakingLemmas
 pub mod ToldLemmas
+pub mod ToldLineLemmas
 pub mod TrapFrameLemmas
 pub mod FileLemmas
+pub mod LeavingLemmas
 mod SavedLemmas
 mod SeedLemmas
 pub mod CopiedLemmas
+pub mod CountedLemmas
 pub mod OpeningLemmas
 pub mod StatusLineLemmas
 pub mod StatusLemmas
@@ -33,6 +40,5 @@ mod FactLemmas
 mod LargestLemmas
 mod JsonLemmas
 mod OpenedLemmas
-pub mod FlawLemmas
 mod HistoryLemmas
 mod ExtractedLemmas

@@ -1,7 +1,7 @@
 -- From the calls of a worker on its disk to what a run of it says.
 use Rattle.std.proofs.Common.{◌≡◌, ◌≢◌, inl, inr, ℕ, Bool, List, Option, None, Ok, Err, refl, sym}
 use Rattle.std.proofs.Common.{◌∙◌, subst}
-use Rattle.std.specs.Prelude.{Result, IfOk}
+use Rattle.std.specs.Prelude.{Result, IfOk, IfSome}
 use Rattle.std.proofs.lemmas.Result.{IfErr-weaker}
 use Rattle.sector_disk.specs.declared.fault.DiskFault.{DiskFault}
 use Rattle.sector_disk.specs.rules.Medium.{Medium}
@@ -26,14 +26,17 @@ use Rattle.command_words.specs.rules.Printers.{PrinterState, IsSaid, TellsPerson
 use Rattle.command_words.specs.declared.status.Status.{Status}
 use Rattle.disk_commands.specs.declared.on_disk.fault.OnDiskFault.{OnDiskFault}
 use Rattle.worker.specs.rules.Scenes.{scene, surroundings}
-use Rattle.disk_commands.specs.Livings.{undone_after, LivesAtPace, HasGoneOn, SaysGone}
+use Rattle.disk_layout.specs.rules.Stored.{OnlyReads}
+use Rattle.disk_commands.specs.Livings.{undone_after, LivesAtPace, HasGoneOn, LooksBehind, SaysGone}
 use Rattle.disk_commands.specs.rules.BrokenLives.{BreaksOffFrom, steps_among}
 use Rattle.disk_commands.specs.rules.DiskStatuses.{IsReportedOnDisk, opening_fault, status_on_disk}
 use Rattle.disk_commands.specs.rules.LastWords.{SaysOver, ended_by}
 use Rattle.worker.specs.rules.Outcomes.{outcome_after}
 use Rattle.disk_commands.specs.rules.ServedOnDisk.{DiskJob, act_given, source_behind, handing}
 use Rattle.disk_commands.specs.rules.ServedOnDisk.{IsOnlySynced, IsUnopenedRun, LivesOnDisk}
-use Rattle.disk_commands.specs.rules.ServedOnDisk.{RunStart, RunEnd, ServesOnDisk, recovered_line}
+use Rattle.disk_commands.specs.rules.ServedOnDisk.{RunStart, RunEnd, ServesOnDisk, ending_on}
+use Rattle.disk_commands.specs.rules.ServedOnDisk.{recovered_line}
+use Rattle.disk_commands.specs.rules.TrapFrames.{IsModuleOn}
 use Rattle.disk_commands.specs.rules.ServedOnDisk.{unopened as is_unopened, over, broken}
 use Rattle.disk_commands.proofs.LivingLemmas.{carried_over}
 use Rattle.disk_commands.proofs.ShownLemmas.{gives_so, asked_so, calls_so, outcome_so, broken_so}
@@ -205,22 +208,24 @@ module _ {D O : Type 0} (medium : D → Medium) (takes : Taking O) where
     module _ (w : DurableValue) (opening : D) (p : O) (between : PrinterState)
         (recovers : RecoversWorker medium takes (Ok w) before.disk opening before.outlet p)
         (heeds : HeedsOutlet takes ⊥ before.outlet p)
-        (tells : TellsPerson (recovered_line w) before.err between) (taken : ℕ) where
-      abbrev Goes : Result Now OnDiskFault → Type 0
-      Goes result = HasGoneOn medium takes (scene w opening before.given p) after.disk
+        (tells : TellsPerson (recovered_line w) before.err between) (taken : ℕ) (last : D)
+        (bytes : Option (List ℕ)) (of_disk : IfSome bytes (IsModuleOn (medium after.disk))) where
+      abbrev Goes : D → Result Now OnDiskFault → Type 0
+      Goes disk result = HasGoneOn medium takes (scene w opening before.given p) disk
           after.outlet after.failed taken result
 
-      serves_over : (why : Now) → Goes (Ok why)
-          → SaysOver before.err.on_terminal (ended_by why) taken between status after.err → Serves
+      serves_over : (why : Now) → Goes last (Ok why) → OnlyReads (medium last) (medium after.disk)
+          → SaysOver bytes before.err.on_terminal (ended_by why) taken between status after.err
+          → Serves
       unfolding lives_on
-      serves_over why gone says =
-          over why gone.0 between gone.1
-          (lives_on before after w (Ok why) opening p gone.0 recovers heeds gone.4)
-          (λ image leaves bytes config. gone.4.says) gone.2 tells
-          (subst (λ n. SaysOver before.err.on_terminal (ended_by why) n between status
+      serves_over why gone reads says =
+          over why gone.0 between last gone.1 reads
+          (lives_on before (ending_on after last) w (Ok why) opening p gone.0 recovers heeds gone.4)
+          (λ image leaves bytes config. gone.4.says) gone.2 tells bytes of_disk
+          (subst (λ n. SaysOver bytes before.err.on_terminal (ended_by why) n between status
           after.err) (sym gone.3) says)
 
-      serves_broken : (told : OnDiskFault) → Goes (Err told)
+      serves_broken : (told : OnDiskFault) → Goes after.disk (Err told)
           → IsSaid (status_on_disk told) between status after.err → Serves
       unfolding lives_on
       serves_broken told gone says =
@@ -228,16 +233,19 @@ module _ {D O : Type 0} (medium : D → Medium) (takes : Taking O) where
           (lives_on before after w (Err gone.1) opening p gone.0 recovers heeds gone.4)
           gone.4.broken gone.3 gone.2 tells says
 
-      pub serves_gone : (result : Result Now OnDiskFault) → Goes result
-          → SaysGone before.err.on_terminal taken result between status after.err → Serves
-      serves_gone (Ok why) gone says = serves_over why gone says
-      serves_gone (Err told) gone says = serves_broken told gone says
+      pub serves_gone : (result : Result Now OnDiskFault) → Goes last result
+          → LooksBehind medium result last after.disk
+          → SaysGone bytes before.err.on_terminal taken result between status
+          after.err → Serves
+      serves_gone (Ok why) gone reads says = serves_over why gone reads says
+      serves_gone (Err told) gone same says =
+          serves_broken told (subst (λ d. Goes d (Err told)) (sym same) gone) says
 
 -- the last words, seen by who reads along and by what was taken
-pub says_over : (heard heard' : Bool) (taken taken' : ℕ) (why : Now) (old : PrinterState)
-    (status : Status) (new : PrinterState) → heard ≡ heard' → taken ≡ taken'
-    → SaysOver heard (ended_by why) taken old status new
-    → SaysOver heard' (ended_by why) taken' old status new
-says_over heard heard' taken taken' why old status new same as_many says =
-    subst (λ n. SaysOver heard' (ended_by why) n old status new) as_many
-    (subst (λ h. SaysOver h (ended_by why) taken old status new) same says)
+pub says_over : (bytes : Option (List ℕ)) (heard heard' : Bool) (taken taken' : ℕ) (why : Now)
+    (old : PrinterState) (status : Status) (new : PrinterState) → heard ≡ heard' → taken ≡ taken'
+    → SaysOver bytes heard (ended_by why) taken old status new
+    → SaysOver bytes heard' (ended_by why) taken' old status new
+says_over bytes heard heard' taken taken' why old status new same as_many says =
+    subst (λ n. SaysOver bytes heard' (ended_by why) n old status new) as_many
+    (subst (λ h. SaysOver bytes h (ended_by why) taken old status new) same says)

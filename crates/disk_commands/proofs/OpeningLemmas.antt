@@ -2,9 +2,10 @@
 use Rattle.std.proofs.Common.{◌≡◌, ◌≢◌, ◌∙◌, ap, inl, inr, refl, sym, subst, ℕ, List, [], ◌∷◌}
 use Rattle.std.proofs.Common.{◌++◌, append_assoc, codes}
 use Rattle.std.specs.Io.KnownBytes.{Appends}
-use Rattle.std.specs.declared.io.ErrorKind.{ErrorKind}
+use Rattle.std.specs.IoError.{error_kind}
+use Rattle.std.specs.declared.io.Error as io
 use Rattle.std.specs.declared.io.ErrorKind.TheVariants.{OutOfMemory}
-use Rattle.sector_disk.specs.rules.Causes.{open_cause}
+use Rattle.sector_disk.specs.rules.Causes.{error_cause}
 use Rattle.sector_disk.specs.declared.open_fault.OpenFault.{OpenFault}
 use Rattle.sector_disk.specs.declared.open_fault.OpenFault.TheVariants.{Io}
 use Rattle.wasi_abi.specs.rules.Answers.{newline}
@@ -16,11 +17,12 @@ use Rattle.disk_commands.specs.rules.Openings.{SaysUnread, open_words}
 use Rattle.disk_commands.specs.rules.SeedFiles.{seedless_words}
 
 -- an error of a file other than out of memory
-pub cause_told : (path : List ℕ) (kind : ErrorKind) (told : OpenFault) (old : PrinterState)
-    (status : Status) (new : PrinterState) → kind ≢ OutOfMemory → told ≡ Io (open_cause kind)
+pub cause_told : (path : List ℕ) (error : io.Error) (told : OpenFault) (old : PrinterState)
+    (status : Status) (new : PrinterState) → error_kind error ≢ OutOfMemory
+    → told ≡ Io (error_cause error)
     → SaysLine (open_words path told) exit.IoError old status new
-    → SaysUnread path kind old status new
-cause_told path kind told old status new other is says =
+    → SaysUnread path error old status new
+cause_told path error told old status new other is says =
     inr (
       other,
       subst (λ fault. SaysLine (open_words path fault) exit.IoError old status new) is says,

@@ -11,7 +11,6 @@ use Rattle.record_replay.specs.rules.Calls.{Taking}
 use Rattle.command_words.specs.declared.lines.outside.Outside.{Outside}
 use Rattle.command_words.specs.rules.Commands.{RunMeaning}
 use Rattle.command_words.specs.rules.Printers.{PrinterState, printers, read_along}
-use Rattle.command_words.specs.rules.Prints.{printing}
 use Rattle.command_words.specs.declared.status.Status.{Status}
 use Rattle.disk_commands.specs.declared.on_disk.found_file.FoundFile.{FoundFile}
 use Rattle.disk_commands.specs.declared.on_disk.running.RunJob.{RunJob}
@@ -25,6 +24,7 @@ use Rattle.disk_commands.specs.rules.ServedFiles.{run_input, seedless}
 use Rattle.disk_commands.specs.rules.SeedFiles.{KnownSeedFiles, SaysSeedless}
 use Rattle.disk_commands.specs.rules.ServedOnDisk.{RunStart, disk_job, outputs, run_start}
 use Rattle.disk_commands.specs.rules.StatusFiles.{MayWatch}
+use Rattle.disk_commands.specs.rules.ToldLines.{CountedPrinter, counted_printer, counting}
 use Rattle.disk_commands.specs.rules.Upgradings.{UpgradesOnDisk, status_so_far}
 
 -- a worker that was served on the lines of a reader, of whose status file nothing was said
@@ -33,9 +33,10 @@ pub job_served : {D O : Type 0} (has_found : List ℕ → FoundFile → Bool) (m
     (failed broken : Bool) (outside : Outside) (disk disk' : D) (outlet outlet' : O)
     (err between err' : PrinterState) (status : Status) → outside ≡ job.outside → found ≡ lines
     → broken ≡ failed → between ≡ err
-    → ServesToEnd medium takes (run_start (disk_job (non_zero_u64_get job.pace.fuel)
-    (non_zero_u64_get job.pace.every) (non_zero_u64_get job.pace.batch) found outside broken) disk
-    outlet between) disk' (outputs outlet' err') status
+    → ServesToEnd medium takes job.watched.disk.now
+    (run_start (disk_job (non_zero_u64_get job.pace.fuel) (non_zero_u64_get job.pace.every)
+    (non_zero_u64_get job.pace.batch) found outside broken) disk outlet between) disk'
+    (outputs outlet' err') status
     → RunsJob has_found medium takes job (run_start (job_given job lines failed) disk outlet err)
     disk' (outputs outlet' err') status
 job_served {D} {O} has_found medium takes job lines found failed broken outside disk disk' outlet
@@ -44,7 +45,8 @@ job_served {D} {O} has_found medium takes job lines found failed broken outside 
     λ o l f e. run_start (disk_job (non_zero_u64_get job.pace.fuel)
     (non_zero_u64_get job.pace.every) (non_zero_u64_get job.pace.batch) l o f) disk outlet e in
     let does : RunStart D O → Type 0 =
-    λ before. ServesToEnd medium takes before disk' (outputs outlet' err') status in
+    λ before. ServesToEnd medium takes job.watched.disk.now before disk' (outputs outlet' err')
+    status in
     inr (subst (λ e. does (start job.outside lines failed e)) quiet
     (subst (λ f. does (start job.outside lines f between)) of_failed
     (subst (λ l. does (start job.outside l broken between)) of_lines
@@ -59,9 +61,6 @@ module _ {F : Type 0} {files : KnownFiles F} {said : RunMeaning} {job : RunJob}
 
   pub metrics_may : IfSome (named_metrics job) (MayWatch files)
   metrics_may = subst (λ path. IfSome path (MayWatch files)) (sym is.metrics) may.metrics
-
-  pub disk_may : IsTrue (files.may_read job.watched.disk.now)
-  disk_may = subst (λ path. IsTrue (files.may_read path)) (sym is.disk) may.seen
 
 module _ {F O : Type 0} (known : KnownSystem F) (takes : Taking O)
     (said : RunMeaning) (lines : Option (List ℕ)) (failed : Bool) where
@@ -102,24 +101,31 @@ module _ {F O : Type 0} (known : KnownSystem F) (takes : Taking O)
 module _ {F : Type 0} (handles : KnownHandles F) (files : KnownFiles F) (path : List ℕ)
     (disk disk' : FileDisk F) where
   -- an upgrade of a disk that was opened there, of whose opening nothing was said
-  pub upgrades_opened : (out told out' err opening between err' : PrinterState)
-      (status : Status) (upgraded : Result Upgraded Status) → IsOpenedAt handles files path disk
-      → IsTrue (files.closed disk') → opening ≡ err
-      → UpgradesOnDisk file_medium printing upgraded disk disk' (outputs out opening)
-      (outputs told between)
-      → HeedsRefusal printing out told between (status_so_far upgraded)
-      → SaysUpgraded upgraded (printers told between) (printers out' err') status
-      → UpgradesFile handles files path (printers out err) (printers out' err') status
-  upgrades_opened out told out' err opening between err' status upgraded at closed quiet does
-      heeds says = inl (record {
+  pub upgrades_opened : (lines lines' : CountedPrinter)
+      (out' err opening between err' : PrinterState) (status : Status)
+      (upgraded : Result Upgraded Status) → IsOpenedAt handles files path disk
+      → IsTrue (files.closed disk') → opening ≡ err → lines.told ≡ 0
+      → UpgradesOnDisk file_medium counting upgraded disk disk' (outputs lines opening)
+      (outputs lines' between)
+      → HeedsRefusal counting lines lines' between (status_so_far upgraded)
+      → SaysUpgraded upgraded lines'.told (printers lines'.printer between) (printers out' err')
+      status
+      → UpgradesFile handles files path (printers lines.printer err) (printers out' err') status
+  upgrades_opened lines lines' out' err opening between err' status upgraded at closed quiet none
+      does heeds says =
+      let from : ℕ → PrinterState → Type 0 =
+      λ told old. UpgradesOnDisk file_medium counting upgraded disk disk'
+      (outputs (counted_printer lines.printer told) old) (outputs lines' between) in
+      inl (record {
         disk = disk;
         disk' = disk';
         at = at;
         closed = closed;
         upgraded = upgraded;
-        between = printers told between;
-        upgrades = subst (λ old. UpgradesOnDisk file_medium printing upgraded disk disk'
-            (outputs out old) (outputs told between)) quiet does;
-        heeds = heeds;
+        between = printers lines'.printer between;
+        told = lines'.told;
+        upgrades = subst (λ told. from told err) none (subst (from lines.told) quiet does);
+        heeds = subst (λ told. HeedsRefusal counting (counted_printer lines.printer told) lines'
+            between (status_so_far upgraded)) none heeds;
         says = says;
       })

@@ -29,6 +29,7 @@ use Rattle.disk_commands.specs.rules.Creations.{NewDiskValue, created_line}
 use Rattle.disk_commands.specs.rules.DiskStatuses.{status_of_call, status_on_disk, call_fault}
 use Rattle.disk_commands.specs.rules.SuccessorDisks.{BeginsOnDisk, SucceedsDisk, crowded_words}
 use Rattle.disk_commands.specs.rules.SuccessorDisks.{dropped_line, goes_on_line, restless_words}
+use Rattle.disk_commands.specs.rules.SuccessorDisks.{spent_words}
 use Rattle.disk_commands.specs.rules.SuccessorDisks.{succession_of, successor_text, units_for}
 use Rattle.disk_commands.specs.SuccessorDisks.{IsTakenOver, SucceedsOpened, TakesLegacy}
 
@@ -179,6 +180,19 @@ restless_said path old new bytes steady =
     ap (λ t. codes "failed N9 NotParked\n" ++ t)
     (sym (append_assoc path
     (codes ": isn't at rest: run it without requests, and keep its lines") (newline ∷ []))) in
+    inl (refl, (subst (λ t. Appends old.contents new.contents t) text bytes, steady))
+
+pub spent_said : (path : List ℕ) (old new : PrinterState)
+    → Appends old.contents new.contents (codes "failed P3 StepsSpent\n" ++ (path
+    ++ codes ": its steps can't be counted further: nothing can succeed it\n"))
+    → new.failed ≡ old.failed → SaysLine (spent_words path) exit.Refused old exit.Refused new
+spent_said path old new bytes steady =
+    let text : codes "failed P3 StepsSpent\n" ++ (path
+    ++ codes ": its steps can't be counted further: nothing can succeed it\n")
+    ≡ spent_words path ++ newline ∷ [] =
+    ap (λ t. codes "failed P3 StepsSpent\n" ++ t)
+    (sym (append_assoc path
+    (codes ": its steps can't be counted further: nothing can succeed it") (newline ∷ []))) in
     inl (refl, (subst (λ t. Appends old.contents new.contents t) text bytes, steady))
 
 pub crowded_said : (units bytes : ℕ) (old new : PrinterState) → units ≡ units_for bytes

@@ -1,66 +1,70 @@
 -- The lines of frames, and what is said with them.
 use Rattle.std.proofs.Common.{◌≡◌, ◌≤◌, ℕ, ◌+◌, Bool, List, [], ◌∷◌, ◌++◌, length, Option, inl}
-use Rattle.std.proofs.Common.{inr, Some, None, refl, sym, ap, subst, ◌∙◌, arith}
-use Rattle.std.specs.Prelude.{IfSome, MatchOption}
-use Rattle.std.specs.Borrow.{Bor}
+use Rattle.std.proofs.Common.{inr, Some, None, Ok, refl, sym, ap, subst, ◌∙◌, arith}
+use Rattle.std.specs.Prelude.{IfSome}
 use Rattle.std.specs.List.{AllByRecursion, flat_map}
 use Rattle.std.proofs.lemmas.List.{append-nil, length-append}
 use Rattle.std.proofs.lemmas.Grind.{flat_map-append}
-use Rattle.wasm_places.specs.rules.FunctionNames.{IsGoodName, IsGoodOf, LacksGood}
+use Rattle.sector_disk.specs.rules.DiskImage.{DiskImage}
+use Rattle.sector_disk.specs.rules.Medium.{Medium}
+use Rattle.disk_layout.specs.declared.reading.contents.Contents.{Contents}
+use Rattle.disk_layout.specs.rules.Held.{GivesContents}
 use Rattle.process_rules.specs.Processes.{Ending}
 use Rattle.command_words.specs.rules.Printers.{PrinterState, IsPrinted, IsSaid}
 use Rattle.command_words.specs.declared.status.Status.{Status}
 use Rattle.command_words.specs.declared.status.Status.TheVariants as exit
 use Rattle.command_words.proofs.LineLemmas.Printed.{prints_both, prints_nothing}
 use Rattle.disk_commands.specs.rules.LastWords.{PrintsOver, SaysOver, last_words, next_line}
-use Rattle.disk_commands.specs.rules.TrapFrames.{AreFrameLines, HasGoodName, TellsFrames, ToldFrame}
-use Rattle.disk_commands.specs.rules.TrapFrames.{frame_line, more_line}
-use Rattle.disk_commands.specs.TrapFrames.{told_name}
+use Rattle.disk_commands.specs.rules.TrapFrames.{AreFrameLines, IsModuleOn, IsNamedIn}
+use Rattle.disk_commands.specs.rules.TrapFrames.{TellsFrames, ToldFrame, frame_line}
+use Rattle.disk_commands.specs.rules.TrapFrames.{more_line}
 
 -- ---- the last words
 
-pub over_is_said : (heard : Bool) (how : Option Ending) (taken : ℕ) (old : PrinterState)
-    (status : Status) (new : PrinterState) → SaysOver heard how taken old status new
-    → IsSaid exit.Done old status new
-over_is_said heard how taken old status new (inl said) = inl (said.0, said.1.2.1)
-over_is_said heard how taken old status new (inr unsaid) = inr unsaid
+pub over_is_said : (bytes : Option (List ℕ)) (heard : Bool) (how : Option Ending) (taken : ℕ)
+    (old : PrinterState) (status : Status) (new : PrinterState)
+    → SaysOver bytes heard how taken old status new → IsSaid exit.Done old status new
+over_is_said bytes heard how taken old status new (inl said) = inl (said.0, said.1.2.1)
+over_is_said bytes heard how taken old status new (inr unsaid) = inr unsaid
 
 -- last words, then frames, then the line for a person
-pub prints_over : (heard : Bool) (how : Option Ending) (taken : ℕ) (a b c d : PrinterState)
-    → IsPrinted a b (last_words how)
-    → ((text : List ℕ) × TellsFrames how text × IsPrinted b c text)
-    → IsPrinted c d (next_line heard how taken) → PrintsOver heard how taken a d
-prints_over heard how taken a b c d first frames last = (
+pub prints_over : (bytes : Option (List ℕ)) (heard : Bool) (how : Option Ending) (taken : ℕ)
+    (a b c d : PrinterState) → IsPrinted a b (last_words how)
+    → ((text : List ℕ) × TellsFrames bytes how text × IsPrinted b c text)
+    → IsPrinted c d (next_line heard how taken) → PrintsOver bytes heard how taken a d
+prints_over bytes heard how taken a b c d first frames last = (
   frames.0,
   frames.1,
   prints_both a c d (last_words how ++ frames.0) (next_line heard how taken)
       (prints_both a b c (last_words how) frames.0 first frames.2) last,
 )
 
--- ---- a name
+-- ---- the module on a disk
 
-pub good_told : (name : Option (Bor (List ℕ))) (P : List ℕ → Type 0)
-    → MatchOption name (LacksGood P) (λ n. IsGoodOf P n.now)
-    → IfSome (told_name name) IsGoodName
-good_told (Some name) P h = h.1
-good_told None P h = tt
+-- what a disk holds is read of it
+pub read_module_on : (old new : Medium) (contents : Contents)
+    → ((image : DiskImage) → new.shows image → GivesContents old.sectors image (Ok contents))
+    → IsModuleOn new contents.wasm
+read_module_on old new contents gives = (contents, refl, λ image shows. (gives image shows).0)
 
 -- ---- frames one after another
 
 -- so many frames were told
-pub record FramesSoFar (old : PrinterState) (count : ℕ) (now : PrinterState) : Type 0 where
+pub record FramesSoFar (bytes : Option (List ℕ)) (old : PrinterState) (count : ℕ)
+    (now : PrinterState) : Type 0 where
   pub frames : List ToldFrame
   pub count_is : length frames ≡ count
-  pub named : AllByRecursion HasGoodName frames
+  pub named : AllByRecursion (IsNamedIn bytes) frames
   pub printed : IsPrinted old now (flat_map frame_line frames)
 
-all_named : (frames : List ToldFrame) (f : ToldFrame) → AllByRecursion HasGoodName frames
-    → HasGoodName f → AllByRecursion HasGoodName (frames ++ f ∷ [])
-all_named [] f all one = (one, tt)
-all_named (g ∷ frames) f all one = (all.0, all_named frames f all.1 one)
+all_named : (bytes : Option (List ℕ)) (frames : List ToldFrame) (f : ToldFrame)
+    → AllByRecursion (IsNamedIn bytes) frames → IsNamedIn bytes f
+    → AllByRecursion (IsNamedIn bytes) (frames ++ f ∷ [])
+all_named bytes [] f all one = (one, tt)
+all_named bytes (g ∷ frames) f all one = (all.0, all_named bytes frames f all.1 one)
 
-module _ (old : PrinterState) where
-  pub frames_begin : FramesSoFar old 0 old
+module _ (bytes : Option (List ℕ)) (old : PrinterState) where
+  pub frames_begin : FramesSoFar bytes old 0 old
   frames_begin = record {
     frames = [];
     count_is = refl;
@@ -68,14 +72,14 @@ module _ (old : PrinterState) where
     printed = prints_nothing old old refl;
   }
 
-  module _ (count : ℕ) (now : PrinterState) (s : FramesSoFar old count now) where
+  module _ (count : ℕ) (now : PrinterState) (s : FramesSoFar bytes old count now) where
     pub frames_go_on : (next : PrinterState)
-        → ((told : ToldFrame) × HasGoodName told × IsPrinted now next (frame_line told))
-        → FramesSoFar old (count + 1) next
+        → ((told : ToldFrame) × IsNamedIn bytes told × IsPrinted now next (frame_line told))
+        → FramesSoFar bytes old (count + 1) next
     frames_go_on next one = record {
       frames = s.frames ++ one.0 ∷ [];
       count_is = omega (arith, length-append s.frames (one.0 ∷ []), s.count_is);
-      named = all_named s.frames one.0 s.named one.1;
+      named = all_named bytes s.frames one.0 s.named one.1;
       printed = subst (λ (text : List ℕ). IsPrinted old next text)
           (ap (λ (text : List ℕ). flat_map frame_line s.frames ++ text)
           (sym (append-nil (frame_line one.0)))
@@ -86,7 +90,7 @@ module _ (old : PrinterState) where
 
     -- no more are there
     pub frames_end : count ≤ 32
-        → (text : List ℕ) × AreFrameLines text × IsPrinted old now text
+        → (text : List ℕ) × AreFrameLines bytes text × IsPrinted old now text
     frames_end few = (
       flat_map frame_line s.frames,
       record {
@@ -103,7 +107,7 @@ module _ (old : PrinterState) where
     -- so many more are there
     pub frames_are_more : count ≡ 32 → (more : ℕ) (last : PrinterState)
         → IsPrinted now last (more_line more)
-        → (text : List ℕ) × AreFrameLines text × IsPrinted old last text
+        → (text : List ℕ) × AreFrameLines bytes text × IsPrinted old last text
     frames_are_more all more last printed = (
       flat_map frame_line s.frames ++ more_line more,
       record {
@@ -116,19 +120,3 @@ module _ (old : PrinterState) where
       },
       prints_both old now last (flat_map frame_line s.frames) (more_line more) s.printed printed,
     )
-
--- no frames are told
-pub no_frames : (old new : PrinterState) → new ≡ old
-    → (text : List ℕ) × AreFrameLines text × IsPrinted old new text
-no_frames old new same = (
-  [],
-  record {
-    frames = [];
-    more = 0;
-    few = omega arith;
-    full = λ some. absurd (some refl);
-    named = tt;
-    spelled = refl;
-  },
-  prints_nothing old new same,
-)

@@ -135,11 +135,12 @@ module _ {D O : Type 0} (medium : D → Medium) (takes : Taking O) (before : Run
       refusal_told takes before.outlet after.outlet (IsOutletFault why)
       (status_on_disk (opening_fault why)) before.err status after.err (unwritten_of_opening why)
       run.heeded said
-  heeds_refusal (over now source' between done lives outcome steady tells said) =
+  heeds_refusal (over now source' between last done reads lives outcome steady tells bytes
+      of_disk said) =
       refusal_told takes before.outlet after.outlet ⊥ exit.Done between status after.err
       (inr ((λ none. none), λ e. cc)) lives.heeded
-      (over_is_said before.err.on_terminal (ended_by now) source'.taken between status after.err
-      said)
+      (over_is_said bytes before.err.on_terminal (ended_by now) source'.taken between status
+      after.err said)
   heeds_refusal (broken why told source' between lives breaks steady is tells said) =
       refusal_told takes before.outlet after.outlet (IsOutletFault (recover.Worker why))
       (status_on_disk told) between status after.err (unwritten_as_told why source'.fault told is)

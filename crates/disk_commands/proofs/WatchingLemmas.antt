@@ -1,6 +1,6 @@
 -- What a watcher was told, where a run ends well. Where it doesn't the status is another.
-use Rattle.std.proofs.Common.{◌≢◌, inl, inr, ℕ, Bool, true, false, sym, ◌∙◌}
-use Rattle.std.specs.Prelude.{IsTrue, if◌then◌else◌}
+use Rattle.std.proofs.Common.{◌≢◌, inl, inr, ℕ, Bool, true, false, List, sym, ◌∙◌}
+use Rattle.std.specs.Prelude.{IsTrue, Option, if◌then◌else◌}
 use Rattle.sector_disk.specs.declared.fault.DiskFault.{DiskFault}
 use Rattle.sector_disk.specs.declared.fault.DiskFault.TheVariants as disk
 use Rattle.record_replay.specs.declared.fault.ReplayFault.TheVariants as replay
@@ -84,8 +84,8 @@ module _ (is_told_of : DurableValue → Now → Bool) (status : Status) (err' : 
 
   -- the worker is over, and its last words were said
   pub watches_end : (w : DurableValue) (said : Now) (between : PrinterState) (heard : Bool)
-      (taken : ℕ) → said ≢ Spent → IsTrue (is_told_of w said)
-      → SaysOver heard (ended_by said) taken between status err'
+      (taken : ℕ) (bytes : Option (List ℕ)) → said ≢ Spent → IsTrue (is_told_of w said)
+      → SaysOver bytes heard (ended_by said) taken between status err'
       → WatchesEnd is_told_of err' status
-  watches_end w said between heard taken over told says =
-      λ done. (w, said, between, heard, taken, over, told, says)
+  watches_end w said between heard taken bytes over told says =
+      λ done. (w, said, between, heard, taken, bytes, over, told, says)

@@ -1,5 +1,7 @@
+pub mod Advices
 pub mod FactViews
 pub mod Livings
+pub mod MadeNodes
 pub mod Members
 pub mod NodeOrders
 pub mod ComingUp

@@ -1,10 +1,11 @@
 -- The parts of a life on a disk: calls that were made of an open worker, and those that may follow.
 use Rattle.std.specs.Prelude.{◌≡◌, ◌≢◌, ℕ, ◌-◌, ◌^◌, ◌≤◌, Bool, false, List, [], ◌∷◌, ◌++◌}
-use Rattle.std.specs.Prelude.{Result, Ok, Err, IfOk, IfErr}
+use Rattle.std.specs.Prelude.{Option, Result, Ok, Err, IfOk, IfErr, IfSome}
 use Rattle.process_rules.specs.Processes.{ProcessState, Guest}
 use Rattle.process.specs.rules.Values.{ShowsProcess, IsProcess}
 use Rattle.sector_disk.specs.rules.Medium.{Medium}
 use Rattle.disk_layout.specs.rules.Places.{total_sectors}
+use Rattle.disk_layout.specs.rules.Stored.{OnlyReads}
 use Rattle.record_replay.specs.rules.Calls.{Giving, Taking}
 use Rattle.record_replay.specs.declared.slices.now.Now.{Now}
 use Rattle.record_replay.specs.declared.slices.now.Now.TheVariants as now
@@ -31,6 +32,7 @@ use Rattle.disk_commands.specs.rules.LastWords.{SaysOver, ended_by}
 use Rattle.disk_commands.specs.rules.Paces.{round_of, IsPaced}
 use Rattle.disk_commands.specs.rules.ServedOnDisk.{DiskJob, act_given, source_behind, handing}
 use Rattle.disk_commands.specs.rules.ServedOnDisk.{RunStart, RunEnd, recovered_line}
+use Rattle.disk_commands.specs.rules.TrapFrames.{IsModuleOn}
 
 -- Slices lead from there to there by all of these steps, whichever process the worker showed.
 abbrev pub SlicesLeadOn : {D S O : Type 0} → Giving S → Taking O → Scene D S O → ℕ → Scene D S O
@@ -157,19 +159,26 @@ HasGoneOn medium takes from disk' outlet' failed' taken' (Err told) =
 
 -- What is said of a worker that has gone on so, with so many requests: its last words, where a
 -- person may read along, or its error.
-abbrev pub SaysGone : Bool → ℕ → Result Now OnDiskFault → PrinterState → Status → PrinterState
-    → Type 0
-SaysGone heard taken (Ok why) old status new =
-    SaysOver heard (ended_by why) taken old status new
-SaysGone heard taken (Err told) old status new = IsSaid (status_on_disk told) old status new
+abbrev pub SaysGone : Option (List ℕ) → Bool → ℕ → Result Now OnDiskFault → PrinterState → Status
+    → PrinterState → Type 0
+SaysGone bytes heard taken (Ok why) old status new =
+    SaysOver bytes heard (ended_by why) taken old status new
+SaysGone bytes heard taken (Err told) old status new = IsSaid (status_on_disk told) old status new
+
+-- Behind a worker that is over its disk may be read. Behind an error it is left alone.
+abbrev pub LooksBehind : {D : Type 0} → (D → Medium) → Result Now OnDiskFault → D → D → Type 0
+LooksBehind medium (Ok why) last disk' = OnlyReads (medium last) (medium disk')
+LooksBehind medium (Err told) last disk' = disk' ≡ last
 
 -- A person is told that this worker is recovered, where one reads along. It is open on the disk,
--- and goes on. Then that is said of it.
+-- and goes on. Then that is said of it, with names of the module on its disk.
 abbrev pub RunsOpen : {D O : Type 0} → (D → Medium) → Taking O → DurableValue → RunStart D O
     → RunEnd D O → Status → Type 0
-RunsOpen medium takes w before after status =
-    (between : PrinterState) × (gone : Result Now OnDiskFault) × (taken : ℕ)
+RunsOpen {D} medium takes w before after status =
+    (between : PrinterState) × (gone : Result Now OnDiskFault) × (taken : ℕ) × (last : D)
     × TellsPerson (recovered_line w) before.err between
-    × HasGoneOn medium takes (scene w before.disk before.given before.outlet) after.disk
-    after.outlet after.failed taken gone
-    × SaysGone before.err.on_terminal taken gone between status after.err
+    × HasGoneOn medium takes (scene w before.disk before.given before.outlet) last after.outlet
+    after.failed taken gone
+    × LooksBehind medium gone last after.disk
+    × (bytes : Option (List ℕ)) × IfSome bytes (IsModuleOn (medium after.disk))
+    × SaysGone bytes before.err.on_terminal taken gone between status after.err

@@ -14,6 +14,7 @@ pub mod MadeFiles
 pub mod ServedFiles
 pub mod ServedOnDisk
 pub mod SuccessorDisks
+pub mod ToldLines
 pub mod Upgradings
 pub mod Showings
 pub mod StatusFiles
@@ -27,4 +28,5 @@ pub mod SeenDisks
 pub mod LookedFiles
 pub mod SavedCopies
 pub mod NewTrees
+pub mod ClearedTrees
 pub mod ExtractedTrees

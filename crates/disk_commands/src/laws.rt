@@ -20,6 +20,7 @@ ghost use Rattle.worker.specs.laws.Uncut.{LivesGoOnUncut};
 ghost use Rattle.command_words.specs.laws.Printed.{TakenLinesArePrinted};
 ghost use Rattle.disk_commands.specs.laws.Answered.{AnswersComeFromTheLines, NoneIsLeftAtTheEnd};
 ghost use Rattle.disk_commands.specs.laws.Copied.{CopiesStandForTheSame, SavedFilesStandForTheSame};
+ghost use Rattle.disk_commands.specs.laws.Counted.{CountsWhatItTakes, HeedsAsItPrints};
 ghost use Rattle.disk_commands.specs.laws.DiskCauses.{RefusalsHaveReasons, StatusesHaveCauses};
 ghost use Rattle.disk_commands.specs.laws.LargestDisks.{LargestDisksArePictured};
 ghost use Rattle.disk_commands.specs.laws.Released.{ReleasedLinesArePrinted};
@@ -40,6 +41,12 @@ pub fn largest_disks_are_pictured()
 pub fn taken_lines_are_printed()
     ensures taken { TakenLinesArePrinted }
     ensures released { ReleasedLinesArePrinted }
+{}
+
+/// An outlet that prints and counts has counted the lines that it took, and printed as any other.
+pub fn taken_lines_are_counted()
+    ensures counted { CountsWhatItTakes }
+    ensures heeds { HeedsAsItPrints }
 {}
 
 /// A run whose lines are printed answers `Unwritten` where a write of the output has failed, and

@@ -1,12 +1,13 @@
 -- What each exit status of a run on a disk comes from (this project's own).
 use Rattle.std.specs.Prelude.{◌≡◌, ◌≢◌, ◌⊎◌, ℕ, ◌+◌, ◌≤◌, ◌^◌, ⊤, Bool, true, false, List, []}
-use Rattle.std.specs.Prelude.{◌∷◌, ◌++◌, length, Some, None, Result, Ok, Err}
+use Rattle.std.specs.Prelude.{◌∷◌, ◌++◌, length, Option, Some, None, IfSome, Result, Ok, Err}
 use Rattle.wasi_abi.specs.declared.answer.Question.{Question}
 use Rattle.wasi_abi.specs.declared.answer.Question.TheVariants as questions
 use Rattle.sector_disk.specs.rules.Medium.{Medium}
 use Rattle.sector_disk.specs.declared.fault.DiskFault.TheVariants as disk
 use Rattle.process_rules.specs.Processes.{ProcessState, Guest}
 use Rattle.process.specs.rules.Values.{ShowsProcess}
+use Rattle.disk_layout.specs.rules.Stored.{OnlyReads}
 use Rattle.record_replay.specs.declared.fault.ReplayFault.TheVariants as replay
 use Rattle.record_replay.specs.declared.fault.SourceFault.{SourceFault}
 use Rattle.record_replay.specs.rules.Calls.{Taking, Ask, AnswersInOrder, ports}
@@ -35,7 +36,8 @@ use Rattle.disk_commands.specs.rules.BrokenLives.{process_scene, steps_among}
 use Rattle.disk_commands.specs.rules.LastWords.{PrintsOver, ended_by}
 use Rattle.disk_commands.specs.rules.ServedOnDisk.{RunStart, RunEnd, act_given, source_behind}
 use Rattle.disk_commands.specs.rules.ServedOnDisk.{handing, IsUnopenedRun, LivesOnDisk, HasOutcome}
-use Rattle.disk_commands.specs.rules.ServedOnDisk.{ServesOnDisk, recovered_line}
+use Rattle.disk_commands.specs.rules.ServedOnDisk.{ServesOnDisk, ending_on, recovered_line}
+use Rattle.disk_commands.specs.rules.TrapFrames.{IsModuleOn}
 
 -- ---- a source that refuses
 
@@ -142,17 +144,23 @@ IsWanting other = wants_memory other ≡ true
 module _ {D O : Type 0} (medium : D → Medium) (takes : Taking O) (before : RunStart D O)
     (after : RunEnd D O) where
   -- The worker was recovered, and a person was told so. Then it has lived until a slice didn't just
-  -- spend its fuel, and the last words are those of what that slice has answered.
+  -- spend its fuel, and its disk was only read. The last words are those of what that slice has
+  -- answered, with names of the module on that disk.
   pub record IsOverOnDisk : Type 0 where
     pub now : Now
     pub source' : SourceState
     pub between : PrinterState
     pub done : now ≢ Spent
-    pub lives : LivesOnDisk medium takes (Ok []) before after source'
+    pub last : D
+    pub reads : OnlyReads (medium last) (medium after.disk)
+    pub lives : LivesOnDisk medium takes (Ok []) before (ending_on after last) source'
     pub outcome : HasOutcome lives now
     pub heeded : source'.failed ≡ after.failed
     pub told : TellsPerson (recovered_line lives.worker) before.err between
-    pub printed : PrintsOver before.err.on_terminal (ended_by now) source'.taken between after.err
+    pub bytes : Option (List ℕ)
+    pub of_disk : IfSome bytes (IsModuleOn (medium after.disk))
+    pub printed : PrintsOver bytes before.err.on_terminal (ended_by now) source'.taken between
+        after.err
 
   -- The recovery has failed by a fault of this sort, or a call of the life by one of that sort.
   -- Where that is the source's, it isn't one of a request line. Where no line can wait, each line

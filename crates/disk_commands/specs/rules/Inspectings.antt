@@ -14,6 +14,8 @@ use Rattle.worker.specs.declared.inspection.Inspection.{Inspection}
 use Rattle.worker.specs.declared.recover_fault.RecoverFault.{RecoverFault}
 use Rattle.worker.specs.rules.Inspections.{Inspects}
 use Rattle.command_words.specs.rules.Printers.{Printers, IsSaid, SaysText}
+use Rattle.command_words.specs.rules.Records.{is_printable, told_text}
+use Rattle.command_words.specs.rules.Reports.{SaysLine}
 use Rattle.command_words.specs.declared.status.Status.{Status}
 use Rattle.command_words.specs.declared.status.Status.TheVariants as exit
 use Rattle.disk_commands.specs.rules.DiskStatuses.{opening_fault, status_on_disk}
@@ -22,10 +24,16 @@ use Rattle.disk_commands.specs.rules.DiskFacts.{disk_facts}
 
 -- ---- the files of a disk
 
+-- the letter of a listed node, with an `x` where its path is told by digits
+abbrev pub node_mark : List ℕ → List ℕ → List ℕ
+node_mark letter path = if is_printable path then letter ++ codes " " else letter ++ codes "x "
+
 -- a listed node: whether it is a directory or a file, a file's size, and its path
 abbrev pub node_line : ListedNode → List ℕ
-node_line node = if node.is_directory then codes "d " ++ node.path ++ codes "\n"
-    else codes "f " ++ decimal node.size ++ codes " " ++ node.path ++ codes "\n"
+node_line node =
+    if node.is_directory then node_mark (codes "d") node.path ++ told_text node.path ++ codes "\n"
+    else node_mark (codes "f") node.path ++ decimal node.size ++ codes " " ++ told_text node.path
+    ++ codes "\n"
 
 -- all of them, one a line
 abbrev pub listing_text : Files → List ℕ
@@ -50,13 +58,22 @@ abbrev pub status_of_path : PathFault → Status
 status_of_path fault.Memory = exit.OutOfMemory
 status_of_path other = exit.Refused
 
+-- what is said of such a path: the fault, and on a line of its own what to do
+abbrev pub path_words : PathFault → List ℕ
+path_words fault.Memory = codes "failed F3 Memory"
+path_words fault.Missing =
+    codes "failed F1 Missing\nno file is listed under this path: without PATH all are listed"
+path_words fault.Directory =
+    codes "failed F2 Directory\nit is a directory: --all FOLDER writes all"
+
 -- The bytes of the file are written, and nothing on the error output. Or it is told there why none
 -- are.
 abbrev pub SaysFile : Result (Vec ℕ Global) PathFault → Printers → Printers → Status → Type 0
 SaysFile (Ok bytes) before after status =
     SaysText bytes.items exit.Done before.out status after.out × (after.err ≡ before.err)
 SaysFile (Err why) before after status =
-    IsSaid (status_of_path why) before.err status after.err × (after.out ≡ before.out)
+    SaysLine (path_words why) (status_of_path why) before.err status after.err
+    × (after.out ≡ before.out)
 
 -- all files are listed, or the one at this path is written, which may have a `/` in front
 abbrev pub SaysFiles : Files → Option (List ℕ) → Printers → Printers → Status → Type 0

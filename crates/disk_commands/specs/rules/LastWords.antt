@@ -38,13 +38,15 @@ next_line false how taken = []
 abbrev pub over_words : Bool → Option Ending → List ℕ → ℕ → List ℕ
 over_words heard how frames taken = last_words how ++ frames ++ next_line heard how taken
 
--- These are printed.
-abbrev pub PrintsOver : Bool → Option Ending → ℕ → PrinterState → PrinterState → Type 0
-PrintsOver heard how taken old new = (frames : List ℕ) × TellsFrames how frames
+-- These are printed, with names of this module, if one is known.
+abbrev pub PrintsOver : Option (List ℕ) → Bool → Option Ending → ℕ → PrinterState → PrinterState
+    → Type 0
+PrintsOver bytes heard how taken old new = (frames : List ℕ) × TellsFrames bytes how frames
     × IsPrinted old new (over_words heard how frames taken)
 
 -- The status is `Done`, and they are printed; or it is `Unwritten`, and a write has failed.
-abbrev pub SaysOver : Bool → Option Ending → ℕ → PrinterState → Status → PrinterState → Type 0
-SaysOver heard how taken old status new =
-    ((status ≡ exit.Done) × PrintsOver heard how taken old new)
+abbrev pub SaysOver : Option (List ℕ) → Bool → Option Ending → ℕ → PrinterState → Status
+    → PrinterState → Type 0
+SaysOver bytes heard how taken old status new =
+    ((status ≡ exit.Done) × PrintsOver bytes heard how taken old new)
     ⊎ ((status ≡ exit.Unwritten) × (new.failed ≡ true))

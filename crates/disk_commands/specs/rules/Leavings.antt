@@ -36,10 +36,11 @@ SaysUntaken limit taken ahead old answered new =
     × (((count ≡ 0) × (answered ≡ exit.Done) × (new ≡ old))
     ⊎ ((0 < count) × SaysText (untaken_line count) exit.Done old answered new))
 
--- where a run has left its input: the version of the worker, the requests that it has taken, the
--- bytes that were read ahead, the line that was begun last, the lines that were passed over, and
--- what is wrong with the line that was refused
+-- where a run has left its input: the path of its disk, the version of the worker, the requests
+-- that it has taken, the bytes that were read ahead, the line that was begun last, the lines that
+-- were passed over, and what is wrong with the line that was refused
 pub record InputLeft : Type 0 where
+  pub disk : List ℕ
   pub version : Version
   pub taken : ℕ
   pub ahead : List ℕ
@@ -48,8 +49,9 @@ pub record InputLeft : Type 0 where
   pub flaw : Option LineFlaw
 
 -- an input that was left so
-abbrev pub input_left : Version → ℕ → List ℕ → ℕ → ℕ → Option LineFlaw → InputLeft
-input_left version taken ahead line skipped flaw = record {
+abbrev pub input_left : List ℕ → Version → ℕ → List ℕ → ℕ → ℕ → Option LineFlaw → InputLeft
+input_left disk version taken ahead line skipped flaw = record {
+  disk = disk;
   version = version;
   taken = taken;
   ahead = ahead;
@@ -64,8 +66,8 @@ input_left version taken ahead line skipped flaw = record {
 pub record SaysOfInput (left : InputLeft) (status : Status) (old : PrinterState)
     (answered : Status) (new : PrinterState) : Type 0 where
   pub refused : status ≡ exit.BadLine
-      → SaysText (place_line left.line ++ flaw_line left.version left.flaw) exit.BadLine old
-      answered new
+      → SaysText (place_line left.line ++ flaw_line left.disk left.version left.flaw) exit.BadLine
+      old answered new
   pub over : status ≡ exit.Done → (between : PrinterState) × TellsSkipped left.skipped old between
       × SaysUntaken (text_limit left.version) left.taken left.ahead between answered new
   pub others : status ≢ exit.BadLine → status ≢ exit.Done → (answered ≡ status) × (new ≡ old)

@@ -2,6 +2,7 @@
 -- project's own). Nobody knows it but by such a call.
 use Rattle.std.specs.Prelude.{◌≡◌, ℕ, Bool, true, false, List, ◌∷◌, ◌++◌, Contains, IsTrue}
 use Rattle.std.specs.declared.io.ErrorKind.{ErrorKind}
+use Rattle.sector_disk.specs.declared.open_fault.OpenFault.{OpenFault}
 use Rattle.file_tree.specs.rules.Files.{Files, IsNodeName, Name, bytes_of_node, slash}
 use Rattle.file_listing.specs.declared.listed.ListedNode.{ListedNode}
 use Rattle.file_listing.specs.rules.Listed.{IsPathText, listing_in}
@@ -12,24 +13,48 @@ pub record KnownTrees : Type 0 where
   pub allowed : List ℕ → Bool
   -- a folder was made there, where there was nothing
   pub folder : List ℕ → Bool
-  -- a file was made there, where there was nothing, and these bytes were written to it
-  pub file : List ℕ → List ℕ → Bool
+  -- a file was made there, where there was nothing
+  pub begun : List ℕ → Bool
+  -- these bytes were written to the file that was made there
+  pub written : List ℕ → List ℕ → Bool
+  -- what was written to the file there, or the entries of the folder there, was made durable
+  pub synced : List ℕ → Bool
+  -- the entry of the new folder there was made durable
+  pub entered : List ℕ → Bool
   -- what was to be made there was refused, by an error of this kind
   pub refused : List ℕ → ErrorKind → Bool
-  -- a new folder was left there, or it was to be removed with all that is in it
+  -- the file or folder there couldn't be written or made durable, by an error of this kind
+  pub unwritten : List ℕ → ErrorKind → Bool
+  -- a new folder was left there
   pub kept : List ℕ → Bool
+  -- the path was found to lead to what was made there
+  pub found : List ℕ → Bool
+  -- what was made there was removed: a file, or a folder that was empty
   pub removed : List ℕ → Bool
+  -- it couldn't be removed, for this cause, or the path leads to another one
+  pub stays : List ℕ → OpenFault → Bool
 
 -- whatever a call says
 abbrev pub all_said_of_trees : KnownTrees
 all_said_of_trees = record {
   allowed = λ path. true;
   folder = λ path. true;
-  file = λ path bytes. true;
+  begun = λ path. true;
+  written = λ path bytes. true;
+  synced = λ path. true;
+  entered = λ path. true;
   refused = λ path kind. true;
+  unwritten = λ path kind. true;
   kept = λ path. true;
+  found = λ path. true;
   removed = λ path. true;
+  stays = λ path why. true;
 }
+
+-- A folder was made at the path, or a file.
+abbrev pub HasMade : KnownTrees → List ℕ → Bool → Type 0
+HasMade trees path true = IsTrue (trees.folder path)
+HasMade trees path false = IsTrue (trees.begun path)
 
 -- a path behind that of a folder
 abbrev pub below : List ℕ → List ℕ → List ℕ

@@ -1,9 +1,10 @@
 -- What `wasmhost save` does: all sectors of a worker's disk, or of a picture of it, are copied to a
 -- new file (this project's own).
-use Rattle.std.specs.Prelude.{◌≡◌, ◌≢◌, ◌⊎◌, ◌≤◌, ℕ, ◌++◌, List, take, Bool, codes}
+use Rattle.std.specs.Prelude.{◌≡◌, ◌⊎◌, ◌≤◌, ℕ, ◌++◌, List, take, Bool, codes}
 use Rattle.std.specs.Prelude.{IsTrue, Result, Ok, Err, OnOk, IfErr}
 use Rattle.std.specs.Fmt.{decimal}
 use Rattle.sector_disk.specs.declared.copying.CopyFault.{CopyFault}
+use Rattle.sector_disk.specs.declared.copying.CopyFault.TheVariants as copy_fault
 use Rattle.sector_disk.specs.declared.file.FileDisk.{FileDisk}
 use Rattle.sector_disk.specs.declared.open_fault.OpenFault.{OpenFault}
 use Rattle.sector_disk.specs.rules.Copying.{FailsToCopy, IsCopied, WasOnlyRead, copying_writes}
@@ -17,13 +18,12 @@ use Rattle.disk_layout.specs.rules.Sectors.{HasMarks}
 use Rattle.worker.specs.declared.inspection.Inspection.{Inspection}
 use Rattle.worker.specs.declared.recover_fault.RecoverFault.{RecoverFault}
 use Rattle.worker.specs.rules.Inspections.{Inspects}
-use Rattle.command_words.specs.declared.telling.Obstacle.TheVariants.{Unread}
-use Rattle.command_words.specs.rules.Printers.{Printers}
-use Rattle.command_words.specs.rules.Reports.{SaysLine, SaysOnOutput, obstacle_words}
+use Rattle.command_words.specs.rules.Printers.{PrinterState, Printers, printers}
+use Rattle.command_words.specs.rules.Reports.{SaysLine, SaysOnOutput}
 use Rattle.command_words.specs.declared.status.Status.{Status}
 use Rattle.command_words.specs.declared.status.Status.TheVariants as exit
 use Rattle.disk_commands.specs.rules.Inspectings.{SaysRefusal}
-use Rattle.disk_commands.specs.rules.Openings.{CommandRun, open_words}
+use Rattle.disk_commands.specs.rules.Openings.{CommandRun, EndsInFile, open_words}
 use Rattle.disk_commands.specs.rules.SeenDisks.{DoesSeen}
 
 -- the line that is printed of a copy
@@ -37,12 +37,21 @@ LeavesNoneOrCopy original old new = (shown : DiskImage) → original.shows shown
     → ((image : DiskImage) → old.crash_images image → image ≡ zeros old.sectors)
     → LeavesOnly old new (λ image. (HasMarks image → ⊥) ⊎ (image ≡ take old.sectors shown))
 
+-- what is told of a copy that isn't made: which of the two disks has failed
+abbrev pub uncopied_words : CopyFault → List ℕ
+uncopied_words copy_fault.Sizes =
+    codes "failed K2 Io\nthe copy has no sectors, or more than the disk"
+uncopied_words (copy_fault.Original why) =
+    codes "failed K2 Io\nthe disk can't be read: see to its device"
+uncopied_words (copy_fault.Copy why) =
+    codes "failed K2 Io\nthe copy can't be written: see to its device"
+
 -- the copy was made, and how many sectors it has is said; or a disk has failed, and that is
 abbrev pub SaysCopied : ℕ → Result (Unit {0}) CopyFault → Printers → Printers → Status → Type 0
 SaysCopied sectors (Ok done) before after status =
     SaysOnOutput (saved_line sectors) exit.Done before after status
 SaysCopied sectors (Err why) before after status =
-    SaysLine (obstacle_words Unread) exit.IoError before.err status after.err
+    SaysLine (uncopied_words why) exit.IoError before.err status after.err
     × (after.out ≡ before.out)
 
 -- As many sectors of the original as the copy has were copied. Then each cut leaves the copy whole.
@@ -60,17 +69,19 @@ pub record SavesCopy (original original' copy copy' : Medium) (before after : Pr
 
 module _ {F : Type 0} (handles : KnownHandles F) (files : KnownFiles F) (path : List ℕ) where
   -- A file was made at this path, of so many sectors, and the disk copied there. It is left there
-  -- where the status is `Done`, and else it was to be removed.
+  -- where the status is `Done`, and else it was to be removed. By `begun` and `told` the copy had
+  -- ended so, before the path was looked at.
   pub record IsSavedInFile (sectors : ℕ) (original original' : Medium) (run : CommandRun)
       : Type 0 where
     pub copy : FileDisk F
     pub copy' : FileDisk F
     pub made : IsMadeAt handles files path sectors copy
     pub closed : IsTrue (files.closed copy')
+    pub begun : Status
+    pub told : PrinterState
     pub saves : SavesCopy original original' (file_medium copy) (file_medium copy') run.before
-        run.after run.status
-    pub keeps : run.status ≡ exit.Done → IsTrue (files.kept path)
-    pub removes : run.status ≢ exit.Done → IsTrue (files.removed path)
+        (printers run.after.out told) begun
+    pub ends : EndsInFile files path copy' begun told run.status run.after.err
 
   -- No file is made at this path, or none is left, and it is said why. The disk wasn't read. Or one
   -- is made, and the disk copied there.

@@ -2,6 +2,8 @@
 use Rattle.std.specs.Prelude.{◌≡◌, ◌⊎◌, ℕ, Bool, true, List, ◌++◌, length, replicate, codes, Option}
 use Rattle.std.specs.Prelude.{Some, None, IsSome, IsTrue, Ok}
 use Rattle.std.specs.List.{AllPass}
+use Rattle.std.specs.IoError.{error_kind}
+use Rattle.std.specs.declared.io.Error as io
 use Rattle.std.specs.declared.io.ErrorKind.{ErrorKind}
 use Rattle.hex.specs.Hex.{decode_of, is_hex_digit}
 use Rattle.command_words.specs.declared.telling.Obstacle.TheVariants as obstacle
@@ -58,7 +60,8 @@ seedless_words file = codes "failed C2 Text\n" ++ file ++ codes ": isn't 64 hexa
 abbrev pub SaysSeedlessFile : KnownSeedFiles → List ℕ → PrinterState → Status → PrinterState
     → Type 0
 SaysSeedlessFile known file err status err' =
-    ((kind : ErrorKind) × IsTrue (known.unread file kind) × SaysUnread file kind err status err')
+    ((error : io.Error) × IsTrue (known.unread file (error_kind error))
+    × SaysUnread file error err status err')
     ⊎ ((bytes : List ℕ) × IsTrue (known.front file bytes) × LackSeed bytes
     × SaysLine (seedless_words file) exit.Refused err status err')
 

@@ -9,7 +9,7 @@ use Rattle.sector_disk.specs.rules.Medium.{Medium}
 use Rattle.sector_disk.specs.rules.Memory.{memory_medium}
 use Rattle.sector_disk.specs.rules.Open.{IsOpenedAt}
 use Rattle.disk_commands.specs.rules.LivePictures.{IsPictureAt, SaysUnseen}
-use Rattle.disk_commands.specs.rules.Openings.{CommandRun, SaysUnopened}
+use Rattle.disk_commands.specs.rules.Openings.{CommandRun, SaysUnlooked}
 
 module _ {F : Type 0} (handles : KnownHandles F) (files : KnownFiles F) (path : List ℕ)
     (Does : (D : Type 0) → (D → Medium) → D → D → CommandRun → Type 0) (run : CommandRun) where
@@ -19,7 +19,7 @@ module _ {F : Type 0} (handles : KnownHandles F) (files : KnownFiles F) (path : 
   DoesOpened =
       ((disk : FileDisk F) × (disk' : FileDisk F) × IsOpenedAt handles files path disk
       × IsTrue (files.closed disk') × Does (FileDisk F) file_medium disk disk' run)
-      ⊎ (SaysUnopened handles files false path run.before.err run.status run.after.err
+      ⊎ (SaysUnlooked handles files path run.before.err run.status run.after.err
       × (run.after.out ≡ run.before.out))
 
   -- This was done with a picture of that disk. Or it is said why there is none.

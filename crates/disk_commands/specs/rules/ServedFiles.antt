@@ -9,8 +9,7 @@ use Rattle.sector_disk.specs.rules.Medium.{Medium}
 use Rattle.sector_disk.specs.rules.Open.{IsOpenedAt}
 use Rattle.record_replay.specs.rules.Calls.{Taking}
 use Rattle.command_words.specs.rules.Commands.{RunMeaning}
-use Rattle.command_words.specs.rules.Printers.{PrinterState, Printers, read_along}
-use Rattle.command_words.specs.rules.Prints.{printing}
+use Rattle.command_words.specs.rules.Printers.{PrinterState, Printers, printers, read_along}
 use Rattle.command_words.specs.rules.Reports.{SaysOnOutput}
 use Rattle.command_words.specs.declared.status.Status.{Status}
 use Rattle.command_words.specs.declared.status.Status.TheVariants as exit
@@ -24,6 +23,7 @@ use Rattle.disk_commands.specs.rules.Refusals.{HeedsRefusal}
 use Rattle.disk_commands.specs.rules.SeedFiles.{IsSeedFrom, KnownSeedFiles, SaysSeedless}
 use Rattle.disk_commands.specs.rules.ServedOnDisk.{DiskJob, ServesOnDisk, disk_job}
 use Rattle.disk_commands.specs.rules.ServedOnDisk.{Outputs, RunStart, outputs, run_start, run_end}
+use Rattle.disk_commands.specs.rules.ToldLines.{SaysTold, counted_printer, counting}
 use Rattle.disk_commands.specs.rules.Upgradings.{UpgradesOnDisk, status_so_far, upgraded_words}
 
 -- ---- a run
@@ -48,9 +48,7 @@ known_system handles files has_found seeds = record {
 
 -- leave for all paths of the words of a run
 pub record MayRun {F : Type 0} (files : KnownFiles F) (said : RunMeaning) : Type 0 where
-  -- the disk may be opened, and also be looked at
   pub disk : IsTrue (files.may_write said.disk)
-  pub seen : IsTrue (files.may_read said.disk)
   pub seed : IfSome said.seed_file (λ path. IsTrue (files.may_read path))
   pub status : IfSome said.status (MayWatch files)
   pub metrics : IfSome said.metrics (MayWatch files)
@@ -90,9 +88,9 @@ pub record RunInput : Type 0 where
 abbrev pub run_input : Option (List ℕ) → Bool → RunInput
 run_input lines failed = record { lines = lines; failed = failed }
 
-module _ {D O : Type 0} (medium : D → Medium) (takes : Taking O) (before : RunStart D O)
-    (disk' : D) (after : Outputs O) (status : Status) where
-  -- The worker is served. Then it is said what is left of the input.
+module _ {D O : Type 0} (medium : D → Medium) (takes : Taking O) (path : List ℕ)
+    (before : RunStart D O) (disk' : D) (after : Outputs O) (status : Status) where
+  -- The worker is served. Then it is said what is left of the input, with this path of the disk.
   pub record ServesToEnd : Type 0 where
     pub failed' : Bool
     pub between : PrinterState
@@ -101,6 +99,7 @@ module _ {D O : Type 0} (medium : D → Medium) (takes : Taking O) (before : Run
         served
     pub heeds : HeedsRefusal takes before.outlet after.outlet between served
     pub left : InputLeft
+    pub named : left.disk ≡ path
     pub says : SaysOfInput left served between status after.err
 
 -- It is said why there is no file at one of the paths that are named, by what was found there or
@@ -110,7 +109,7 @@ abbrev pub RunsJob : {D O : Type 0} → (List ℕ → FoundFile → Bool) → (D
 RunsJob has_found medium takes job before disk' after status =
     (SaysUnwatchable has_found (named_status job) (named_metrics job) before.err status after.err
     × (disk' ≡ before.disk) × (after.outlet ≡ before.outlet))
-    ⊎ ServesToEnd medium takes before disk' after status
+    ⊎ ServesToEnd medium takes job.watched.disk.now before disk' after status
 
 -- It is said why the seed or the disk keeps it from running, and no line is released. Or the disk
 -- was opened as the words say, their job was done on it, and it was closed. Where they ask for it
@@ -135,15 +134,23 @@ pub data RunsFile {F O : Type 0} (known : KnownSystem F) (takes : Taking O) (sai
 
 -- Of a worker that is of version 2 that is said on the output. Else the status is that of the
 -- error, and nothing more is said.
-abbrev pub SaysUpgraded : Result Upgraded Status → Printers → Printers → Status → Type 0
-SaysUpgraded (Ok upgraded) before after status =
+abbrev pub SaysUpgrade : Result Upgraded Status → Printers → Printers → Status → Type 0
+SaysUpgrade (Ok upgraded) before after status =
     SaysOnOutput (upgraded_words upgraded) exit.Done before after status
-SaysUpgraded (Err fault) before after status =
+SaysUpgrade (Err fault) before after status =
     (status ≡ fault) × (after.out ≡ before.out) × (after.err ≡ before.err)
+
+-- That is said, and then, whatever it was, how many lines were told.
+abbrev pub SaysUpgraded : Result Upgraded Status → ℕ → Printers → Printers → Status → Type 0
+SaysUpgraded upgraded told before after status =
+    (between : PrinterState) × (so_far : Status)
+    × SaysUpgrade upgraded before (printers after.out between) so_far
+    × SaysTold told so_far between status after.err
 
 module _ {F : Type 0} (handles : KnownHandles F) (files : KnownFiles F) where
   -- The disk was opened at this path, and not written back. Its worker was brought to version 2,
-  -- with its lines on the output, or that has failed. Then it was closed, and the result is said.
+  -- with its lines on the output, or that has failed. Then it was closed. The result is said, and
+  -- last how many lines the output took in that life.
   pub record UpgradesOpened (path : List ℕ) (before after : Printers) (status : Status)
       : Type 0 where
     pub disk : FileDisk F
@@ -152,10 +159,13 @@ module _ {F : Type 0} (handles : KnownHandles F) (files : KnownFiles F) where
     pub closed : IsTrue (files.closed disk')
     pub upgraded : Result Upgraded Status
     pub between : Printers
-    pub upgrades : UpgradesOnDisk file_medium printing upgraded disk disk'
-        (outputs before.out before.err) (outputs between.out between.err)
-    pub heeds : HeedsRefusal printing before.out between.out between.err (status_so_far upgraded)
-    pub says : SaysUpgraded upgraded between after status
+    pub told : ℕ
+    pub upgrades : UpgradesOnDisk file_medium counting upgraded disk disk'
+        (outputs (counted_printer before.out 0) before.err)
+        (outputs (counted_printer between.out told) between.err)
+    pub heeds : HeedsRefusal counting (counted_printer before.out 0)
+        (counted_printer between.out told) between.err (status_so_far upgraded)
+    pub says : SaysUpgraded upgraded told between after status
 
   -- So it was. Or it is said why none was opened.
   abbrev pub UpgradesFile : List ℕ → Printers → Printers → Status → Type 0

@@ -1,6 +1,6 @@
 -- What `wasmhost run` does with the worker on a disk (this project's own).
-use Rattle.std.specs.Prelude.{◌≡◌, ◌≢◌, ℕ, Bool, List, [], ◌++◌, Option, Some, None, codes}
-use Rattle.std.specs.Prelude.{Result, Ok, Err}
+use Rattle.std.specs.Prelude.{◌≡◌, ◌≢◌, ◌+◌, ℕ, Bool, true, false, List, [], ◌++◌, Option, Some}
+use Rattle.std.specs.Prelude.{None, Result, Ok, Err, IfSome, codes, is_some}
 use Rattle.wasi_abi.specs.rules.Configs.{Settings}
 use Rattle.wasi_abi.specs.rules.Versions.{text_limit}
 use Rattle.sector_disk.specs.rules.DiskImage.{DiskImage}
@@ -31,6 +31,7 @@ use Rattle.worker.specs.rules.Outcomes.{life_outcome}
 use Rattle.disk_commands.specs.rules.Hearings.{AsksUnless, MayRefuse}
 use Rattle.disk_commands.specs.rules.Paces.{act_at, IsPaced}
 use Rattle.disk_commands.specs.rules.LastWords.{SaysOver, ended_by}
+use Rattle.disk_commands.specs.rules.TrapFrames.{IsModuleOn}
 
 -- What such a run is given: the steps of a slice, the slices between two checkpoints, how many
 -- lines one sync may serve, the lines of a reader, where times and random bytes come from, and
@@ -90,6 +91,10 @@ run_end disk outlet err failed = record {
   err = err;
   failed = failed;
 }
+
+-- the same with this disk
+abbrev pub ending_on : {D O : Type 0} → RunEnd D O → D → RunEnd D O
+ending_on after disk = run_end disk after.outlet after.err after.failed
 
 -- where a command on a disk tells something: the outlet of the worker's lines, and the printer of
 -- its last words
@@ -177,19 +182,27 @@ HasBrokenOff {takes = takes} {before = before} {after = after} {source' = source
 
 -- ---- what a person is told
 
--- the line once a worker is recovered: its generation, where it is, and how far it was replayed
+-- the end of that line: which request comes after so many, unless the worker has ended
+abbrev pub awaited_words : Bool → ℕ → List ℕ
+awaited_words true taken = codes " steps\n"
+awaited_words false taken = named_number (codes " steps, next request ") (taken + 1) ++ codes "\n"
+
+-- the line once a worker is recovered: its generation, where it is, how far it was replayed, and
+-- which request it takes next
 abbrev pub recovered_line : DurableValue → List ℕ
 recovered_line w =
     named_number (codes "recovered generation ") w.store.journal.generation
     ++ named_number (codes " at step ") w.process.steps
-    ++ named_number (codes ", replayed ") w.replayed ++ codes " steps\n"
+    ++ named_number (codes ", replayed ") w.replayed
+    ++ awaited_words (is_some w.process.ended) w.process.requests
 
 -- ---- what each exit status says
 
 -- The worker isn't opened, and the status says why. Or a person is told that it is recovered, where
 -- one reads along. Then it lives until an act doesn't just spend its fuel, which is the last one.
--- The last words are those of what that act has answered. Where a person reads along, they have
--- the number after the requests that were taken. Or a call of it fails, and the status says why: a
+-- Behind it the disk is only read. The last words are those of what that act has answered, and
+-- names of frames are those of the module on that disk. Where a person reads along, they have the
+-- number after the requests that were taken. Or a call of it fails, and the status says why: a
 -- fault of the source is told as that of a request line, where there is one. Lines wait then only
 -- where that call's own clause says so.
 pub data ServesOnDisk {D O : Type 0} (medium : D → Medium) (takes : Taking O)
@@ -199,11 +212,13 @@ pub data ServesOnDisk {D O : Type 0} (medium : D → Medium) (takes : Taking O)
       → after.failed ≡ before.given.failed
       → IsSaid (status_on_disk (opening_fault why)) before.err status after.err
       → ServesOnDisk medium takes before after status
-  over : (now : Now) (source' : SourceState) (between : PrinterState) → now ≢ Spent
-      → (lives : LivesOnDisk medium takes (Ok []) before after source')
+  over : (now : Now) (source' : SourceState) (between : PrinterState) (last : D) → now ≢ Spent
+      → OnlyReads (medium last) (medium after.disk)
+      → (lives : LivesOnDisk medium takes (Ok []) before (ending_on after last) source')
       → HasOutcome lives now → source'.failed ≡ after.failed
       → TellsPerson (recovered_line lives.worker) before.err between
-      → SaysOver before.err.on_terminal (ended_by now) source'.taken between status after.err
+      → (bytes : Option (List ℕ)) → IfSome bytes (IsModuleOn (medium after.disk))
+      → SaysOver bytes before.err.on_terminal (ended_by now) source'.taken between status after.err
       → ServesOnDisk medium takes before after status
   broken : (why : WorkFault) (told : OnDiskFault) (source' : SourceState) (between : PrinterState)
       → (lives : LivesOnDisk medium takes (Err (recover.Worker why)) before after source')

@@ -2,7 +2,7 @@
 use Rattle.std.specs.Prelude.{◌≡◌, ◌⊎◌, ℕ, Bool, IsTrue, List, [], ◌++◌, codes}
 use Rattle.std.specs.Prelude.{Option, Some, None, option_map}
 use Rattle.std.specs.Borrow.{Bor}
-use Rattle.std.specs.declared.io.ErrorKind.{ErrorKind}
+use Rattle.std.specs.declared.io.Error as io
 use Rattle.sector_disk.specs.rules.Known.{KnownFiles}
 use Rattle.command_words.specs.rules.Printers.{PrinterState}
 use Rattle.command_words.specs.rules.Reports.{SaysLine}
@@ -56,7 +56,7 @@ abbrev pub SaysTaken : (FoundFile → Bool) → List ℕ → PrinterState → St
 SaysTaken has_found path old status new =
     ((here : FoundFile) × IsTrue (has_found here) × (IsFreePath here → ⊥)
     × SaysLine (codes "failed K2 Io\n" ++ path ++ codes ": " ++ found_words here) exit.IoError old
-    status new) ⊎ ((kind : ErrorKind) × SaysUnread path kind old status new)
+    status new) ⊎ ((error : io.Error) × SaysUnread path error old status new)
 
 -- where a line is written before it gets its path
 abbrev pub beside : List ℕ → List ℕ

@@ -1,6 +1,6 @@
 -- A worker that a command creates on a new disk, fresh or to succeed another one, and what is said
 -- of both disks (this project's own).
-use Rattle.std.specs.Prelude.{◌≡◌, ◌≢◌, ◌⊎◌, ℕ, ◌+◌, ◌*◌, ◌<◌, ◌≤◌, ◌/◌, ◌%◌, Bool, true, false}
+use Rattle.std.specs.Prelude.{◌≡◌, ◌⊎◌, ℕ, ◌+◌, ◌*◌, ◌<◌, ◌≤◌, ◌/◌, ◌%◌, Bool, true, false}
 use Rattle.std.specs.Prelude.{List, [], ◌++◌, Option, Some, None, Result, Ok, Err, IsTrue, codes}
 use Rattle.std.specs.Prelude.{if◌then◌else◌, ◌==◌}
 use Rattle.std.specs.Io.KnownBytes.{Appends}
@@ -24,6 +24,7 @@ use Rattle.worker.specs.rules.Successions.{SuccessionKeeps}
 use Rattle.command_words.specs.declared.telling.Obstacle.TheVariants.{Unwritten}
 use Rattle.command_words.specs.rules.Preparations.{disk_sectors}
 use Rattle.command_words.specs.rules.Printers.{PrinterState, Printers, HeedsBoth, IsSaid}
+use Rattle.command_words.specs.rules.Printers.{printers}
 use Rattle.command_words.specs.rules.Reports.{SaysLine, obstacle_words}
 use Rattle.command_words.specs.rules.Texts.{named_number}
 use Rattle.command_words.specs.declared.status.Status.{Status}
@@ -31,7 +32,7 @@ use Rattle.command_words.specs.declared.status.Status.TheVariants as exit
 use Rattle.disk_commands.specs.rules.Creations.{CreatesOn, HasDiskFailed, IsCreationRefused}
 use Rattle.disk_commands.specs.rules.Creations.{NewDiskValue, created_line}
 use Rattle.disk_commands.specs.rules.DiskStatuses.{opening_fault, status_on_disk}
-use Rattle.disk_commands.specs.rules.Openings.{SaysUnopened, open_words}
+use Rattle.disk_commands.specs.rules.Openings.{EndsInFile, SaysUnopened, open_words}
 
 -- ---- what is printed
 
@@ -114,13 +115,18 @@ abbrev pub restless_words : List ℕ → List ℕ
 restless_words path = codes "failed N9 NotParked\n" ++ path
     ++ codes ": isn't at rest: run it without requests, and keep its lines"
 
+-- of one that can't count a further step
+abbrev pub spent_words : List ℕ → List ℕ
+spent_words path = codes "failed P3 StepsSpent\n" ++ path
+    ++ codes ": its steps can't be counted further: nothing can succeed it"
+
 -- Why a worker on the disk of this path leaves nothing. What is found by a recovery is told as
 -- `show` tells it.
 abbrev pub SaysUnleft : List ℕ → LeaveFault → PrinterState → Status → PrinterState → Type 0
 SaysUnleft path leave.NotParked old status new =
     SaysLine (restless_words path) exit.Refused old status new
 SaysUnleft path leave.StepsSpent old status new =
-    SaysLine (codes "failed P3 StepsSpent") exit.Refused old status new
+    SaysLine (spent_words path) exit.Refused old status new
 SaysUnleft path (leave.Recover why) old status new =
     IsSaid (status_on_disk (opening_fault why)) old status new
 
@@ -165,15 +171,17 @@ module _ {F : Type 0} (handles : KnownHandles F) (files : KnownFiles F) (new : N
     (left : Option Handover) (before after : Printers) (status : Status) where
   -- The disk was made in a new file at this path, of as many sectors as are needed, the worker was
   -- created on it, and it was closed. Its file is left there where the status is `Done`, and else
-  -- it was to be removed.
+  -- it was to be removed. By `begun` and `told` the creation had ended so, before the path was
+  -- looked at.
   pub record HasBegunInFile : Type 0 where
     pub disk : FileDisk F
     pub disk' : FileDisk F
     pub made : IsMadeAt handles files new.path new.prepared.sectors disk
     pub closed : IsTrue (files.closed disk')
-    pub begins : BeginsOn file_medium new left disk disk' before after status
-    pub keeps : status ≡ exit.Done → IsTrue (files.kept new.path)
-    pub removes : status ≢ exit.Done → IsTrue (files.removed new.path)
+    pub begun : Status
+    pub told : PrinterState
+    pub begins : BeginsOn file_medium new left disk disk' before (printers after.out told) begun
+    pub ends : EndsInFile files new.path disk' begun told status after.err
 
   -- No file is made at this path, or none is left, and it is said why. Or one is made, and the
   -- worker created on it.

@@ -97,5 +97,5 @@ pub record IsStatusLine (bytes : List ℕ) : Type 0 where
 abbrev pub WatchesEnd : (DurableValue → Now → Bool) → PrinterState → Status → Type 0
 WatchesEnd is_notified err' status = status ≡ exit.Done
     → (w : DurableValue) × (said : Now) × (between : PrinterState) × (heard : Bool) × (taken : ℕ)
-    × (said ≢ now.Spent) × IsTrue (is_notified w said)
-    × SaysOver heard (ended_by said) taken between status err'
+    × (bytes : Option (List ℕ)) × (said ≢ now.Spent) × IsTrue (is_notified w said)
+    × SaysOver bytes heard (ended_by said) taken between status err'

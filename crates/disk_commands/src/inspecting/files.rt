@@ -3,13 +3,16 @@
 ghost use Rattle.std.specs.Prelude.{◌≡◌, IfOk, OnOk, Some, None, Ok, Err, option_map};
 ghost use Rattle.std.specs.List.{flat_map};
 ghost use Rattle.std.specs.Io.KnownBytes.{Appends};
-ghost use Rattle.command_words.specs.rules.Printers.{IsSaid, printers};
+ghost use Rattle.command_words.specs.rules.Printers.{printers};
+ghost use Rattle.command_words.specs.rules.Reports.{SaysLine};
 ghost use Rattle.disk_commands.specs.rules.Inspectings.{SaysFile, SaysFiles, TellsFiles};
 ghost use Rattle.disk_commands.specs.rules.Inspectings.{listed_path, listing_text, node_line};
-ghost use Rattle.disk_commands.specs.rules.Inspectings.{status_of_path};
+ghost use Rattle.disk_commands.specs.rules.Inspectings.{node_mark, path_words, status_of_path};
 
 use crate::on_disk::{OnDiskFault, say_disk_fault};
-use command_words::{Obstacle, Printer, Status, report, say_text};
+use command_words::{
+    Obstacle, Printer, Status, is_printable, report, say_line, say_text, spell_told_text,
+};
 use file_listing::{ListedNode, PathFault, list_nodes, read_path};
 use file_tree::Tree;
 use sector_disk::Disk;
@@ -17,17 +20,31 @@ use std::alloc::Global;
 use std::io::{self, Write};
 use worker::inspect;
 
+/// Spells the letter of a listed node, and whether its path comes as it is or by its digits.
+fn spell_mark<W: Write>(out: &mut W, letter: &str, path: &[u8]) -> io::Result<()>
+    ensures { OnOk result (Appends (W.contents out.old) (W.contents out.new)
+        (node_mark letter.now path.now)) }
+{
+    if is_printable(path) {
+        write!(out, "{letter} ")
+    } else {
+        write!(out, "{letter}x ")
+    }
+}
+
 /// Spells a listed node.
 fn spell_node<W: Write>(out: &mut W, node: &ListedNode) -> io::Result<()>
     ensures { OnOk result (Appends (W.contents out.old) (W.contents out.new)
         (node_line node.now)) }
 {
+    let path = node.path.as_slice();
     if node.is_directory {
-        out.write_all(b"d ")?;
+        spell_mark(out, "d", path)?;
     } else {
-        write!(out, "f {} ", node.size)?;
+        spell_mark(out, "f", path)?;
+        write!(out, "{} ", node.size)?;
     }
-    out.write_all(node.path.as_slice())?;
+    spell_told_text(out, path)?;
     out.write_all(b"\n")
 }
 
@@ -78,14 +95,24 @@ fn status_of_path(fault: PathFault) -> Status
     }
 }
 
+/// What is said of such a path, and what to do.
+fn words_of_path(fault: PathFault) -> &'static str
+    ensures { result.now ≡ path_words fault }
+{
+    match fault {
+        PathFault::Memory => "failed F3 Memory",
+        PathFault::Missing => {
+            "failed F1 Missing\nno file is listed under this path: without PATH all are listed"
+        }
+        PathFault::Directory => "failed F2 Directory\nit is a directory: --all FOLDER writes all",
+    }
+}
+
 /// Says why there are no bytes under a path. Answers the exit status.
 fn say_path_fault<E: Write + Drop>(err: &mut Printer<E>, fault: PathFault) -> Status
-    ensures { IsSaid (status_of_path fault) err.old result err.new }
+    ensures { SaysLine (path_words fault) (status_of_path fault) err.old result err.new }
 {
-    match writeln!(err, "failed {fault}") {
-        Ok(()) => status_of_path(fault),
-        Err(_) => Status::Unwritten,
-    }
+    say_line(err, status_of_path(fault), words_of_path(fault))
 }
 
 /// A path without a `/` in front, as it is listed.

@@ -13,16 +13,17 @@
 ghost use Rattle.std.specs.Prelude.{◌≡◌, ◌<◌, [], IfErr, IfOk, IsTrue, OnOk};
 ghost use Rattle.sector_disk.specs.rules.File.{answers_of, file_medium};
 ghost use Rattle.sector_disk.specs.rules.Known.{MayOpen};
+ghost use Rattle.sector_disk.specs.rules.Open.{IsOpenedAt};
 ghost use Rattle.command_words.specs.rules.Reports.{SaysLine, obstacle_words};
 ghost use Rattle.command_words.specs.declared.status.Status.TheVariants as exit;
 ghost use Rattle.command_words.specs.rules.Printers.{printers};
 ghost use Rattle.disk_commands.specs.rules.Openings.{IsOpenedFor, IsWrittenBack, SaysUnopened};
-ghost use Rattle.disk_commands.specs.rules.Openings.{command_run};
+ghost use Rattle.disk_commands.specs.rules.Openings.{SaysUnlooked, command_run};
 ghost use Rattle.disk_commands.specs.rules.LookedFiles.{TellsFile, TellsLook};
 
 use crate::inspecting::{inspect_disk, list_files, tell_history};
 use crate::on_disk::live::picture_of;
-use crate::on_disk::opening::report_open;
+use crate::on_disk::opening::{report_open, report_unlooked};
 use crate::on_disk::showing::survey;
 use command_words::{Obstacle, Printer, Status, report};
 use sector_disk::{Disk, DiskFile, DiskFiles, FileDisk, rewrite};
@@ -78,6 +79,25 @@ pub fn open_disk<F: DiskFile, R: DiskFiles<File = F>, E: Write + Drop>(
         return Ok(disk);
     }
     written_back(files, disk, err)
+}
+
+/// Opens the file of a disk for a command that only looks at it. An error is the exit status, and
+/// says why there is no disk.
+pub(super) fn open_to_look<F: DiskFile, R: DiskFiles<File = F>, E: Write + Drop>(
+    files: &R,
+    path: &str,
+    err: &mut Printer<E>,
+) -> Result<FileDisk<F>, Status>
+    requires { IsTrue ((R.known files.now).may_write path.now) }
+    ensures opened { IfOk result (IsOpenedAt F.known (R.known files.now) path.now) }
+    ensures quiet { OnOk result (err.new ≡ err.old) }
+    ensures said { IfErr result (λ status. SaysUnlooked F.known (R.known files.now) path.now err.old
+        status err.new) }
+{
+    match FileDisk::open(files, path) {
+        Ok(disk) => Ok(disk),
+        Err(fault) => Err(report_unlooked(err, path, fault)),
+    }
 }
 
 /// What is said of a disk that is looked at.
@@ -146,7 +166,7 @@ pub fn look_at_file<F: DiskFile, R: DiskFiles<File = F>, W: Write + Drop, E: Wri
             Err(status) => status,
         }
     } else {
-        match open_disk(files, seen.path, false, err) {
+        match open_to_look(files, seen.path, err) {
             Ok(mut disk) => {
                 let status = look_at(alloc, &mut disk, look, out, err);
                 files.close(disk);

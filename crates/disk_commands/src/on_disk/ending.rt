@@ -10,12 +10,12 @@
 //!   `parked` for a worker that had exited.
 
 ghost use Rattle.std.specs.Prelude.{◌≡◌, ◌+◌, true, OnErr, OnOk};
+ghost use Rattle.command_words.specs.FunctionNames.{lent_bytes};
 ghost use Rattle.command_words.specs.rules.Printers.{IsPrinted};
 ghost use Rattle.disk_commands.specs.rules.LastWords.{PrintsOver, SaysOver, ended_by, last_words};
 ghost use Rattle.disk_commands.specs.rules.LastWords.{next_line, request_words};
 
 use crate::on_disk::trap_frames::print_trap;
-use crate::on_disk::watching::Watcher;
 use command_words::{Printer, Status, trap_name};
 use process::ProcessEnd;
 use record_replay::Now;
@@ -36,7 +36,7 @@ pub(super) fn print_last_words<E: Write + Drop>(err: &mut Printer<E>, now: Now) 
 }
 
 /// The number after this one.
-fn following(taken: u64) -> u128
+pub(super) fn following(taken: u64) -> u128
     ensures { result ≡ taken + 1 }
 {
     u128::from(taken) + 1
@@ -71,35 +71,37 @@ fn print_next<E: Write + Drop>(
 }
 
 /// Writes the last words of a worker that is over, the lines of its frames, and that line.
-fn print_over<E: Write + Drop, T: Watcher>(
+fn print_over<E: Write + Drop>(
     err: &mut Printer<E>,
     is_heard: bool,
     now: Now,
     taken: u64,
     worker: &Worker,
-    watcher: &T,
+    module: Option<&[u8]>,
 ) -> io::Result<()>
-    ensures printed { OnOk result (PrintsOver is_heard (ended_by now) taken err.old err.new) }
+    ensures printed { OnOk result
+        (PrintsOver (lent_bytes module.entry) is_heard (ended_by now) taken err.old err.new) }
     ensures failed { OnErr result (err.new.failed ≡ true) }
 {
     print_last_words(err, now)?;
-    print_trap(err, now, worker, watcher)?;
+    print_trap(err, now, worker, module)?;
     print_next(err, is_heard, now, taken)
 }
 
 /// Says how a worker is over, which has taken so many requests, and answers the exit status. Where
-/// it has trapped, its frames are said, too.
-pub(super) fn say<E: Write + Drop, T: Watcher>(
+/// it has trapped, its frames are said, too, with names of the module.
+pub(super) fn say<E: Write + Drop>(
     err: &mut Printer<E>,
     is_heard: bool,
     now: Now,
     taken: u64,
     worker: &Worker,
-    watcher: &T,
+    module: Option<&[u8]>,
 ) -> Status
-    ensures { SaysOver is_heard (ended_by now) taken err.old result err.new }
+    ensures { SaysOver (lent_bytes module.entry) is_heard (ended_by now) taken err.old result
+        err.new }
 {
-    match print_over(err, is_heard, now, taken, worker, watcher) {
+    match print_over(err, is_heard, now, taken, worker, module) {
         Ok(()) => Status::Done,
         Err(_) => Status::Unwritten,
     }

@@ -5,7 +5,8 @@
 //! - `report_input`: after a run, at which line of its input a refused one is, what is wrong with
 //!   it (`IsFlawIn`), how many lines were passed over, where a person reads along, and how many
 //!   requests were read ahead that nobody took (`SaysOfInput`). Of a request that is too long the
-//!   length of its text is told, where its end was read.
+//!   length of its text is told, where its end was read, and the two steps that make a worker of
+//!   version 1 take it, with the path of its disk (`widening_words`).
 //!
 //! # Choices
 //!
@@ -20,7 +21,8 @@ ghost use Rattle.std.specs.Prelude.{◌≡◌, ◌++◌, true, OnErr, OnOk, Opti
 ghost use Rattle.std.specs.Fmt.{decimal};
 ghost use Rattle.std.specs.Io.Buffered.{reader_buffer};
 ghost use Rattle.command_words.specs.declared.lines.flaw.LineFlaw.{LineFlaw as Flaw};
-ghost use Rattle.command_words.specs.rules.Flaws.{IsFlawIn, flaw_line, flaw_words};
+ghost use Rattle.command_words.specs.rules.Flaws.{IsFlawIn, excess_words, flaw_line, flaw_words};
+ghost use Rattle.command_words.specs.rules.Flaws.{text_limit_words, widening_words};
 ghost use Rattle.command_words.specs.rules.Printers.{IsPrinted, SaysText};
 ghost use Rattle.command_words.specs.declared.status.Status.TheVariants as exit;
 ghost use Rattle.disk_commands.specs.rules.Leavings.{SaysUntaken, SaysOfInput, untaken_line};
@@ -34,58 +36,124 @@ use command_words::{
 use std::io::{self, BufReader, Read, Write};
 use wasi_abi::Version;
 
+/// What is told of a request whose number is too great.
+const FAR: &str = "the number of a request is below 9223372036854775808";
+
 /// What is told of a line that is no request.
 const FORM: &str = "a request is N r TEXT or N e, with N from 1 on";
 
-/// Says which line of the input was refused, and answers the exit status.
-fn say_place<E: Write + Drop>(err: &mut Printer<E>, number: u64) -> Status
-    ensures { SaysText (place_line number) exit.BadLine err.old result err.new }
+/// Writes which line of the input was refused.
+fn print_place<E: Write + Drop>(err: &mut Printer<E>, number: u64) -> io::Result<()>
+    ensures printed { OnOk result (IsPrinted err.old err.new (place_line number)) }
+    ensures failed { OnErr result (err.new.failed ≡ true) }
 {
-    match writeln!(err, "at input line {number}") {
-        Ok(()) => Status::BadLine,
-        Err(_) => Status::Unwritten,
-    }
+    writeln!(err, "at input line {number}")
 }
 
-/// Says which line of the input was refused, and on a line of its own what is wrong with it.
-/// Answers the exit status.
-fn say_flawed<E: Write + Drop>(err: &mut Printer<E>, number: u64, words: &str) -> Status
-    ensures { SaysText (place_line number ++ words.now ++ codes "\n") exit.BadLine err.old result
-        err.new }
+/// Writes some words.
+fn print_words<E: Write + Drop>(err: &mut Printer<E>, words: &str) -> io::Result<()>
+    ensures printed { OnOk result (IsPrinted err.old err.new words.now) }
+    ensures failed { OnErr result (err.new.failed ≡ true) }
 {
-    match writeln!(err, "at input line {number}\n{words}") {
-        Ok(()) => Status::BadLine,
-        Err(_) => Status::Unwritten,
-    }
+    err.write_all(words.as_bytes())
 }
 
-/// Says which line of the input was refused, that its text has so many bytes, and how long one may
-/// be. Answers the exit status.
-fn say_long<E: Write + Drop>(err: &mut Printer<E>, number: u64, bytes: usize, limit: &str) -> Status
-    ensures { SaysText (place_line number ++ (decimal bytes ++ codes " bytes, and "
-        ++ limit.now) ++ codes "\n") exit.BadLine err.old result err.new }
-{
-    match writeln!(err, "at input line {number}\n{bytes} bytes, and {limit}") {
-        Ok(()) => Status::BadLine,
-        Err(_) => Status::Unwritten,
-    }
-}
-
-/// Says which line of the input was refused, and what is wrong with it. Answers the exit status.
-fn say_flaw<E: Write + Drop>(
+/// Writes what makes the worker of this disk take longer texts, where something does.
+fn print_widening<E: Write + Drop>(
     err: &mut Printer<E>,
-    number: u64,
+    disk: &str,
+    version: Version,
+) -> io::Result<()>
+    ensures printed { OnOk result (IsPrinted err.old err.new (widening_words disk.now version)) }
+    ensures failed { OnErr result (err.new.failed ≡ true) }
+{
+    match version {
+        Version::One => write!(
+            err,
+            ": wasmhost run {disk} </dev/null >>LINES, then wasmhost upgrade {disk}"
+        ),
+        Version::Two => Ok(()),
+    }
+}
+
+/// Writes that a text has so many bytes, how long one may be, and what can be done.
+fn print_long<E: Write + Drop>(
+    err: &mut Printer<E>,
+    disk: &str,
+    version: Version,
+    bytes: usize,
+) -> io::Result<()>
+    ensures printed { OnOk result (IsPrinted err.old err.new
+        (decimal bytes ++ codes " bytes, and " ++ text_limit_words version
+        ++ widening_words disk.now version)) }
+    ensures failed { OnErr result (err.new.failed ≡ true) }
+{
+    write!(err, "{bytes} bytes, and ")?;
+    print_words(err, words_of_limit(version))?;
+    print_widening(err, disk, version)
+}
+
+/// Writes that a line is longer than one may be, and what can be done.
+fn print_cut<E: Write + Drop>(err: &mut Printer<E>, disk: &str, version: Version) -> io::Result<()>
+    ensures printed { OnOk result (IsPrinted err.old err.new
+        (excess_words version ++ widening_words disk.now version)) }
+    ensures failed { OnErr result (err.new.failed ≡ true) }
+{
+    print_words(err, words_of_cut(version))?;
+    print_widening(err, disk, version)
+}
+
+/// Writes what is wrong with a line, where the worker of this disk is of this version.
+fn print_flaw<E: Write + Drop>(
+    err: &mut Printer<E>,
+    disk: &str,
     version: Version,
     flaw: LineFlaw,
-) -> Status
-    ensures { SaysText (place_line number ++ flaw_words version flaw ++ codes "\n") exit.BadLine
-        err.old result err.new }
+) -> io::Result<()>
+    ensures printed { OnOk result (IsPrinted err.old err.new (flaw_words disk.now version flaw)) }
+    ensures failed { OnErr result (err.new.failed ≡ true) }
 {
     match flaw {
-        LineFlaw::Long { bytes } => say_long(err, number, bytes, words_of_limit(version)),
-        LineFlaw::Cut => say_flawed(err, number, words_of_cut(version)),
-        LineFlaw::Form => say_flawed(err, number, FORM),
+        LineFlaw::Long { bytes } => print_long(err, disk, version, bytes),
+        LineFlaw::Cut => print_cut(err, disk, version),
+        LineFlaw::Far => print_words(err, FAR),
+        LineFlaw::Form => print_words(err, FORM),
     }
+}
+
+/// Writes that on a line of its own, if something is wrong with it.
+fn print_flaw_line<E: Write + Drop>(
+    err: &mut Printer<E>,
+    disk: &str,
+    version: Version,
+    flaw: Option<LineFlaw>,
+) -> io::Result<()>
+    ensures printed { OnOk result (IsPrinted err.old err.new (flaw_line disk.now version flaw)) }
+    ensures failed { OnErr result (err.new.failed ≡ true) }
+{
+    match flaw {
+        Some(flaw) => {
+            print_flaw(err, disk, version, flaw)?;
+            print_words(err, "\n")
+        }
+        None => Ok(()),
+    }
+}
+
+/// Writes which line of the input was refused, and what is wrong with it.
+fn print_refused<E: Write + Drop>(
+    err: &mut Printer<E>,
+    number: u64,
+    disk: &str,
+    version: Version,
+    flaw: Option<LineFlaw>,
+) -> io::Result<()>
+    ensures printed { OnOk result (IsPrinted err.old err.new
+        (place_line number ++ flaw_line disk.now version flaw)) }
+    ensures failed { OnErr result (err.new.failed ≡ true) }
+{
+    print_place(err, number)?;
+    print_flaw_line(err, disk, version, flaw)
 }
 
 /// Says which line of the input was refused, and what is wrong with it, if something is. Answers
@@ -93,15 +161,16 @@ fn say_flaw<E: Write + Drop>(
 fn say_refused<E: Write + Drop>(
     err: &mut Printer<E>,
     number: u64,
+    disk: &str,
     version: Version,
     flaw: Option<LineFlaw>,
 ) -> Status
-    ensures { SaysText (place_line number ++ flaw_line version flaw) exit.BadLine err.old result
-        err.new }
+    ensures { SaysText (place_line number ++ flaw_line disk.now version flaw) exit.BadLine err.old
+        result err.new }
 {
-    match flaw {
-        Some(flaw) => say_flaw(err, number, version, flaw),
-        None => say_place(err, number),
+    match print_refused(err, number, disk, version, flaw) {
+        Ok(()) => Status::BadLine,
+        Err(_) => Status::Unwritten,
     }
 }
 
@@ -165,18 +234,20 @@ fn flaw_of_source<R: Read + Drop, C: RealTime + Drop>(
 fn say_input<R: Read + Drop, C: RealTime + Drop, E: Write + Drop>(
     source: &RequestSource<BufferedLines<BufReader<R>>, C>,
     flaw: Option<LineFlaw>,
+    disk: &str,
     status: Status,
     err: &mut Printer<E>,
 ) -> Status
-    ensures { SaysOfInput (input_left source.now.requests.version source.now.requests.taken
-        (reader_buffer source.now.requests.reader.reader) source.now.requests.reader.begun
-        source.now.requests.skipped flaw) status err.old result err.new }
+    ensures { SaysOfInput (input_left disk.now source.now.requests.version
+        source.now.requests.taken (reader_buffer source.now.requests.reader.reader)
+        source.now.requests.reader.begun source.now.requests.skipped flaw) status err.old result
+        err.new }
 {
     let requests = source.requests();
     match status {
         Status::BadLine => {
             let number = requests.reader().line_number();
-            say_refused(err, number, requests.version(), flaw)
+            say_refused(err, number, disk, requests.version(), flaw)
         }
         Status::Done => {
             tell_skipped(err, requests.skipped());
@@ -187,21 +258,24 @@ fn say_input<R: Read + Drop, C: RealTime + Drop, E: Write + Drop>(
     }
 }
 
-/// Says after a run that ended with this status what else is known of its input: at which line a
-/// refused one is, and what is wrong with it; how many lines were passed over, to a person; and how
-/// many requests were read ahead that a worker which is over doesn't take. Reads nothing more.
-/// Answers the exit status, or `Unwritten` where a write has failed.
+/// Says after a run of the disk at this path that ended with this status what else is known of its
+/// input: at which line a refused one is, what is wrong with it, and what to do; how many lines
+/// were passed over, to a person; and how many requests were read ahead that a worker which is over
+/// doesn't take. Reads nothing more. Answers the exit status, or `Unwritten` where a write has
+/// failed.
 pub fn report_input<R: Read + Drop, C: RealTime + Drop, E: Write + Drop>(
     source: &RequestSource<BufferedLines<BufReader<R>>, C>,
+    disk: &str,
     status: Status,
     err: &mut Printer<E>,
 ) -> Status
     ensures { (flaw : Option Flaw) × IsFlawIn source.now.fault
         source.now.requests.reader.is_cut source.now.requests.line.items flaw
-        × SaysOfInput (input_left source.now.requests.version source.now.requests.taken
-        (reader_buffer source.now.requests.reader.reader) source.now.requests.reader.begun
-        source.now.requests.skipped flaw) status err.old result err.new }
+        × SaysOfInput (input_left disk.now source.now.requests.version
+        source.now.requests.taken (reader_buffer source.now.requests.reader.reader)
+        source.now.requests.reader.begun source.now.requests.skipped flaw) status err.old result
+        err.new }
 {
     let flaw = flaw_of_source(source);
-    say_input(source, flaw, status, err)
+    say_input(source, flaw, disk, status, err)
 }

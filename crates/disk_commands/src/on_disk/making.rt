@@ -9,25 +9,25 @@
 //! - `create_disk` does what the words of a creation say, with their sizes, arguments and
 //!   environment (`CreatesDisk`). The worker is a fresh one or one that succeeds another. The disk
 //!   is a block device that is there (`BeginsOnDevice`), or in a new file at the path. Where the
-//!   status is `Done` that file is left there, and else it is removed again. No other one is
-//!   (`BeginsInFile`). Where no file or device is had, the path was refused, or a call of the file
-//!   has failed.
+//!   status is `Done` that file was found at its path after all was written, and is left there.
+//!   Else it is removed again, and no other one is (`BeginsInFile`). Where no file or device is
+//!   had, the path was refused, or a call of the file has failed.
 //!
 //! # Choices
 //!
 //! - **A configuration and a module are looked at before the disk's file is made**, and once more
 //!   by the creation. This costs a second decoding, once in a worker's life.
 
-ghost use Rattle.std.specs.Prelude.{◌≡◌, ◌≢◌, ◌*◌, ◌≤◌, IfErr, IfOk, IfSome, IsTrue};
+ghost use Rattle.std.specs.Prelude.{◌*◌, ◌≤◌, IfErr, IfOk, IfSome, IsTrue};
 ghost use Rattle.file_tree.specs.declared.limits.TheConstants.{UNIT_BYTES};
 ghost use Rattle.file_tree.specs.rules.Files.{used};
 ghost use Rattle.sector_disk.specs.rules.Known.{MayPlace};
 ghost use Rattle.command_words.specs.rules.Commands.{create_said};
 ghost use Rattle.command_words.specs.rules.Preparations.{IsPreparedAs, IsUnprepared};
-ghost use Rattle.command_words.specs.declared.status.Status.TheVariants as exit;
 ghost use Rattle.command_words.specs.rules.Printers.{printers};
 ghost use Rattle.disk_commands.specs.rules.MadeFiles.{CreatesDisk, MakesOrdered, MayCreate};
 ghost use Rattle.disk_commands.specs.rules.MadeFiles.{settings_said};
+ghost use Rattle.disk_commands.specs.rules.Openings.{EndsInFile};
 ghost use Rattle.disk_commands.specs.rules.Creations.{new_disk};
 ghost use Rattle.disk_commands.specs.rules.SuccessorDisks.{BeginsInFile, BeginsOn, BeginsOnDevice};
 ghost use Rattle.disk_commands.specs.rules.SuccessorDisks.{BeginsOnDisk};
@@ -86,14 +86,33 @@ fn begin_on<D: Disk, W: Write + Drop, E: Write + Drop>(
     }
 }
 
-/// Leaves a new file at its path where the status is `Done`, and removes it where it isn't.
-pub(super) fn keep_if_created<R: NewFiles>(files: &R, new: NewFile<'_>, status: Status)
-    ensures keeps { status ≡ exit.Done → IsTrue ((R.known files.now).kept new.entry.path.now) }
-    ensures removes { status ≢ exit.Done → IsTrue ((R.known files.now).removed new.entry.path.now) }
+/// Leaves a new file at its path where the status is `Done`, and the path still leads to the file
+/// that the disk is in. Else it is removed, and it is said where that status was `Done`. Answers
+/// the exit status.
+pub(super) fn keep_if_created<F: DiskFile, R: NewFiles<File = F>, E: Write + Drop>(
+    files: &R,
+    new: NewFile<'_>,
+    disk: &FileDisk<F>,
+    status: Status,
+    err: &mut Printer<E>,
+) -> Status
+    ensures { EndsInFile (R.known files.now) new.entry.path.now disk.now status err.old result
+        err.new }
 {
-    match status {
-        Status::Done => files.keep_new(new),
-        _ => files.remove_new(new),
+    if status != Status::Done {
+        files.remove_new(new);
+        return status;
+    }
+    match files.look_again(&new, disk) {
+        Ok(()) => {
+            files.keep_new(new);
+            Status::Done
+        }
+        Err(fault) => {
+            let told = report_open(err, new.path(), fault);
+            files.remove_new(new);
+            told
+        }
     }
 }
 
@@ -122,9 +141,9 @@ fn begin_in_file<F: DiskFile, R: NewFiles<File = F>, W: Write + Drop, E: Write +
         }
     };
     let status = begin_on(alloc, &mut disk, new, left, out, err);
-    keep_if_created(files, made, status);
+    let ended = keep_if_created(files, made, &disk, status, err);
     files.close(disk);
-    status
+    ended
 }
 
 /// The worker on a block device that is there. Nothing is made or removed. Returns the exit status.

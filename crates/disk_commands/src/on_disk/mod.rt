@@ -1,5 +1,7 @@
 //! Commands on a worker that is kept on a disk.
 
+mod clearing;
+mod counted_lines;
 mod creation;
 mod disk_file;
 mod ending;
@@ -30,15 +32,17 @@ mod watch_files;
 mod watched_paths;
 mod watching;
 
+pub use clearing::MadeNode;
+pub use counted_lines::CountedLines;
 pub use creation::create_on;
 pub use disk_file::{Look, Seen, look_at_file, open_disk};
-pub use extracting::extract_file;
+pub use extracting::{Outcome, extract_file};
 pub(crate) use fault::{OnDiskFault, say_disk_fault};
 pub use found_file::FoundFile;
 pub use leaving::report_input;
 pub use living::Pace;
 pub use making::create_disk;
-pub use new_trees::{NewTree, NewTrees};
+pub use new_trees::{Mark, NewTree, NewTrees, NodeFile};
 pub use opening::{report_open, report_unread};
 pub use running::{System, run_file, upgrade_file};
 pub use saving::{save_file, save_on};

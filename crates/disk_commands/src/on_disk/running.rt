@@ -5,7 +5,7 @@
 //! - **What the words of a command say is handed over whole**, and one function makes the job of a
 //!   run of it (`job_of`). The program then has no number to pass, and each is in a clause.
 
-ghost use Rattle.std.specs.Prelude.{IfSome, IsTrue};
+ghost use Rattle.std.specs.Prelude.{◌≡◌, IfSome, IsTrue};
 ghost use Rattle.std.specs.Int.NonZero.{non_zero_u64_get};
 ghost use Rattle.std.specs.Io.Buffered.{reader_remaining};
 ghost use Rattle.command_words.specs.rules.Commands.{run_said};
@@ -18,6 +18,7 @@ ghost use Rattle.disk_commands.specs.rules.SeedFiles.{IsSeedFrom, KnownSeedFiles
 ghost use Rattle.disk_commands.specs.rules.ServedOnDisk.{disk_job, run_start, outputs};
 ghost use Rattle.disk_commands.specs.rules.StatusFiles.{MayWatch};
 
+use crate::on_disk::counted_lines::CountedLines;
 use crate::on_disk::disk_file::open_disk;
 use crate::on_disk::leaving::report_input;
 use crate::on_disk::living::Pace;
@@ -27,9 +28,7 @@ use crate::on_disk::upgrading::{say_upgraded, upgrade_worker};
 use crate::on_disk::watch_files::{WatchPaths, watch_files_of};
 use crate::on_disk::watched_paths::WatchedPaths;
 use crate::on_disk::watching::Watcher;
-use command_words::{
-    BufferedLines, LineOutlet, Outside, Printer, RealTime, RequestSource, RunOrder, Status,
-};
+use command_words::{BufferedLines, Outside, Printer, RealTime, RequestSource, RunOrder, Status};
 use record_replay::Outlet;
 use sector_disk::{Disk, DiskFile, DiskFiles, FileDisk};
 use std::alloc::Global;
@@ -98,15 +97,16 @@ where
     O: Outlet,
     E: Write + Drop,
     T: Watcher,
-    ensures { ServesToEnd D.medium O.takes
+    ensures { ServesToEnd D.medium O.takes drive.entry.disk.now
         (run_start (disk_job (non_zero_u64_get drive.entry.pace.fuel)
         (non_zero_u64_get drive.entry.pace.every) (non_zero_u64_get drive.entry.pace.batch)
         (reader_remaining I.remaining source.old.requests.reader.reader) source.old.outside
         source.old.requests.reader.has_failed) disk.old outlet.old err.old) disk.new
         (outputs outlet.new err.new) result }
 {
+    let path = drive.disk;
     let status = serve(alloc, disk, drive, source, outlet, err);
-    report_input(source, status, err)
+    report_input(source, path, status, err)
 }
 
 /// Does the job of a run on its disk: where files are named that say where the worker is, their
@@ -128,7 +128,6 @@ where
     E: Write + Drop,
     requires status { IfSome (named_status job) (MayWatch (R.known system.files.now)) }
     requires metrics { IfSome (named_metrics job) (MayWatch (R.known system.files.now)) }
-    requires disk { IsTrue ((R.known system.files.now).may_read job.watched.disk.now) }
     ensures { RunsJob (R.has_found system.entry.files.now) D.medium O.takes job.entry
         (run_start (job_given job.entry (reader_remaining I.remaining system.entry.lines.reader)
         system.entry.lines.has_failed) disk.old outlet.old err.old) disk.new
@@ -142,8 +141,10 @@ where
     match watch_files_of(alloc, files, job.watched, err) {
         Ok(watcher) => {
             let drive = Drive {
+                alloc,
                 pace: job.pace,
                 watcher: &watcher,
+                disk: job.watched.disk,
             };
             let mut source = RequestSource::new(alloc, lines, clock, job.outside, 0);
             let status = serve_to_end(alloc, disk, drive, &mut source, outlet, err);
@@ -200,23 +201,24 @@ where
 
 /// `wasmhost upgrade` of the disk in a file: it is opened, and not written back. Its worker comes
 /// to version 2, as `upgrade_worker` says, and after its lines the outlet's writer gets the result.
-/// Returns the exit status.
+/// Last it is said how many lines it took, where there are any. Returns the exit status.
 pub fn upgrade_file<F: DiskFile, R: DiskFiles<File = F>, W: Write + Drop, E: Write + Drop>(
     alloc: Global,
     files: &R,
     path: &str,
-    outlet: &mut LineOutlet<W>,
+    lines: &mut CountedLines<W>,
     err: &mut Printer<E>,
 ) -> Status
-    requires { IsTrue ((R.known files.now).may_write path.now) }
-    ensures { UpgradesFile F.known (R.known files.now) path.now (printers outlet.old err.old)
-        (printers outlet.new err.new) result }
+    requires path { IsTrue ((R.known files.now).may_write path.now) }
+    requires told { lines.old.told ≡ 0 }
+    ensures { UpgradesFile F.known (R.known files.now) path.now (printers lines.old.printer err.old)
+        (printers lines.new.printer err.new) result }
 {
     match open_disk(files, path, false, err) {
         Ok(mut disk) => {
-            let upgraded = upgrade_worker(alloc, &mut disk, outlet, err);
+            let upgraded = upgrade_worker(alloc, &mut disk, lines, err);
             files.close(disk);
-            say_upgraded(upgraded, outlet, err)
+            say_upgraded(upgraded, lines, err)
         }
         Err(status) => status,
     }

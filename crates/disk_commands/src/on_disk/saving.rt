@@ -23,15 +23,15 @@ ghost use Rattle.command_words.specs.rules.Reports.{SaysOnOutput};
 ghost use Rattle.command_words.specs.declared.status.Status.TheVariants as exit;
 ghost use Rattle.disk_commands.specs.rules.Openings.{command_run};
 ghost use Rattle.disk_commands.specs.rules.SavedCopies.{MakesCopy, SavesCopy, SavesFile};
-ghost use Rattle.disk_commands.specs.rules.SavedCopies.{SavesInspected, saved_line};
+ghost use Rattle.disk_commands.specs.rules.SavedCopies.{SavesInspected, saved_line, uncopied_words};
 
-use crate::on_disk::disk_file::{Seen, open_disk};
+use crate::on_disk::disk_file::{Seen, open_to_look};
 use crate::on_disk::fault::{OnDiskFault, say_disk_fault};
 use crate::on_disk::live::picture_of;
 use crate::on_disk::making::keep_if_created;
 use crate::on_disk::opening::report_open;
-use command_words::{Obstacle, Printer, Status, report};
-use sector_disk::{Disk, DiskFile, FileDisk, NewFiles, copy_disk};
+use command_words::{Obstacle, Printer, Status, report, say_line};
+use sector_disk::{CopyFault, Disk, DiskFile, FileDisk, NewFiles, copy_disk};
 use std::alloc::Global;
 use std::io::{self, Write};
 use worker::inspect;
@@ -60,6 +60,17 @@ fn say_saved<W: Write + Drop, E: Write + Drop>(
     }
 }
 
+/// What is told of a copy that isn't made.
+fn words_of_copy(fault: CopyFault) -> &'static str
+    ensures { result.now ≡ uncopied_words fault }
+{
+    match fault {
+        CopyFault::Sizes => "failed K2 Io\nthe copy has no sectors, or more than the disk",
+        CopyFault::Original(_) => "failed K2 Io\nthe disk can't be read: see to its device",
+        CopyFault::Copy(_) => "failed K2 Io\nthe copy can't be written: see to its device",
+    }
+}
+
 /// Copies as many sectors of a disk onto another one as that one has, and says how many. The first
 /// disk is only read. Answers the exit status: `Done` where they are copied, `IoError` where a disk
 /// fails, `Unwritten` where a write of a printer has failed.
@@ -75,12 +86,12 @@ pub fn save_on<D: Disk, C: Disk, W: Write + Drop, E: Write + Drop>(
     let sectors = copy.sectors();
     match copy_disk(disk, copy) {
         Ok(()) => say_saved(out, sectors, err),
-        Err(_) => report(err, Obstacle::Unread),
+        Err(fault) => say_line(err, Status::IoError, words_of_copy(fault)),
     }
 }
 
 /// Makes a new file of so many sectors, and copies those of a disk there. The file is left where
-/// the status is `Done`, and else it is removed.
+/// the status is `Done`, and then it was found at its path. Else it is removed.
 fn make_copy<F: DiskFile, R: NewFiles<File = F>, D: Disk, W: Write + Drop, E: Write + Drop>(
     files: &R,
     disk: &mut D,
@@ -99,9 +110,9 @@ fn make_copy<F: DiskFile, R: NewFiles<File = F>, D: Disk, W: Write + Drop, E: Wr
         Err(fault) => return report_open(err, path, fault),
     };
     let status = save_on(disk, &mut copy, out, err);
-    keep_if_created(files, made, status);
+    let ended = keep_if_created(files, made, &copy, status, err);
     files.close(copy);
-    status
+    ended
 }
 
 /// Looks into a disk, and copies it to a new file where it is a worker's.
@@ -155,7 +166,7 @@ pub fn save_file<F: DiskFile, R: NewFiles<File = F>, W: Write + Drop, E: Write +
             Err(status) => status,
         }
     } else {
-        match open_disk(files, seen.path, false, err) {
+        match open_to_look(files, seen.path, err) {
             Ok(mut disk) => {
                 let status = save_worker(alloc, files, &mut disk, copy, out, err);
                 files.close(disk);

@@ -15,11 +15,11 @@
 //!   those which the source of this life has handed out. `laws::lives_on_disk_go_on`: such calls
 //!   are a life that goes on from all that was promised. The last words are those of what its last
 //!   act has answered (`HasOutcome`). Behind `trapped` are lines of frames, and behind no other
-//!   ones (`TellsFrames`). Where a call fails, lines wait only as its own clause says
-//!   (`HasBrokenOff`). Where the disk shows no worker nothing is written or released. The
-//!   status is `Unwritten` where the outlet has refused a line, and else only where a write of
-//!   `err` has failed (`refusal`). `laws::unwritten_is_a_failed_write`: what that
-//!   comes to where the lines are printed.
+//!   ones, with names of the module on the disk, which is read for them (`TellsFrames`). Where a
+//!   call fails, lines wait only as its own clause says (`HasBrokenOff`). Where the disk shows no
+//!   worker nothing is written or released. The status is `Unwritten` where the outlet has refused
+//!   a line, and else only where a write of `err` has failed (`refusal`).
+//!   `laws::unwritten_is_a_failed_write`: what that comes to where the lines are printed.
 //!
 //! # Choices
 //!
@@ -43,29 +43,32 @@
 //!   condition: `disk_commands` can't name that fault of the store, and the line that it would need
 //!   in `crates.txt` brings a thousand paths too many.
 
-ghost use Rattle.std.specs.Prelude.{◌≡◌, ◌≢◌, ◌≤◌, true, IfOk, IsTrue, OnErr, OnOk};
+ghost use Rattle.std.specs.Prelude.{◌≡◌, ◌≢◌, ◌≤◌, true, IfOk, IsTrue, OnErr, OnOk, is_some};
 ghost use Rattle.std.specs.Int.NonZero.{non_zero_u64_get};
 ghost use Rattle.disk_layout.specs.rules.Places.{total_sectors};
 ghost use Rattle.record_replay.specs.declared.slices.now.Now.TheVariants.{Spent};
 ghost use Rattle.worker.specs.rules.Scenes.{scene};
+ghost use Rattle.command_words.specs.FunctionNames.{lent_bytes};
 ghost use Rattle.command_words.specs.rules.Printers.{IsPrinted, TellsPerson};
 ghost use Rattle.disk_commands.specs.rules.DiskStatuses.{IsReportedOnDisk};
 ghost use Rattle.disk_commands.specs.rules.Refusals.{HeedsRefusal};
 ghost use Rattle.disk_commands.specs.rules.ServedOnDisk.{ServesOnDisk, disk_job, run_start};
-ghost use Rattle.disk_commands.specs.rules.ServedOnDisk.{run_end, recovered_line};
+ghost use Rattle.disk_commands.specs.rules.ServedOnDisk.{awaited_words, run_end, recovered_line};
 ghost use Rattle.disk_commands.specs.rules.Watchings.{WatchesEnd};
 ghost use Rattle.disk_commands.specs.Livings.{HasGoneOn, RunsOpen};
 
-use crate::on_disk::ending::say;
+use crate::on_disk::ending::{following, say};
 use crate::on_disk::fault::{OnDiskFault, say_life_fault};
 use crate::on_disk::living::{Pace, live};
 use crate::on_disk::showing::print_number;
+use crate::on_disk::trap_frames::module_of_trapped;
 use crate::on_disk::watching::Watcher;
 use command_words::{LineFault, LineReader, Printer, ReadAhead, RealTime, RequestSource, Status};
 use record_replay::{Now, Outlet, SliceFault};
 use sector_disk::Disk;
 use std::alloc::Global;
 use std::io::{self, Write};
+use wasm_syntax::ItemList;
 use worker::{WorkFault, Worker};
 
 /// A fault of the source is that of a request line, where there is one.
@@ -78,11 +81,14 @@ fn call_fault_of(fault: WorkFault, line: Option<LineFault>) -> OnDiskFault
     }
 }
 
-/// How a worker on a disk is driven, and who watches it.
+/// How a worker on a disk is driven, who watches it, and which disk that is.
 #[derive(Clone, Copy)]
 pub struct Drive<'a, T> {
+    pub alloc: Global,
     pub pace: Pace,
     pub watcher: &'a T,
+    /// The path of its disk, which messages name.
+    pub disk: &'a str,
 }
 
 /// Runs a worker that is open on its disk: request lines after those that it has taken, texts as
@@ -113,7 +119,25 @@ fn go_on<D: Disk, R: LineReader + ReadAhead + Drop, C: RealTime + Drop, O: Outle
     }
 }
 
-/// Prints that a worker is recovered, and how far it was replayed.
+/// Writes the end of the line of a worker that is recovered: the number of the request that it
+/// takes next, unless it has ended.
+fn print_awaited<E: Write + Drop>(err: &mut Printer<E>, worker: &Worker) -> io::Result<()>
+    ensures printed { OnOk result (IsPrinted err.old err.new
+        (awaited_words (is_some worker.now.process.ended) worker.now.process.requests)) }
+    ensures failed { OnErr result (err.new.failed ≡ true) }
+{
+    let process = worker.process();
+    if process.reached_end().is_some() {
+        return err.write_all(b" steps\n");
+    }
+    writeln!(
+        err,
+        " steps, next request {}",
+        following(process.requests())
+    )
+}
+
+/// Prints that a worker is recovered, how far it was replayed, and which request it takes next.
 fn print_recovered<E: Write + Drop>(err: &mut Printer<E>, worker: &Worker) -> io::Result<()>
     ensures printed { OnOk result (IsPrinted err.old err.new (recovered_line worker.now)) }
     ensures failed { OnErr result (err.new.failed ≡ true) }
@@ -121,7 +145,7 @@ fn print_recovered<E: Write + Drop>(err: &mut Printer<E>, worker: &Worker) -> io
     print_number(err, "recovered generation ", worker.generation())?;
     print_number(err, " at step ", worker.process().steps())?;
     print_number(err, ", replayed ", worker.replayed())?;
-    err.write_all(b" steps\n")
+    print_awaited(err, worker)
 }
 
 /// Tells a person that a worker is recovered. A worker runs on though this can't be printed.
@@ -130,6 +154,16 @@ pub(super) fn tell_recovered<E: Write + Drop>(err: &mut Printer<E>, worker: &Wor
 {
     if err.is_terminal() {
         let _ = print_recovered(err, worker);
+    }
+}
+
+/// The bytes of a module, if there is one.
+fn lent(module: &Option<ItemList<u8>>) -> Option<&[u8]>
+    ensures { lent_bytes result ≡ module.now }
+{
+    match module {
+        Some(module) => Some(module.as_slice()),
+        None => None,
     }
 }
 
@@ -160,19 +194,23 @@ where
         (run_end disk.new outlet.new err.new (R.has_failed source.new.requests.reader)) result }
     ensures watched { WatchesEnd (T.is_notified drive.entry.watcher.now) err.new result }
 {
-    let Drive { pace, watcher } = drive;
+    let Drive {
+        alloc,
+        pace,
+        watcher,
+        ..
+    } = drive;
     let is_heard = err.is_terminal();
     tell_recovered(err, worker);
     watcher.tell(worker, Now::Spent);
     match go_on(worker, disk, pace, source, outlet, watcher) {
-        Ok(now) => say(
-            err,
-            is_heard,
-            now,
-            source.requests().taken(),
-            worker,
-            watcher,
-        ),
+        Ok(now) => {
+            let taken = source.requests().taken();
+            let module = module_of_trapped(alloc, disk, worker);
+            let status = say(err, is_heard, now, taken, worker, lent(&module));
+            drop(module);
+            status
+        }
         Err(fault) => say_life_fault(err, fault),
     }
 }
@@ -181,14 +219,14 @@ where
 /// over, with a checkpoint after the last one. Its lines go to the outlet, last words to `err`.
 /// Where that is a terminal, a line before the first slice says how it was recovered, and one after
 /// `parked` which request comes next. Of a worker that traps the frames are told, with names from
-/// the module that the watcher has. The watcher is told where the worker is: before the first
-/// slice, after each checkpoint, and at its end. Request lines that it has taken are passed over.
-/// Their texts may be as long as its version has them. Random bytes are those of the seed's stream
-/// of its generation. Answers the exit status: `Done` where the worker has ended, trapped or waits
-/// at the end of the lines, `Refused` for a disk that shows no worker that can go on and where a
-/// number is at its end, `IoError` where the disk, the reader or the clock fails, `OutOfMemory`,
-/// `BadLine` for a refused request line, `Unwritten` where the outlet has refused a line or a write
-/// has failed.
+/// the module on its disk, which is read for them. The watcher is told where the worker is: before
+/// the first slice, after each checkpoint, and at its end. Request lines that it has taken are
+/// passed over. Their texts may be as long as its version has them. Random bytes are those of the
+/// seed's stream of its generation. Answers the exit status: `Done` where the worker has ended,
+/// trapped or waits at the end of the lines, `Refused` for a disk that shows no worker that can go
+/// on and where a number is at its end, `IoError` where the disk, the reader or the clock fails,
+/// `OutOfMemory`, `BadLine` for a refused request line, `Unwritten` where the outlet has refused a
+/// line or a write has failed.
 pub fn serve<D, R, C, O, E, T>(
     alloc: Global,
     disk: &mut D,

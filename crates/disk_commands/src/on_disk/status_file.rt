@@ -11,10 +11,9 @@
 
 ghost use Rattle.std.specs.Prelude.{◌≡◌, ◌↔◌, ◌⊎◌, ◌++◌, IfErr, IfOk, IfSome, IsSome, IsTrue};
 ghost use Rattle.std.specs.Prelude.{OnOk, codes, string_bytes};
-ghost use Rattle.std.specs.IoError.{error_kind};
 ghost use Rattle.std.specs.Io.KnownBytes.{Appends};
 ghost use Rattle.sector_disk.specs.declared.open_fault.OpenFault.TheVariants.{Io};
-ghost use Rattle.sector_disk.specs.rules.Causes.{open_cause};
+ghost use Rattle.sector_disk.specs.rules.Causes.{error_cause};
 ghost use Rattle.command_words.specs.rules.Reports.{SaysLine};
 ghost use Rattle.command_words.specs.declared.status.Status.TheVariants as exit;
 ghost use Rattle.disk_commands.specs.rules.StatusFiles.{HasFoundFree, IsFreePath, IsWatchable};
@@ -165,7 +164,7 @@ impl<R: WatchedPaths> StatusFile<'_, R> {
             (string_bytes self.now.beside) self.now.path.now)) }
         ensures left { IfErr result (λ error.
             IsTrue ((R.known self.now.files.now).refused (string_bytes self.now.beside)
-            (Io (open_cause (error_kind error))))
+            (Io (error_cause error)))
             ⊎ IsTrue ((R.known self.now.files.now).removed (string_bytes self.now.beside))) }
     {
         let (mut file, new) = self.files.make_new(self.beside.as_str())?;

@@ -2,17 +2,19 @@
 //!
 //! # Choices
 //!
-//! - **Each refusal has a second line that says what to do**, but for steps at their end: nothing
-//!   can be done then. What a recovery finds wrong with the old disk is told as by `show`.
+//! - **Each refusal has a second line that says what to do**, or that nothing can be done: of steps
+//!   at their end. What a recovery finds wrong with the old disk is told as by `show`, but with its
+//!   path on the second line.
 
 ghost use Rattle.std.specs.Prelude.{◌≡◌};
 ghost use Rattle.disk_layout.specs.rules.Journal.{TakesRecords};
 ghost use Rattle.command_words.specs.rules.Reports.{SaysLine};
 ghost use Rattle.command_words.specs.declared.status.Status.TheVariants as exit;
 ghost use Rattle.disk_commands.specs.rules.SuccessorDisks.{SaysUnleft, crowded_words};
-ghost use Rattle.disk_commands.specs.rules.SuccessorDisks.{restless_words, short_words, units_for};
+ghost use Rattle.disk_commands.specs.rules.SuccessorDisks.{restless_words, short_words};
+ghost use Rattle.disk_commands.specs.rules.SuccessorDisks.{spent_words, units_for};
 
-use crate::on_disk::fault::{OnDiskFault, say_disk_fault};
+use crate::on_disk::fault::{OnDiskFault, say_fault_at};
 use command_words::{Printer, Status, say_line};
 use file_tree::limits::UNIT_BYTES;
 use std::io::Write;
@@ -31,6 +33,19 @@ fn say_restless<E: Write + Drop>(err: &mut Printer<E>, path: &str) -> Status
     }
 }
 
+/// Says that the steps of the worker on the disk at this path are at their end.
+fn say_spent<E: Write + Drop>(err: &mut Printer<E>, path: &str) -> Status
+    ensures { SaysLine (spent_words path.now) exit.Refused err.old result err.new }
+{
+    match writeln!(
+        err,
+        "failed P3 StepsSpent\n{path}: its steps can't be counted further: nothing can succeed it"
+    ) {
+        Ok(()) => Status::Refused,
+        Err(_) => Status::Unwritten,
+    }
+}
+
 /// Prints why the worker on the disk at this path leaves nothing, and answers the exit status, or
 /// `Unwritten` where a write has failed.
 pub(super) fn report_unleft<E: Write + Drop>(
@@ -42,8 +57,8 @@ pub(super) fn report_unleft<E: Write + Drop>(
 {
     match fault {
         LeaveFault::NotParked => say_restless(err, path),
-        LeaveFault::StepsSpent => say_line(err, Status::Refused, "failed P3 StepsSpent"),
-        LeaveFault::Recover(fault) => say_disk_fault(err, OnDiskFault::from(fault)),
+        LeaveFault::StepsSpent => say_spent(err, path),
+        LeaveFault::Recover(fault) => say_fault_at(err, path, OnDiskFault::from(fault)),
     }
 }
 

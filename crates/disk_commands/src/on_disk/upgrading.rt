@@ -10,23 +10,27 @@
 //!   recovery (`upgrades`). The status is `Unwritten` where the outlet has refused a line, and else
 //!   only where a write of `err` has failed (`refusal`).
 //! - `upgrade_file` is that of a disk that was opened and not written back, and the result is said
-//!   behind the worker's lines (`UpgradesFile`).
+//!   behind the worker's lines (`UpgradesFile`). Last, and whatever came of it, the error output
+//!   says how many lines the output took in it (`SaysTold`).
 
 ghost use Rattle.std.specs.Prelude.{◌≡◌, ◌≢◌, ◌≤◌, [], IfOk, OnOk};
 ghost use Rattle.disk_layout.specs.rules.Places.{total_sectors};
 ghost use Rattle.record_replay.specs.declared.slices.now.Now.TheVariants.{Spent};
 ghost use Rattle.worker.specs.rules.Scenes.{scene};
 ghost use Rattle.command_words.specs.rules.Printers.{printers};
+ghost use Rattle.command_words.specs.rules.Reports.{SaysLine};
 ghost use Rattle.disk_commands.specs.ComingUp.{ComesUp, IsUpgradedFrom, UpgradesOpen};
 ghost use Rattle.disk_commands.specs.rules.Refusals.{HeedsRefusal};
-ghost use Rattle.disk_commands.specs.rules.ServedFiles.{SaysUpgraded};
+ghost use Rattle.disk_commands.specs.rules.ServedFiles.{SaysUpgrade, SaysUpgraded};
 ghost use Rattle.disk_commands.specs.rules.ServedOnDisk.{outputs};
+ghost use Rattle.disk_commands.specs.rules.ToldLines.{SaysTold, told_words};
 ghost use Rattle.disk_commands.specs.rules.Upgradings.{UpgradesOnDisk, from_list};
 ghost use Rattle.disk_commands.specs.rules.Upgradings.{status_so_far, upgraded_words};
 
+use crate::on_disk::counted_lines::CountedLines;
 use crate::on_disk::fault::{OnDiskFault, say_life_fault};
 use crate::on_disk::serving::tell_recovered;
-use command_words::{LineOutlet, Obstacle, Printer, Status, report};
+use command_words::{Obstacle, Printer, Status, report, say_line};
 use record_replay::{AnswerList, Now, Outlet, Source};
 use sector_disk::Disk;
 use std::alloc::Global;
@@ -155,19 +159,57 @@ fn words_of_upgrade(upgraded: Upgraded) -> &'static [u8]
 
 /// Says after the worker's lines that it is of version 2, or that this can't be written. Of an
 /// error nothing more is said. Returns the exit status.
-pub(super) fn say_upgraded<W: Write + Drop, E: Write + Drop>(
+fn say_result<W: Write + Drop, E: Write + Drop>(
     upgraded: Result<Upgraded, Status>,
-    outlet: &mut LineOutlet<W>,
+    lines: &mut CountedLines<W>,
     err: &mut Printer<E>,
 ) -> Status
-    ensures { SaysUpgraded upgraded (printers outlet.old err.old) (printers outlet.new err.new)
-        result }
+    ensures { SaysUpgrade upgraded (printers lines.old.printer err.old)
+        (printers lines.new.printer err.new) result }
 {
     match upgraded {
-        Ok(upgraded) => match outlet.write_text(words_of_upgrade(upgraded)) {
+        Ok(upgraded) => match lines.write_text(words_of_upgrade(upgraded)) {
             Ok(()) => Status::Done,
             Err(_) => report(err, Obstacle::Unwritten),
         },
         Err(status) => status,
     }
+}
+
+/// Says that so many lines were told. Answers the status, or `Unwritten` where a write has failed.
+fn say_lines<E: Write + Drop>(err: &mut Printer<E>, status: Status, told: u64) -> Status
+    ensures { SaysLine (told_words told) status err.old result err.new }
+{
+    if told == 1 {
+        return say_line(err, status, "told 1 line: keep it with the others");
+    }
+    match writeln!(err, "told {told} lines: keep them with the others") {
+        Ok(()) => status,
+        Err(_) => Status::Unwritten,
+    }
+}
+
+/// Says how many lines were told, where there are any: nobody else has kept them. Answers the
+/// status, or `Unwritten` where a write has failed.
+fn say_told<E: Write + Drop>(err: &mut Printer<E>, status: Status, told: u64) -> Status
+    ensures { SaysTold told status err.old result err.new }
+{
+    if told == 0 {
+        return status;
+    }
+    say_lines(err, status, told)
+}
+
+/// Says what came of an upgrade, and then how many lines were told in it. Returns the exit status.
+pub(super) fn say_upgraded<W: Write + Drop, E: Write + Drop>(
+    upgraded: Result<Upgraded, Status>,
+    lines: &mut CountedLines<W>,
+    err: &mut Printer<E>,
+) -> Status
+    ensures { SaysUpgraded upgraded lines.old.told (printers lines.old.printer err.old)
+        (printers lines.new.printer err.new) result }
+{
+    let told = lines.told();
+    let status = say_result(upgraded, lines, err);
+    say_told(err, status, told)
 }

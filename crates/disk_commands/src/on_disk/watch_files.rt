@@ -6,8 +6,7 @@
 //!   sighting: `spelled_status` its line, `spelled_metrics` its metrics, each to the byte. Between
 //!   two slices that is the sighting of a worker that runs on (`due`), where a second has passed
 //!   since the last one (`IsDue`). No clause says that a file gets its text:
-//!   `scripts/runs/program-rows` and `scripts/runs/disk-rows` show that. It also has the module of
-//!   the worker's disk, for the names of functions.
+//!   `scripts/runs/program-rows` and `scripts/runs/disk-rows` show that.
 //! - `watch_files_of`: a file is only there where both of its paths were found free, and two share
 //!   no path. Else it is said which one isn't, and why (`SaysUnwatchable`).
 //!
@@ -40,7 +39,6 @@ use std::alloc::Global;
 use std::cell::Cell;
 use std::io::{self, Error, ErrorKind, Write};
 use std::time::Clock;
-use wasm_syntax::ItemList;
 use worker::{Position, Worker};
 
 /// Nanoseconds between two sightings of a worker that runs on.
@@ -90,18 +88,15 @@ struct MetricsFile<'a, R: WatchedPaths> {
     label: Vec<u8>,
 }
 
-/// The files of a run that say where its worker is, as far as they are named, and its disk.
+/// The files of a run that say where its worker is, as far as they are named.
 #[derive(Drop)]
 pub struct WatchFiles<'a, R: WatchedPaths> {
     alloc: Global,
     files: &'a R,
     status: Option<StatusFile<'a, R>>,
     metrics: Option<MetricsFile<'a, R>>,
-    /// The path of the worker's disk.
-    disk: &'a str,
     /// When they were written last, in nanoseconds of the machine's clock that never goes back.
     last: Cell<Option<u64>>,
-    ghost reads: { IsTrue ((R.known files.now).may_read disk.now) },
 }
 
 impl<R: WatchedPaths> WatchFiles<'_, R> {
@@ -183,10 +178,6 @@ impl<R: WatchedPaths + Clock> Watcher for WatchFiles<'_, R> {
 
     fn is_watching(&self) -> bool {
         self.has_some()
-    }
-
-    fn module(&self) -> Option<ItemList<u8>> {
-        self.files.module_at(self.alloc, self.disk)
     }
 }
 
@@ -270,7 +261,6 @@ pub fn watch_files_of<'a, R: WatchedPaths, E: Write + Drop>(
 ) -> Result<WatchFiles<'a, R>, Status>
     requires status { IfSome (path_named paths.status) (MayWatch (R.known files.now)) }
     requires metrics { IfSome (path_named paths.metrics) (MayWatch (R.known files.now)) }
-    requires disk { IsTrue ((R.known files.now).may_read paths.disk.now) }
     ensures status { IfSome paths.entry.status (λ text. OnOk result (IsWatchable
         (R.has_found files.entry.now) (R.known files.entry.now).removed text.now)) }
     ensures metrics { IfSome paths.entry.metrics (λ text. OnOk result (IsWatchable
@@ -298,7 +288,6 @@ pub fn watch_files_of<'a, R: WatchedPaths, E: Write + Drop>(
             files,
             status,
             metrics,
-            disk: paths.disk,
             last: Cell::new(None),
         }),
         Err(code) => Err(code),

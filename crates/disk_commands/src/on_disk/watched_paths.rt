@@ -6,13 +6,11 @@ ghost use Rattle.disk_commands.specs.declared.on_disk.status_line.TheConstants.{
 
 use crate::on_disk::found_file::FoundFile;
 use crate::on_disk::status_line::LONGEST;
-use disk_layout::read_contents;
-use sector_disk::{DiskFile, DiskFiles, FileDisk, NewFile, NewFiles};
+use sector_disk::{DiskFile, NewFile, NewFiles};
 use std::alloc::Global;
 use std::fs::{File, TryLockError};
 use std::io::{self, Error, ErrorKind, Read, Seek, Write};
 use std::rt::Files;
-use wasm_syntax::ItemList;
 
 /// As many bytes as the longest status line has, and one more, by which a longer file is known.
 const FRONT_BYTES: u64 = LONGEST as u64 + 1;
@@ -64,11 +62,6 @@ pub trait WatchedPaths: NewFiles {
         requires free { HasFoundFree (has_found self.now path.now) }
         requires may { IsTrue ((Self.known self.now).may_make path.now) }
         ensures { OnOk result (IsTrue (has_renamed self.now new.now.path.now path.now)) };
-
-    /// The module of the worker on the disk at a path, where it can be read. The file is opened to
-    /// read it and nothing else, and no lock is taken.
-    fn module_at(&self, alloc: Global, path: &str) -> Option<ItemList<u8>>
-        requires { IsTrue ((Self.known self.now).may_read path.now) };
 }
 
 // Of the system's files no more is known than what it answers.
@@ -111,17 +104,5 @@ where
 
     fn rename_new(&self, new: &NewFile<'_>, path: &str) -> io::Result<()> {
         self.rename(new.path(), path)
-    }
-
-    fn module_at(&self, alloc: Global, path: &str) -> Option<ItemList<u8>> {
-        let Ok(mut disk) = FileDisk::look(self, path) else {
-            return None;
-        };
-        let contents = read_contents(alloc, &mut disk);
-        self.close(disk);
-        match contents {
-            Ok(contents) => Some(contents.wasm),
-            Err(_) => None,
-        }
     }
 }

@@ -7,8 +7,6 @@
 //!   `Done`, it was told of that end (`watched`). It is also told between two slices, and before
 //!   the worker waits for its source (`Asked`): of both it may leave out some, and no clause says
 //!   that it is told then. `WatchFiles` is a watcher, which replaces small files.
-//! - `Watcher::module`: the module of the worker's disk, for the names of functions. No clause says
-//!   that these are its bytes, and a watcher may have none.
 //! - `print_status`: the line of a worker that was seen so, to the byte (`watch_line`).
 //!
 //! # Choices
@@ -32,7 +30,6 @@ use command_words::Printer;
 use record_replay::{Now, Readiness};
 use std::io::{self, Write};
 use wasi_abi::Question;
-use wasm_syntax::ItemList;
 use worker::{Onlooker, Position, Worker};
 
 /// Whoever is told where a worker on a disk is.
@@ -59,12 +56,6 @@ pub trait Watcher {
     /// Whether it is to be told that a worker waits.
     fn is_watching(&self) -> bool {
         false
-    }
-
-    /// The bytes of the worker's module, as its disk has them. They are asked for where it has
-    /// trapped. A watcher may have none.
-    fn module(&self) -> Option<ItemList<u8>> {
-        None
     }
 }
 

@@ -16,15 +16,16 @@ returns-in-Ok g c =
 pub returns-in-Err : goal.returns-in-Err
 returns-in-Err g c = rw c.if-seen.true (inr (c.in-Err.ensures.said, refl))
 
-pub returns-in-Ok-open_disk : goal.returns-in-Ok-open_disk
-returns-in-Ok-open_disk g c =
-    let found = c.in-Ok-open_disk in
-    let done = c.look_at-status-in-Ok-open_disk in
+pub returns-in-Ok-open_to_look : goal.returns-in-Ok-open_to_look
+returns-in-Ok-open_to_look g c =
+    let found = c.in-Ok-open_to_look in
+    let done = c.look_at-status-in-Ok-open_to_look in
     does_opened g.F.DiskFile.known (g.R.DiskFiles.known c.args.files.now) c.args.seen.path.now
     (TellsSeen c.args.look)
-    c.args.seen.is_live c.args.out.now c.args.err.now c.open_disk.new.err
+    c.args.seen.is_live c.args.out.now c.args.err.now c.open_to_look.new.err
     (printers done.new.out done.new.err) done.result found.ensures.quiet found.disk
     done.new.disk c.if-seen.false found.ensures.opened c.close.ensures done.ensures
 
-pub returns-in-Err-open_disk : goal.returns-in-Err-open_disk
-returns-in-Err-open_disk g c = rw c.if-seen.false (inr (c.in-Err-open_disk.ensures.said, refl))
+pub returns-in-Err-open_to_look : goal.returns-in-Err-open_to_look
+returns-in-Err-open_to_look g c =
+    rw c.if-seen.false (inr (c.in-Err-open_to_look.ensures.said, refl))

@@ -1,3 +1,4 @@
+use Rattle.std.proofs.Common.{refl}
 use Rattle.std.specs.Io.Buffered.{reader_buffer}
 use Rattle.disk_commands.specs.rules.Leavings.{input_left}
 use Rattle.disk_commands.proofs.on_disk.running.serve_to_end.Goals as goal
@@ -11,7 +12,9 @@ returns g c =
       served = c.serve-status.result;
       serves = c.serve-status.ensures.serves;
       heeds = c.serve-status.ensures.refusal;
-      left = input_left requests.version requests.taken (reader_buffer requests.reader.reader)
-          requests.reader.begun requests.skipped c.report_input.ensures.0;
+      left = input_left c.args.drive.disk.now requests.version requests.taken
+          (reader_buffer requests.reader.reader) requests.reader.begun requests.skipped
+          c.report_input.ensures.0;
+      named = refl;
       says = c.report_input.ensures.2;
     }

@@ -1,19 +1,20 @@
-use Rattle.std.proofs.Common.{inr}
-use Rattle.disk_commands.proofs.FileLemmas.{known_at}
+use Rattle.std.proofs.Common.{inr, subst}
+use Rattle.disk_commands.specs.rules.Openings.{EndsInFile}
 use Rattle.disk_commands.proofs.on_disk.saving.make_copy.Goals as goal
 
 pub returns : goal.returns
 returns g c =
     let files = g.R.DiskFiles.known c.args.files.now in
-    let path = c.args.path.now in
+    let began = c.save_on-status in
     inr (record {
       copy = c.in-Ok.made.0;
-      copy' = c.save_on-status.new.copy;
+      copy' = began.new.copy;
       made = c.in-Ok.ensures.made;
       closed = c.close.ensures;
-      saves = c.save_on-status.ensures;
-      keeps = λ is. known_at files.kept c.in-Ok.made.1.path.now path c.in-Ok.ensures.there
-          (c.keep_if_created.ensures.keeps is);
-      removes = λ other. known_at files.removed c.in-Ok.made.1.path.now path
-          c.in-Ok.ensures.there (c.keep_if_created.ensures.removes other);
+      saves = began.ensures;
+      begun = began.result;
+      told = began.new.err;
+      ends = subst (λ p. EndsInFile files p began.new.copy began.result began.new.err
+          c.keep_if_created-ended.result c.keep_if_created-ended.new.err) c.in-Ok.ensures.there
+          c.keep_if_created-ended.ensures;
     })

@@ -1,6 +1,6 @@
 use Rattle.std.proofs.Common.{Ok, Err, ℕ, subst, refl}
 use Rattle.command_words.specs.rules.Printers.{printers}
-use Rattle.command_words.specs.rules.Reports.{SaysOnOutput}
+use Rattle.command_words.specs.rules.Reports.{SaysLine, SaysOnOutput}
 use Rattle.command_words.specs.declared.status.Status.TheVariants as exit
 use Rattle.disk_commands.specs.rules.SavedCopies.{saved_line}
 use Rattle.disk_commands.proofs.SavedLemmas.{none_or_copy}
@@ -33,12 +33,16 @@ returns-in-Err g c =
     let new = g.C.Disk.medium c.copy_disk.new.copy in
     let copied = c.in-Err.ensures in
     record {
-      answer = Err c.in-Err.field-0;
+      answer = Err c.in-Err.fault;
       copied = copied.copied;
       all_synced = copied.all_synced;
       any_moment = none_or_copy original old new copied.any_moment;
       only_read = copied.only_read;
       calls = copied.calls;
       cause = copied.cause;
-      says = (c.report.ensures, refl);
+      says = (
+        subst (λ words. SaysLine words exit.IoError c.args.err.now c.say_line.result
+            c.say_line.new.out) c.words_of_copy.ensures c.say_line.ensures,
+        refl,
+      );
     }

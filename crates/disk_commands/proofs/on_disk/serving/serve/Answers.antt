@@ -19,7 +19,7 @@ returns-in-Ok-clause-serves g c =
     (run_end served.new.disk served.new.outlet served.new.err
     (g.R.LineReader.has_failed served.new.source.requests.reader)) served.result
     c.in-Ok.worker c.recover.new.disk c.recover.new.outlet runs.0 c.in-Ok.ensures
-    c.in-Ok.ensures.heeds runs.3 runs.2 runs.1 runs.4 runs.5
+    c.in-Ok.ensures.heeds runs.4 runs.2 runs.3 runs.7 runs.8 runs.1 runs.5 runs.6 runs.9
 
 pub returns-in-Ok-clause-refusal : goal.returns-in-Ok-clause-refusal
 returns-in-Ok-clause-refusal g c =

@@ -4,4 +4,4 @@ pub returns-in-NotParked : goal.returns-in-NotParked
 returns-in-NotParked g c = rw c.in-NotParked.is c.say_restless.ensures
 
 pub returns-in-StepsSpent : goal.returns-in-StepsSpent
-returns-in-StepsSpent g c = rw c.in-StepsSpent.is c.say_line.ensures
+returns-in-StepsSpent g c = rw c.in-StepsSpent.is c.say_spent.ensures
