@@ -5,3 +5,4 @@ pub mod Digits
 pub mod Statuses
 pub mod Runs
 pub mod Starts
+pub mod Taken

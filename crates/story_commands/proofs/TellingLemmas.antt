@@ -17,7 +17,8 @@ use Rattle.command_words.specs.rules.Printers.{HasOneFailed, printers}
 use Rattle.command_words.specs.declared.status.Status.{Status}
 use Rattle.command_words.specs.declared.status.Status.TheVariants as exit
 use Rattle.story_commands.specs.rules.Scripts.{IsScript, IsFaultAt}
-use Rattle.story_commands.specs.rules.Stories.{TellsStory, script_line, story_config}
+use Rattle.story_commands.specs.declared.stories.fault.LineCause.{LineCause}
+use Rattle.story_commands.specs.rules.Stories.{TellsStory, script_lines, story_config}
 use Rattle.story_commands.specs.Said.{SaysLives}
 
 module _ (script wasm : List ℕ) (sizes : Sizes) (out out' err err' : PrinterState) where
@@ -66,11 +67,14 @@ module _ (script wasm : List ℕ) (sizes : Sizes) (out out' err err' : PrinterSt
     known = inr (inr (inl refl));
   }
 
-  says_usage : (number : ℕ) → IsFaultAt (lines_of script) number
-      → IsPrinted err err' (script_line number) → out' ≡ out → Says exit.Usage
-  says_usage number faulty said stays = record {
+  says_usage : (number : ℕ) (why : LineCause) → IsFaultAt (lines_of script) number why
+      → IsPrinted err err' (script_lines number why) → out' ≡ out → Says exit.Usage
+  says_usage number why faulty said stays = record {
     told = λ is. absurd cc;
-    faulty = λ is. (record { number = number; faulty = faulty; said = said.0 }, stays);
+    faulty = λ is. (
+      record { number = number; why = why; faulty = faulty; said = said.0 },
+      stays,
+    );
     refused = λ is. absurd cc;
     starved = λ is. absurd cc;
     heeded = inl ((λ is. cc), ap (λ p. p.failed) stays, said.1);
@@ -88,11 +92,12 @@ module _ (script wasm : List ℕ) (sizes : Sizes) (out out' err err' : PrinterSt
   memory_told status (inl said) stays = subst Says (sym said.0) (says_starved stays said.1.1)
   memory_told status (inr unsaid) stays = subst Says (sym unsaid.0) (says_unwritten (inr unsaid.1))
 
-  pub line_told : (number : ℕ) (status : Status) → IsFaultAt (lines_of script) number
-      → SaysText (script_line number) exit.Usage err status err' → out' ≡ out → Says status
-  line_told number status faulty (inl said) stays =
-      subst Says (sym said.0) (says_usage number faulty said.1 stays)
-  line_told number status faulty (inr unsaid) stays =
+  pub line_told : (number : ℕ) (why : LineCause) (status : Status)
+      → IsFaultAt (lines_of script) number why
+      → SaysText (script_lines number why) exit.Usage err status err' → out' ≡ out → Says status
+  line_told number why status faulty (inl said) stays =
+      subst Says (sym said.0) (says_usage number why faulty said.1 stays)
+  line_told number why status faulty (inr unsaid) stays =
       subst Says (sym unsaid.0) (says_unwritten (inr unsaid.1))
 
   by_why : (lives : List PlannedLife) → IsScript (lines_of script) lives → (why : Unprepared)

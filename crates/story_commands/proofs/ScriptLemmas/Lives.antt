@@ -1,7 +1,7 @@
 -- The lives of a script, and what reading it line by line gives.
 use Rattle.std.proofs.Common.{◌≡◌, ℕ, true, List, [], ◌∷◌, ◌++◌, map, Some, None, refl, sym, ap}
-use Rattle.std.proofs.Common.{◌∙◌, subst, append_assoc}
-use Rattle.std.specs.Prelude.{Option, option_map, option_and_then, unwrap_or, IsSome}
+use Rattle.std.proofs.Common.{◌∙◌, subst, append-nil, append_assoc}
+use Rattle.std.specs.Prelude.{Option, option_map, option_and_then, unwrap_or}
 use Rattle.worker.specs.declared.story.life.PlannedLife.{PlannedLife}
 use Rattle.story_commands.specs.declared.stories.draft.StoryDraft.{StoryDraft}
 use Rattle.story_commands.specs.declared.stories.line.ScriptLine.{ScriptLine}
@@ -186,18 +186,27 @@ full_front : (own rest : List ScriptLine) → AreFull (own ++ rest) → AreFull 
 full_front [] rest full = (tt, full)
 full_front (line ∷ own) rest full = let f = full_front own rest full.1 in ((full.0, f.0), f.1)
 
+-- what lines of lives put behind a draft
+abbrev PutBehind : List ScriptLine → StoryDraft → List PlannedLife → Type 0
+PutBehind lines from lives = (draft : StoryDraft) × (put_all lines from ≡ Some draft)
+    × (lives_so_far draft ≡ lives_so_far from ++ lives)
+
 lives_put : (lives : List PlannedLife) (lines : List ScriptLine) (draft : StoryDraft)
-    → AreFull lines → AreLivesOf lines lives → IsSome (put_all lines draft)
-lives_put [] lines draft full is = subst (λ l. IsSome (put_all l draft)) (sym is) refl
+    → AreFull lines → AreLivesOf lines lives → PutBehind lines draft lives
+lives_put [] lines draft full is =
+    (draft, ap (λ l. put_all l draft) is, sym (append-nil (lives_so_far draft)))
 lives_put (life ∷ lives) lines draft full is =
     let own = is.0 in
     let rest = is.1 in
     let whole = is.2 in
     let f = full_front own rest ((subst AreFull whole full).1) in
-    subst (λ l. IsSome (put_all l draft)) (sym whole)
-    (subst IsSome (sym (own_put own rest (lives_so_far draft) empty_life life
-    (puts_all own empty_life life f.0 (empty_onto own life is.3))))
-    (lives_put lives rest (begun (lives_so_far draft) life) f.1 is.4))
+    let later = lives_put lives rest (begun (lives_so_far draft) life) f.1 is.4 in (
+      later.0,
+      ap (λ l. put_all l draft) whole
+          ∙ own_put own rest (lives_so_far draft) empty_life life
+          (puts_all own empty_life life f.0 (empty_onto own life is.3)) ∙ later.1,
+      later.2 ∙ append_assoc (lives_so_far draft) (life ∷ []) lives,
+    )
 
 -- ---- texts
 
@@ -275,13 +284,10 @@ read_is_script full texts draft e =
           (sym (texts_put texts s.0 draft_start s.1) ∙ e),
     )
 
--- a script can be read
+-- a script can be read, and its lives are what is read
 pub script_is_read : SayFull → (texts : List (List ℕ)) (lives : List PlannedLife)
-    → IsScript texts lives → put_texts texts draft_start ≡ None → ⊥
-script_is_read full texts lives is none =
-    let some = lives_put lives is.0 draft_start (are_full full texts is.0 is.1) is.2 in
-    absurd (by (put_all is.0 draft_start) (sym (texts_put texts is.0 draft_start is.1) ∙ none) some)
-  where
-    by : (o : Option StoryDraft) → o ≡ None → IsSome o → ⊥
-    by None e s = cc s
-    by (Some d) e s = cc e
+    → IsScript texts lives → (draft : StoryDraft) × (put_texts texts draft_start ≡ Some draft)
+    × (lives_so_far draft ≡ lives)
+script_is_read full texts lives is =
+    let put = lives_put lives is.0 draft_start (are_full full texts is.0 is.1) is.2 in
+    (put.0, texts_put texts is.0 draft_start is.1 ∙ put.1, put.2)

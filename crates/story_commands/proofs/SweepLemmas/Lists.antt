@@ -42,3 +42,14 @@ pub flat_more : {X A : Type 0} (f : X → List A) (xs : List X) (i : ℕ) (x : X
     → x ≡ get_or xs i x → flat_map f (take i xs) ++ f x ≡ flat_map f (take (i + 1) xs)
 flat_more f xs i x within is =
     flat_map_more f [] (take i xs) x ∙ ap (flat_map f) (sym (taken_more xs i x within is))
+
+-- lists appended one by one, or from the last one on
+pub four_from_last : {X : Type 0} (a b c d : List X)
+    → a ++ b ++ c ++ d ≡ a ++ (b ++ (c ++ d))
+four_from_last a b c d = append_assoc (a ++ b) c d ∙ append_assoc a b (c ++ d)
+
+pub six_from_last : {X : Type 0} (a b c d e f : List X)
+    → a ++ b ++ c ++ d ++ e ++ f ≡ a ++ (b ++ (c ++ (d ++ (e ++ f))))
+six_from_last a b c d e f =
+    append_assoc (a ++ b ++ c ++ d) e f ∙ append_assoc (a ++ b ++ c) d (e ++ f)
+    ∙ four_from_last a b c (d ++ (e ++ f))

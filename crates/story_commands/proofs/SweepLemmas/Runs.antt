@@ -21,11 +21,11 @@ use Rattle.story_commands.specs.declared.sweeping.running.RunLives.{RunLives}
 use Rattle.story_commands.specs.rules.Sweeps.{AreCutsTo, IsCutRun, IsSwept, SweptPartValue}
 use Rattle.story_commands.specs.rules.Sweeps.{and_idle, cut_at, swept_part}
 use Rattle.story_commands.specs.rules.Sweeps.{HadMemory, HasFailedPlan, end_at, first_stopped}
-use Rattle.story_commands.specs.rules.Sweeps.{given_at, lives_after}
+use Rattle.story_commands.specs.rules.Sweeps.{TakesAllAnswers, given_at, lives_after}
 use Rattle.story_commands.specs.laws.CutRuns.{AreRun, CallsBegun, HasRunCut, HaveAgreed, IsCutFault}
 use Rattle.story_commands.specs.laws.CutRuns.{IsStarted, cut_of, IsPlainRun, IsPlanFault}
 use Rattle.story_commands.specs.laws.CutRuns.{IsSweepFault, IsSweepOf, IsSweptAt, IsTestFault}
-use Rattle.story_commands.specs.laws.CutRuns.{IsPlainUpTo, IsToldPlain}
+use Rattle.story_commands.specs.laws.CutRuns.{IsLeavingFault, IsPlainUpTo, IsToldPlain}
 
 -- a fault that is handed on
 pub kept_fault : {T : Type 0} (r : Result T SweepFault) (why : SweepFault)
@@ -78,6 +78,7 @@ pub plan_ends : (wasm : List ℕ) (config : Settings) (lives : List PlannedLife)
     → IsSweepFault wasm config lives place why
 plan_ends wasm config lives place fault.Memory h = tt
 plan_ends wasm config lives place (fault.Plan number why) h = h
+plan_ends wasm config lives place (fault.AnswersLeft number taken all) h = absurd h
 plan_ends wasm config lives place (fault.Upgrade run) h = absurd h
 plan_ends wasm config lives place (fault.Differs run) h = record {
   run = run.lives;
@@ -86,6 +87,16 @@ plan_ends wasm config lives place (fault.Differs run) h = record {
   fed = h.1.fed;
   which = inl h.0;
 }
+
+-- lives that leave answers
+pub leaving_ends : (wasm : List ℕ) (config : Settings) (lives : List PlannedLife) (place : ℕ)
+    (why : SweepFault) → IsLeavingFault wasm config lives why
+    → IsSweepFault wasm config lives place why
+leaving_ends wasm config lives place fault.Memory h = tt
+leaving_ends wasm config lives place (fault.Plan number why) h = absurd h
+leaving_ends wasm config lives place (fault.AnswersLeft number taken all) h = h
+leaving_ends wasm config lives place (fault.Upgrade run) h = absurd h
+leaving_ends wasm config lives place (fault.Differs run) h = absurd h
 
 pub plain_ends : (wasm : List ℕ) (config : Settings) (lives : List PlannedLife) (place : ℕ)
     (run : RunLives) → IsPlainRun wasm config lives run
@@ -143,6 +154,8 @@ pub upgrade_ends : (wasm : List ℕ) (config : Settings) (lives : List PlannedLi
     → IsSweepFault wasm config lives place why
 upgrade_ends wasm config lives place plain sweep fault.Memory is of h = tt
 upgrade_ends wasm config lives place plain sweep (fault.Plan number why) is of h = absurd h
+upgrade_ends wasm config lives place plain sweep (fault.AnswersLeft number taken all) is of h =
+    absurd h
 upgrade_ends wasm config lives place plain sweep (fault.Differs run) is of h = absurd h
 upgrade_ends wasm config lives place plain sweep (fault.Upgrade run) is of (before, tells, fed)
     = record {
@@ -169,6 +182,9 @@ pub cut_ends : (wasm : List ℕ) (config : Settings) (lives : List PlannedLife) 
     → IsSweepFault wasm config lives place why
 cut_ends wasm config lives place plain sweep calls fault.Memory is of begun h = tt
 cut_ends wasm config lives place plain sweep calls (fault.Plan number why) is of begun h = absurd h
+cut_ends wasm config lives place plain sweep calls (fault.AnswersLeft number taken all) is of begun
+    h =
+    absurd h
 cut_ends wasm config lives place plain sweep calls (fault.Upgrade run) is of begun h = absurd h
 cut_ends wasm config lives place plain sweep calls (fault.Differs run) is of begun
     (at, given, within, lives_are, has) = record {
@@ -222,13 +238,15 @@ pub all_agree : (wasm : List ℕ) (config : Settings) (lives : List PlannedLife)
     (fronts : List ℕ) (plain : RunLives) (texts : List NumberedLine) (sweep : Sweep)
     (calls cuts lines : ℕ) → IsToldPlain wasm config lives place plain texts calls
     → IsSweepOf wasm config lives place plain.reports sweep → sweep.texts.now ≡ texts
-    → HaveAgreed sweep calls fronts cuts
+    → ((at : ℕ) → TakesAllAnswers wasm config lives at) → HaveAgreed sweep calls fronts cuts
     → lines ≡ length texts → IsSwept wasm config lives place fronts cuts lines
-all_agree wasm config lives place fronts plain texts sweep calls cuts lines told of same swept count
+all_agree wasm config lives place fronts plain texts sweep calls cuts lines told of same taken swept
+    count
     = record {
       plain = plain.reports;
       tells = plain_tells wasm config lives plain told.is_plain;
       finished = told.is_plain.finished;
+      all_taken = taken;
       texts = texts;
       texts_are = told.texts_are;
       lines_are = count;

@@ -14,13 +14,16 @@ use Rattle.command_words.specs.rules.Printers.{PrinterState, IsSaid, HasOneFaile
 use Rattle.command_words.specs.rules.Printers.{printers}
 use Rattle.command_words.specs.declared.status.Status.{Status}
 use Rattle.command_words.specs.declared.status.Status.TheVariants as exit
-use Rattle.story_commands.specs.rules.Stories.{script_line, story_config}
+use Rattle.story_commands.specs.rules.Stories.{script_lines, story_config}
+use Rattle.story_commands.specs.declared.stories.fault.LineCause.{LineCause}
 use Rattle.story_commands.specs.declared.stories.fault.ScriptFault.{ScriptFault}
 use Rattle.story_commands.specs.declared.stories.fault.ScriptFault.TheVariants as unread
+use Rattle.story_commands.specs.declared.sweeping.reading.SweepScriptFault.{SweepScriptFault}
+use Rattle.story_commands.specs.declared.sweeping.reading.SweepScriptFault.TheVariants as unswept
 use Rattle.story_commands.specs.rules.Sweeps.{AreCompared, AreSweptLives, HasFailedPlan}
-use Rattle.story_commands.specs.rules.Sweeps.{IsDoneAgain, IsSwept}
+use Rattle.story_commands.specs.rules.Sweeps.{IsDoneAgain, IsSwept, IsUnreadSweep, LeavesAnswers}
 use Rattle.story_commands.specs.rules.SweepTexts.{IsOfScript, IsUnsweepable, SaysScriptFault}
-use Rattle.story_commands.specs.rules.SweepTexts.{TellsSweep, no_upgrade_line}
+use Rattle.story_commands.specs.rules.SweepTexts.{TellsSweep, answers_left_line, no_upgrade_line}
 use Rattle.story_commands.specs.Said.{SaysDifference, SaysPlan, SaysSwept}
 use Rattle.story_commands.specs.declared.sweeping.fault.SweepFault.{SweepFault}
 use Rattle.story_commands.specs.declared.sweeping.fault.SweepFault.TheVariants as fault
@@ -31,13 +34,13 @@ use Rattle.story_commands.specs.laws.SweepEnds.{SaysEnd}
 -- what is wrong with a script, by its fault
 pub script_fault_said : (why : ScriptFault) (old : PrinterState) (status : Status)
     (new : PrinterState)
-    → ((number : ℕ) → why ≡ unread.Line number
-    → SaysText (script_line number) exit.Usage old status new)
+    → ((number : ℕ) (cause : LineCause) → why ≡ unread.Line number cause
+    → SaysText (script_lines number cause) exit.Usage old status new)
     → (why ≡ unread.Memory → IsSaid exit.OutOfMemory old status new)
-    → SaysScriptFault old status new
-script_fault_said (unread.Line number) old status new faulty starved =
-    inl (number, faulty number refl)
-script_fault_said unread.Memory old status new faulty starved = inr (inr (starved refl))
+    → SaysScriptFault (unswept.Script why) old status new
+script_fault_said (unread.Line number cause) old status new faulty starved =
+    faulty number cause refl
+script_fault_said unread.Memory old status new faulty starved = starved refl
 
 module _ (script wasm : List ℕ) (sizes : Sizes) (fronts : List ℕ) (number : Option ℕ)
     (out out' err mid err' : PrinterState) (steady : mid.failed ≡ err.failed) where
@@ -199,17 +202,19 @@ module _ (script wasm : List ℕ) (sizes : Sizes) (fronts : List ℕ) (number : 
   seven = says_unwritten script wasm sizes fronts number out out' err err err' refl
 
   -- a script that can't be read
-  pub unread_now : (status : Status) → SaysScriptFault err status err' → out' ≡ out → Now status
-  unread_now status (inl (line, inl said)) stays =
-      subst Now (sym said.0) (two (inl (line, said.1.0)) stays said.1.1)
-  unread_now status (inl (line, inr unsaid)) stays =
+  pub unread_now : (why : SweepScriptFault) (status : Status)
+      → IsUnreadSweep (lines_of script) number why → SaysScriptFault why err status err'
+      → out' ≡ out → Now status
+  unread_now (unswept.Script (unread.Line line cause)) status is (inl said) stays =
+      subst Now (sym said.0) (two (inl (line, cause, is, said.1.0)) stays said.1.1)
+  unread_now (unswept.Script (unread.Line line cause)) status is (inr unsaid) stays =
       subst Now (sym unsaid.0) (seven (inr unsaid.1))
-  unread_now status (inr (inl (inl said))) stays =
-      subst Now (sym said.0) (two (inr (inl said.1.0)) stays said.1.1)
-  unread_now status (inr (inl (inr unsaid))) stays =
-      subst Now (sym unsaid.0) (seven (inr unsaid.1))
-  unread_now status (inr (inr said)) stays =
+  unread_now (unswept.Script unread.Memory) status is said stays =
       said_starved script wasm sizes fronts number out out' err err err' refl status said stays
+  unread_now unswept.NoLife status is (inl said) stays =
+      subst Now (sym said.0) (two (inr (inl (is, said.1.0))) stays said.1.1)
+  unread_now unswept.NoLife status is (inr unsaid) stays =
+      subst Now (sym unsaid.0) (seven (inr unsaid.1))
 
   -- a life that has ended by an error without a cut
   pub planned_now : (lives : List PlannedLife) (place : ℕ)
@@ -237,6 +242,32 @@ module _ (script wasm : List ℕ) (sizes : Sizes) (fronts : List ℕ) (number : 
   planned_now lives place spelled prepared prepares life why failed status (inr (inr un)) stays =
       subst Now (sym un.0) (seven (inr un.1))
 
+  -- a life that has taken fewer answers than the script has for it
+  pub left_now : (lives : List PlannedLife) (place : ℕ)
+      → AreSweptLives (lines_of script) number lives place
+      → (prepared : Prepared) → IsPreparedAs (story_config sizes) wasm prepared
+      → (life taken all : ℕ) → LeavesAnswers wasm prepared.config lives life taken all
+      → (status : Status) → SaysText (answers_left_line life taken all) exit.Usage err status err'
+      → out' ≡ out → Now status
+  left_now lives place spelled prepared prepares life taken all leaves status (inl said) stays =
+      subst Now (sym said.0) (two (inr (inr (inr (inl (record {
+        lives = lives;
+        place = place;
+        spelled = spelled;
+        prepared = prepared;
+        prepares = prepares;
+        holds = (
+          life,
+          taken,
+          all,
+          subst (λ (c : Settings). LeavesAnswers wasm c lives life taken all)
+              prepares.config_is leaves,
+          said.1.0,
+        );
+      }))))) stays said.1.1)
+  left_now lives place spelled prepared prepares life taken all leaves status (inr unsaid) stays =
+      subst Now (sym unsaid.0) (seven (inr unsaid.1))
+
   -- an upgrade that can't be done again
   pub upgraded_now : (lives : List PlannedLife) (place : ℕ)
       → AreSweptLives (lines_of script) number lives place
@@ -245,7 +276,7 @@ module _ (script wasm : List ℕ) (sizes : Sizes) (fronts : List ℕ) (number : 
       → (status : Status) → SaysText no_upgrade_line exit.Usage err status err' → out' ≡ out
       → Now status
   upgraded_now lives place spelled prepared prepares again status (inl said) stays =
-      subst Now (sym said.0) (two (inr (inr (inr (
+      subst Now (sym said.0) (two (inr (inr (inr (inr (
         record {
           lives = lives;
           place = place;
@@ -255,7 +286,7 @@ module _ (script wasm : List ℕ) (sizes : Sizes) (fronts : List ℕ) (number : 
           holds = subst (λ (c : Settings). IsDoneAgain wasm c lives place) prepares.config_is again;
         },
         said.1.0,
-      )))) stays said.1.1)
+      ))))) stays said.1.1)
   upgraded_now lives place spelled prepared prepares again status (inr unsaid) stays =
       subst Now (sym unsaid.0) (seven (inr unsaid.1))
 
@@ -304,6 +335,13 @@ ended_now script wasm sizes fronts number out out' err mid err' lives place spel
     planned_now script wasm sizes fronts number out out' err err' lives place spelled prepared
     prepares life why failed status
     (subst (λ (p : PrinterState). SaysPlan life why p err' status) (quiet tt) said.0) said.1
+ended_now script wasm sizes fronts number out out' err mid err' lives place spelled prepared
+    prepares
+    (Err (fault.AnswersLeft life taken all)) ok failed heeds quiet status said =
+    left_now script wasm sizes fronts number out out' err err' lives place spelled prepared
+    prepares life taken all failed status
+    (subst (λ (p : PrinterState). SaysText (answers_left_line life taken all) exit.Usage p status
+    err') (quiet tt) said.0) said.1
 ended_now script wasm sizes fronts number out out' err mid err' lives place spelled prepared
     prepares
     (Err (fault.Upgrade run)) ok failed heeds quiet status said =

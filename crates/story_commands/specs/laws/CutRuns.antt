@@ -17,8 +17,9 @@ use Rattle.story_commands.specs.declared.sweeping.fault.SweepFault.TheVariants a
 use Rattle.story_commands.specs.declared.sweeping.running.RunLives.{RunLives}
 use Rattle.story_commands.specs.rules.Sweeps.{AreTextsOf, AreCompared, AreCutsOf, AreCutsTo}
 use Rattle.story_commands.specs.rules.Sweeps.{HadMemory, HasFailedPlan, HasDoneAll, IsCutRun}
-use Rattle.story_commands.specs.rules.Sweeps.{IsDoneAgain, and_idle, cut_at, end_at, given_at}
-use Rattle.story_commands.specs.rules.Sweeps.{given_to, lines_told, lives_after, swept_part}
+use Rattle.story_commands.specs.rules.Sweeps.{IsDoneAgain, LeavesAnswers, and_idle, cut_at, end_at}
+use Rattle.story_commands.specs.rules.Sweeps.{given_at, given_to, lines_told, lives_after}
+use Rattle.story_commands.specs.rules.Sweeps.{swept_part}
 
 -- The life at this place was opened, its worker was given so many answers by then, and all from it
 -- on finished. The first texts of all lines are these, with those of other lives before.
@@ -138,17 +139,27 @@ IsPlanFault wasm config lives (fault.Differs run) =
     (run.lives ≡ and_idle lives) × AreRun wasm config run
 IsPlanFault wasm config lives other = ⊥
 
+-- the lives without a cut leave answers
+abbrev pub IsLeavingFault : List ℕ → Settings → List PlannedLife → SweepFault → Type 0
+IsLeavingFault wasm config lives fault.Memory = Unit {0}
+IsLeavingFault wasm config lives (fault.AnswersLeft number taken all) =
+    LeavesAnswers wasm config lives number taken all
+IsLeavingFault wasm config lives other = ⊥
+
 -- what was run, by why a sweep ends early
 abbrev pub IsSweepFault : List ℕ → Settings → List PlannedLife → ℕ → SweepFault → Type 0
 IsSweepFault wasm config lives place fault.Memory = Unit {0}
 IsSweepFault wasm config lives place (fault.Plan number why) =
     HasFailedPlan wasm config lives number why
+IsSweepFault wasm config lives place (fault.AnswersLeft number taken all) =
+    LeavesAnswers wasm config lives number taken all
 IsSweepFault wasm config lives place (fault.Upgrade run) = IsDoneAgain wasm config lives place
 IsSweepFault wasm config lives place (fault.Differs run) = AreCompared wasm config lives place
 
 -- it is found before anything is cut
 abbrev pub IsFoundFirst : SweepFault → Type 0
 IsFoundFirst (fault.Plan number why) = Unit {0}
+IsFoundFirst (fault.AnswersLeft number taken all) = Unit {0}
 IsFoundFirst (fault.Upgrade run) = Unit {0}
 IsFoundFirst other = ⊥
 

@@ -1,16 +1,17 @@
 -- Lives that are read line by line.
 use Rattle.std.specs.Prelude.{◌≡◌, ℕ, ◌≤◌, ◌-◌, ◌==◌, Bool, true, false, List, [], ◌∷◌, ◌++◌}
 use Rattle.std.specs.Prelude.{length, take, if◌then◌else◌, Option, Some, None, is_none, option_map}
-use Rattle.std.specs.Prelude.{option_and_then, IsSome}
+use Rattle.std.specs.Prelude.{option_and_then, slice_get}
 use Rattle.std.specs.List.{All}
 use Rattle.worker.specs.declared.story.life.PlannedLife.{PlannedLife}
 use Rattle.story_commands.specs.declared.stories.draft.StoryDraft.{StoryDraft}
 use Rattle.story_commands.specs.declared.stories.line.ScriptLine.{ScriptLine}
 use Rattle.story_commands.specs.declared.stories.line.ScriptLine.TheVariants as said
+use Rattle.story_commands.specs.declared.stories.fault.LineCause.{LineCause}
 use Rattle.story_commands.specs.declared.stories.fault.ScriptFault.{ScriptFault}
 use Rattle.story_commands.specs.declared.stories.fault.ScriptFault.TheVariants as fault
-use Rattle.story_commands.specs.rules.Scripts.{said_by}
-use Rattle.story_commands.specs.rules.Sweeps.{IsCalm}
+use Rattle.story_commands.specs.rules.Scripts.{line_cause, said_by, second_cause}
+use Rattle.story_commands.specs.rules.Sweeps.{IsCalm, swept_cause}
 
 -- a life into which nothing is put
 abbrev pub empty_life : PlannedLife
@@ -89,14 +90,57 @@ unfoldable pub put_texts : List (List ℕ) → StoryDraft → Option StoryDraft
 put_texts [] draft = Some draft
 put_texts (text ∷ texts) draft = option_and_then (put_texts texts) (put_text text draft)
 
--- the first line that can't be put
-pub record StopsReading (texts : List (List ℕ)) (draft : StoryDraft) (number : ℕ) : Type 0 where
+-- The first line that is refused, with the draft so far, and why.
+pub record StopsReading (Refuses : List ℕ → StoryDraft → LineCause → Type 0)
+    (texts : List (List ℕ)) (draft : StoryDraft) (number : ℕ) (why : LineCause) : Type 0 where
   pub from_one : 1 ≤ number
   pub inside : number ≤ length texts
-  pub before : IsSome (put_texts (take (number - 1) texts) draft)
-  pub stops : put_texts (take number texts) draft ≡ None
+  pub now : StoryDraft
+  pub before : put_texts (take (number - 1) texts) draft ≡ Some now
+  pub text : List ℕ
+  pub text_is : slice_get texts (number - 1) ≡ Some text
+  pub put_is : put_texts (take number texts) draft ≡ put_text text now
+  pub refuses : Refuses text now why
 
--- a fault names the first line that could not be put, or is out of memory
+-- it can't be put, and why
+abbrev pub CannotBePut : List ℕ → StoryDraft → LineCause → Type 0
+CannotBePut text draft why =
+    (put_text text draft ≡ None) × (why ≡ line_cause second_cause draft.is_begun text)
+
+-- whether a line was put, and what came of it, or why it was refused
+abbrev pub ComesOrRefuses : List ℕ → Option LineCause → StoryDraft → StoryDraft → Type 0
+ComesOrRefuses text None old new = put_text text old ≡ Some new
+ComesOrRefuses text (Some why) old new = CannotBePut text old why
+
+-- where it can be put, something befalls the last life then
+abbrev pub CannotStayCalm : List ℕ → StoryDraft → Type 0
+CannotStayCalm text draft =
+    (next : StoryDraft) → put_text text draft ≡ Some next → IsCalm next.life → ⊥
+
+-- whether a line was put and nothing befalls the last life then, and what came of it
+abbrev pub ComesCalm : Bool → List ℕ → StoryDraft → StoryDraft → Type 0
+ComesCalm true text old new = (put_text text old ≡ Some new) × IsCalm new.life
+ComesCalm false text old new = CannotStayCalm text old
+
+-- it can't be put so, and why
+abbrev pub CannotBePutCalm : List ℕ → StoryDraft → LineCause → Type 0
+CannotBePutCalm text draft why =
+    CannotStayCalm text draft × (why ≡ line_cause swept_cause draft.is_begun text)
+
+-- the same, or why it was refused
+abbrev pub ComesCalmOrRefuses : List ℕ → Option LineCause → StoryDraft → StoryDraft → Type 0
+ComesCalmOrRefuses text None old new = (put_text text old ≡ Some new) × IsCalm new.life
+ComesCalmOrRefuses text (Some why) old new = CannotBePutCalm text old why
+
+-- a fault names the first line that is refused, or is out of memory
 abbrev pub IsReadingFault : List (List ℕ) → StoryDraft → ScriptFault → Type 0
-IsReadingFault texts draft (fault.Line number) = StopsReading texts draft number
+IsReadingFault texts draft (fault.Line number why) =
+    StopsReading CannotBePut texts draft number why
 IsReadingFault texts draft fault.Memory = Unit {0}
+
+-- the same of lives that nothing befalls
+abbrev pub IsCalmReadingFault : List (List ℕ) → StoryDraft → ScriptFault → Type 0
+IsCalmReadingFault texts draft (fault.Line number why) = StopsReading
+    (λ text now cause. CannotBePutCalm text now cause × (IsCalmDraft draft → IsCalmDraft now))
+    texts draft number why
+IsCalmReadingFault texts draft fault.Memory = Unit {0}

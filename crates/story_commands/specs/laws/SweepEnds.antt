@@ -9,7 +9,7 @@ use Rattle.story_commands.specs.declared.sweeping.fault.SweepFault.{SweepFault}
 use Rattle.story_commands.specs.declared.sweeping.fault.SweepFault.TheVariants as fault
 use Rattle.story_commands.specs.declared.sweeping.whole_sweep.Swept.{Swept}
 use Rattle.story_commands.specs.Said.{SaysDifference, SaysPlan, SaysSwept}
-use Rattle.story_commands.specs.rules.SweepTexts.{no_upgrade_line}
+use Rattle.story_commands.specs.rules.SweepTexts.{answers_left_line, no_upgrade_line}
 
 -- What is printed on the two outputs, and the exit status. Where a person couldn't be shown how far
 -- it has come, nothing more is printed.
@@ -23,6 +23,9 @@ SaysEnd (Err fault.Memory) before after status =
     × (after.out ≡ before.out)
 SaysEnd (Err (fault.Plan number why)) before after status =
     SaysPlan number why before.err after.err status × (after.out ≡ before.out)
+SaysEnd (Err (fault.AnswersLeft number taken all)) before after status =
+    SaysText (answers_left_line number taken all) exit.Usage before.err status after.err
+    × (after.out ≡ before.out)
 SaysEnd (Err (fault.Upgrade run)) before after status =
     SaysText no_upgrade_line exit.Usage before.err status after.err × (after.out ≡ before.out)
 SaysEnd (Err (fault.Differs run)) before after status =

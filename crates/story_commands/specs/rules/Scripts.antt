@@ -1,7 +1,7 @@
 -- What a script says.
-use Rattle.std.specs.Prelude.{◌≡◌, ℕ, ◌≤◌, ◌-◌, ◌^◌, nat_le, nat_lt}
+use Rattle.std.specs.Prelude.{◌≡◌, ℕ, ◌≤◌, ◌-◌, ◌==◌, ◌^◌, nat_le, nat_lt, Bool, true, false}
 use Rattle.std.specs.Prelude.{List, [], ◌∷◌, ◌++◌, length, take, codes, map, if◌then◌else◌}
-use Rattle.std.specs.Prelude.{Option, Some, None, option_map, option_and_then}
+use Rattle.std.specs.Prelude.{Option, Some, None, is_none, option_map, option_and_then, slice_get}
 use Rattle.std.specs.List.{flat_map}
 use Rattle.std.specs.Option.{option_to_list}
 use Rattle.std.specs.Result.{result_ok}
@@ -17,6 +17,8 @@ use Rattle.worker.specs.declared.story.life.PlannedLife.{PlannedLife}
 use Rattle.command_words.specs.rules.Pieces.{split_once, pieces_of}
 use Rattle.story_commands.specs.declared.stories.line.ScriptLine.{ScriptLine}
 use Rattle.story_commands.specs.declared.stories.line.ScriptLine.TheVariants as said
+use Rattle.story_commands.specs.declared.stories.fault.LineCause.{LineCause}
+use Rattle.story_commands.specs.declared.stories.fault.LineCause.TheVariants as cause
 use Rattle.story_commands.specs.declared.stories.fault.ScriptFault.{ScriptFault}
 use Rattle.story_commands.specs.declared.stories.fault.ScriptFault.TheVariants as fault
 
@@ -207,14 +209,144 @@ abbrev pub IsScript : List (List ℕ) → List PlannedLife → Type 0
 IsScript texts lives = (lines : List ScriptLine) × (map said_by texts ≡ map Some lines)
     × AreLivesOf lines lives
 
--- The line of this number, from 1, is the first one after which the lines are no script.
-pub record IsFaultAt (texts : List (List ℕ)) (number : ℕ) : Type 0 where
+-- ---- why a line is refused
+
+-- why bytes spell no number: it is too large, or they aren't digits, one or more
+abbrev pub number_cause : List ℕ → LineCause
+number_cause digits =
+    if all_ascii_digits digits
+    then (if length digits == 0 then cause.NotANumber else cause.NumberTooLarge)
+    else cause.NotANumber
+
+-- why they spell no number, or else that it is out of a bound
+abbrev pub bounded_cause : LineCause → List ℕ → LineCause
+bounded_cause bound digits =
+    if is_none (number_spelled digits) then number_cause digits else bound
+
+-- Why a text behind a number is no front. If it is one, the number is 0.
+abbrev pub front_cause : List ℕ → LineCause
+front_cause behind =
+    if is_none (front_spelled behind) then bounded_cause cause.FrontTooLarge behind
+    else cause.NumberIsZero
+
+-- why two numbers aren't taken, by why the second one isn't
+abbrev pub pair_cause : (List ℕ → LineCause) → List ℕ × Option (List ℕ) → LineCause
+pair_cause second (digits, None) = bounded_cause cause.SecondNumberMissing digits
+pair_cause second (digits, Some behind) =
+    if is_none (number_spelled digits) then number_cause digits else second behind
+
+-- why a text is no call and front
+abbrev pub point_cause : List ℕ → LineCause
+point_cause text = pair_cause front_cause (split_once 32 text)
+
+-- why a text is no number of steps and `most`
+abbrev pub batch_cause : List ℕ → LineCause
+batch_cause text = pair_cause (bounded_cause cause.NumberIsZero) (split_once 32 text)
+
+-- whether one number must follow a word, and nothing else
+abbrev pub takes_number : List ℕ → Bool
+takes_number word =
+    if bytes_eq word (codes "realtime") then true
+    else if bytes_eq word (codes "monotonic") then true
+    else bytes_eq word (codes "slice")
+
+-- whether a call and a front must follow it
+abbrev pub takes_point : List ℕ → Bool
+takes_point word =
+    if bytes_eq word (codes "stop") then true else bytes_eq word (codes "fail")
+
+-- whether a space and more must follow it
+abbrev pub takes_more : List ℕ → Bool
+takes_more word =
+    if takes_number word then true
+    else if takes_point word then true
+    else if bytes_eq word (codes "request") then true
+    else if bytes_eq word (codes "refuse") then true
+    else if bytes_eq word (codes "batch") then true
+    else bytes_eq word (codes "tears")
+
+-- whether nothing may follow it
+abbrev pub stands_alone : List ℕ → Bool
+stands_alone word =
+    if bytes_eq word (codes "life") then true
+    else if bytes_eq word (codes "end") then true
+    else if bytes_eq word (codes "checkpoint") then true
+    else bytes_eq word (codes "upgrade")
+
+-- why a line says nothing that is one word
+abbrev pub alone_cause : List ℕ → LineCause
+alone_cause word =
+    if length word == 0 then cause.Empty
+    else if takes_more word then cause.WordLacksMore
+    else cause.UnknownWord
+
+-- why a word, a space and the rest say nothing
+abbrev pub with_cause : List ℕ → List ℕ → LineCause
+with_cause word rest =
+    if takes_number word then number_cause rest
+    else if takes_point word then point_cause rest
+    else if bytes_eq word (codes "refuse") then bounded_cause cause.NumberIsZero rest
+    else if bytes_eq word (codes "batch") then batch_cause rest
+    else if bytes_eq word (codes "random") then cause.NotHexadecimal
+    else if bytes_eq word (codes "tears") then cause.NotFronts
+    else if stands_alone word then cause.WordStandsAlone
+    else cause.UnknownWord
+
+-- why a line says nothing, cut at its first space
+abbrev pub cut_cause : List ℕ × Option (List ℕ) → LineCause
+cut_cause (word, None) = alone_cause word
+cut_cause (word, Some rest) = with_cause word rest
+
+-- why a line says nothing
+abbrev pub text_cause : List ℕ → LineCause
+text_cause text = cut_cause (split_once 32 text)
+
+-- why a line can't be in the life that is begun: that has one already
+abbrev pub second_cause : ScriptLine → LineCause
+second_cause (said.Stop point) = cause.SecondStop
+second_cause (said.Fail point) = cause.SecondFail
+second_cause (said.Refuse number) = cause.SecondRefuse
+second_cause (said.Tears fronts) = cause.SecondTears
+second_cause _ = cause.NoLifeBegun
+
+-- why a line that says something can't be there, where a life is begun, or where none is
+abbrev pub place_cause : (ScriptLine → LineCause) → Bool → ScriptLine → LineCause
+place_cause in_life true one = in_life one
+place_cause in_life false _ = cause.NoLifeBegun
+
+-- why a line is refused, by what it says, if anything
+abbrev pub said_cause : (ScriptLine → LineCause) → Bool → List ℕ → Option ScriptLine → LineCause
+said_cause in_life begun text None = text_cause text
+said_cause in_life begun text (Some line) = place_cause in_life begun line
+
+-- why the line of this text is refused, where a life is begun, or where none is
+abbrev pub line_cause : (ScriptLine → LineCause) → Bool → List ℕ → LineCause
+line_cause in_life begun text = said_cause in_life begun text (said_by text)
+
+-- whether there is a life
+abbrev pub has_a_life : List PlannedLife → Bool
+has_a_life [] = false
+has_a_life (life ∷ lives) = true
+
+-- The line of this number, from 1, is the first one after which the lines spell no lives, and this
+-- is why.
+pub record IsFaultIn (Spells : List (List ℕ) → List PlannedLife → Type 0)
+    (in_life : ScriptLine → LineCause) (texts : List (List ℕ)) (number : ℕ) (why : LineCause)
+    : Type 0 where
   pub from_one : 1 ≤ number
   pub inside : number ≤ length texts
-  pub before : (lives : List PlannedLife) × IsScript (take (number - 1) texts) lives
-  pub no_script : (lives : List PlannedLife) → IsScript (take number texts) lives → ⊥
+  pub lives : List PlannedLife
+  pub before : Spells (take (number - 1) texts) lives
+  pub none_spelled : (more : List PlannedLife) → Spells (take number texts) more → ⊥
+  pub text : List ℕ
+  pub text_is : slice_get texts (number - 1) ≡ Some text
+  pub why_is : why ≡ line_cause in_life (has_a_life lives) text
+
+-- so it is with a script
+abbrev pub IsFaultAt : List (List ℕ) → ℕ → LineCause → Type 0
+IsFaultAt texts number why = IsFaultIn IsScript second_cause texts number why
 
 -- out of memory says nothing of the script
 abbrev pub IsScriptFault : List (List ℕ) → ScriptFault → Type 0
-IsScriptFault texts (fault.Line number) = IsFaultAt texts number
+IsScriptFault texts (fault.Line number why) = IsFaultAt texts number why
 IsScriptFault texts fault.Memory = Unit {0}

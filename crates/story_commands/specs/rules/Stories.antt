@@ -28,6 +28,8 @@ use Rattle.command_words.specs.rules.Printers.{Printers, HeedsBoth}
 use Rattle.command_words.specs.rules.Texts.{named_number, printed}
 use Rattle.command_words.specs.declared.status.Status.{Status}
 use Rattle.command_words.specs.declared.status.Status.TheVariants as exit
+use Rattle.story_commands.specs.declared.stories.fault.LineCause.{LineCause}
+use Rattle.story_commands.specs.declared.stories.fault.LineCause.TheVariants as cause
 use Rattle.story_commands.specs.rules.Scripts.{IsScript, IsFaultAt}
 
 -- ---- the text
@@ -96,9 +98,33 @@ story_text first (report ∷ reports) = life_text first report ++ story_text (fi
 abbrev pub story_config : Sizes → Settings
 story_config sizes = config_as sizes [] []
 
--- the line that tells of a faulty line of the script
-abbrev pub script_line : ℕ → List ℕ
-script_line number = named_number (codes "failed script line ") number ++ codes "\n"
+-- the words for why a line of a script is refused
+abbrev pub line_cause_words : LineCause → List ℕ
+line_cause_words cause.Empty = codes "a line isn't empty"
+line_cause_words cause.UnknownWord = codes "no line begins with this word"
+line_cause_words cause.WordStandsAlone = codes "nothing may follow this word"
+line_cause_words cause.WordLacksMore = codes "a space and more must follow this word"
+line_cause_words cause.NotANumber =
+    codes "a number is decimal digits, one space behind what is before it"
+line_cause_words cause.NumberTooLarge = codes "a number is at most 18446744073709551615"
+line_cause_words cause.NumberIsZero = codes "this number is from 1 on"
+line_cause_words cause.SecondNumberMissing = codes "two numbers must follow this word"
+line_cause_words cause.FrontTooLarge = codes "a front is at most 512"
+line_cause_words cause.NotHexadecimal =
+    codes "random bytes are hexadecimal digits, two for each"
+line_cause_words cause.NotFronts =
+    codes "tears are numbers up to 512, with one space between each two"
+line_cause_words cause.NoLifeBegun = codes "a script begins with life"
+line_cause_words cause.SecondStop = codes "a life has at most one stop"
+line_cause_words cause.SecondFail = codes "a life has at most one fail"
+line_cause_words cause.SecondRefuse = codes "a life has at most one refuse"
+line_cause_words cause.SecondTears = codes "a life has at most one line of tears"
+line_cause_words cause.NotSwept = codes "a sweep takes no stop, fail, refuse or tears"
+
+-- the lines that tell of a faulty line of the script, and why it is refused
+abbrev pub script_lines : ℕ → LineCause → List ℕ
+script_lines number why = named_number (codes "failed script line ") number ++ codes "\n"
+    ++ line_cause_words why ++ codes "\n"
 
 -- The script spells lives, the module is accepted, and the text of what the worker's lives were is
 -- printed whole.
@@ -112,11 +138,12 @@ pub record IsStoryPrinted (script wasm : List ℕ) (sizes : Sizes) (out out' : O
   pub tells : TellsLives wasm (story_config sizes) lives reports
   pub printed_whole : Appends out out' (story_text 1 reports)
 
--- A line of the script is faulty, and its number is told.
+-- A line of the script is faulty, and its number and why it is refused are told.
 pub record IsLineReported (script : List ℕ) (err err' : Option (List ℕ)) : Type 0 where
   pub number : ℕ
-  pub faulty : IsFaultAt (lines_of script) number
-  pub said : Appends err err' (script_line number)
+  pub why : LineCause
+  pub faulty : IsFaultAt (lines_of script) number why
+  pub said : Appends err err' (script_lines number why)
 
 -- The script spells lives, and the configuration is out of its limits or the module isn't accepted.
 pub record IsStoryRefused (script wasm : List ℕ) (sizes : Sizes) : Type 0 where

@@ -16,9 +16,13 @@ use Rattle.command_words.specs.rules.Reports.{SaysLine, obstacle_words}
 use Rattle.command_words.specs.rules.Texts.{named_number}
 use Rattle.command_words.specs.declared.status.Status.{Status}
 use Rattle.command_words.specs.declared.status.Status.TheVariants as exit
-use Rattle.story_commands.specs.rules.Stories.{error_name, script_line, story_config}
+use Rattle.story_commands.specs.declared.stories.fault.LineCause.{LineCause}
+use Rattle.story_commands.specs.declared.stories.fault.ScriptFault.TheVariants as unread
+use Rattle.story_commands.specs.declared.sweeping.reading.SweepScriptFault.{SweepScriptFault}
+use Rattle.story_commands.specs.declared.sweeping.reading.SweepScriptFault.TheVariants as unswept
+use Rattle.story_commands.specs.rules.Stories.{error_name, script_lines, story_config}
 use Rattle.story_commands.specs.rules.Sweeps.{AreCompared, AreSweptLives, HasFailedPlan}
-use Rattle.story_commands.specs.rules.Sweeps.{IsDoneAgain, IsSwept}
+use Rattle.story_commands.specs.rules.Sweeps.{IsDoneAgain, IsSwept, IsUnreadSweep, LeavesAnswers}
 
 -- ---- the text
 
@@ -47,6 +51,12 @@ abbrev pub plan_line : ℕ → RecoverFault → List ℕ
 plan_line number why = codes "the script's " ++ (named_number (codes "life ") number
     ++ codes " ended " ++ error_name why ++ codes "\n")
 
+-- how many of its answers the life of this number takes, and what to do
+abbrev pub answers_left_line : (number taken all : ℕ) → List ℕ
+answers_left_line number taken all = named_number (codes "the script's life ") number
+    ++ codes " took " ++ decimal taken ++ codes " of " ++ decimal all
+    ++ codes " answers: give its slices more steps, or take answers out\n"
+
 -- that an upgrade can't be done again
 abbrev pub no_upgrade_line : List ℕ
 no_upgrade_line = codes "the script's upgrade can't be done again after a cut" ++ newline ∷ []
@@ -68,11 +78,13 @@ pub record IsSweepDone (script wasm : List ℕ) (sizes : Sizes) (fronts : List �
   pub printed_whole : Appends out out' (swept_line cuts count)
 
 -- what is wrong with a script is printed, or memory is wanted for it
-abbrev pub SaysScriptFault : PrinterState → Status → PrinterState → Type 0
-SaysScriptFault old status new =
-    ((number : ℕ) × SaysText (script_line number) exit.Usage old status new)
-    ⊎ SaysLine (obstacle_words NoLife) exit.Usage old status new
-    ⊎ IsSaid exit.OutOfMemory old status new
+abbrev pub SaysScriptFault : SweepScriptFault → PrinterState → Status → PrinterState → Type 0
+SaysScriptFault (unswept.Script (unread.Line number why)) old status new =
+    SaysText (script_lines number why) exit.Usage old status new
+SaysScriptFault (unswept.Script unread.Memory) old status new =
+    IsSaid exit.OutOfMemory old status new
+SaysScriptFault unswept.NoLife old status new =
+    SaysLine (obstacle_words NoLife) exit.Usage old status new
 
 -- The script spells lives that nothing befalls, the module is accepted, and this is so of them.
 pub record IsOfScript (script wasm : List ℕ) (sizes : Sizes) (number : Option ℕ)
@@ -84,16 +96,23 @@ pub record IsOfScript (script wasm : List ℕ) (sizes : Sizes) (number : Option 
   pub prepares : IsPreparedAs (story_config sizes) wasm prepared
   pub holds : is lives place
 
--- Why nothing is cut, as it is printed: a line is faulty, or there is no such life; or a life has
--- ended by an error without a cut, or the upgrade can't be done again.
+-- Why nothing is cut, as it is printed: a line is faulty, or there is no such life. Or a life has
+-- ended by an error without a cut, or takes fewer answers than the script has for it. Or the
+-- upgrade can't be done again.
 abbrev pub IsUnsweepable : List ℕ → List ℕ → Sizes → Option ℕ → Option (List ℕ)
     → Option (List ℕ) → Type 0
 IsUnsweepable script wasm sizes number err err' =
-    ((line : ℕ) × Appends err err' (script_line line))
-    ⊎ Appends err err' (obstacle_words NoLife ++ newline ∷ [])
+    ((line : ℕ) × (why : LineCause)
+    × IsUnreadSweep (lines_of script) number (unswept.Script (unread.Line line why))
+    × Appends err err' (script_lines line why))
+    ⊎ (IsUnreadSweep (lines_of script) number unswept.NoLife
+    × Appends err err' (obstacle_words NoLife ++ newline ∷ []))
     ⊎ IsOfScript script wasm sizes number (λ lives place. (life : ℕ) × (why : RecoverFault)
     × HasFailedPlan wasm (story_config sizes) lives life why
     × Appends err err' (plan_line life why))
+    ⊎ IsOfScript script wasm sizes number (λ lives place. (life : ℕ) × (taken : ℕ) × (all : ℕ)
+    × LeavesAnswers wasm (story_config sizes) lives life taken all
+    × Appends err err' (answers_left_line life taken all))
     ⊎ (IsOfScript script wasm sizes number (IsDoneAgain wasm (story_config sizes))
     × Appends err err' no_upgrade_line)
 

@@ -10,7 +10,7 @@ use Rattle.wasi_abi.specs.rules.Configs.{Settings}
 use Rattle.sector_disk.specs.declared.fault_point.FaultPoint.{FaultPoint}
 use Rattle.record_replay.specs.declared.line_list.NumberedLine.{NumberedLine}
 use Rattle.worker.specs.declared.story.life.PlannedAct.{PlannedAct}
-use Rattle.worker.specs.declared.story.life.PlannedAct.TheVariants.{Slice, Upgrade}
+use Rattle.worker.specs.declared.story.life.PlannedAct.TheVariants.{Checkpoint, Slice, Upgrade}
 use Rattle.worker.specs.declared.story.life.PlannedLife.{PlannedLife}
 use Rattle.worker.specs.declared.story.report.LifeEnd.{LifeEnd}
 use Rattle.worker.specs.declared.story.report.LifeEnd.TheVariants.{Finished, Stopped, Failed}
@@ -24,7 +24,14 @@ use Rattle.worker.specs.declared.recover_fault.RecoverFault.TheVariants as recov
 use Rattle.worker.specs.rules.RecoverFaults.{wants_memory}
 use Rattle.worker.specs.rules.StoryDisks.{TellsLives}
 use Rattle.story_commands.specs.declared.sweeping.planning.TheConstants.{TO_QUESTION}
-use Rattle.story_commands.specs.rules.Scripts.{IsScript}
+use Rattle.story_commands.specs.declared.stories.line.ScriptLine.{ScriptLine}
+use Rattle.story_commands.specs.declared.stories.fault.LineCause.{LineCause}
+use Rattle.story_commands.specs.declared.stories.fault.LineCause.TheVariants.{NotSwept}
+use Rattle.story_commands.specs.declared.stories.fault.ScriptFault.{ScriptFault}
+use Rattle.story_commands.specs.declared.stories.fault.ScriptFault.TheVariants as unread
+use Rattle.story_commands.specs.declared.sweeping.reading.SweepScriptFault.{SweepScriptFault}
+use Rattle.story_commands.specs.declared.sweeping.reading.SweepScriptFault.TheVariants as unswept
+use Rattle.story_commands.specs.rules.Scripts.{IsFaultIn, IsScript}
 
 -- ---- scripts
 
@@ -39,6 +46,16 @@ pub record IsCalm (life : PlannedLife) : Type 0 where
 abbrev pub IsCalmScript : List (List ℕ) → List PlannedLife → Type 0
 IsCalmScript texts lives = IsScript texts lives × All IsCalm lives
 
+-- why a line can't be in a life of a sweep: it would befall the worker
+abbrev pub swept_cause : ScriptLine → LineCause
+swept_cause _ = NotSwept
+
+-- what is wrong with such a script; out of memory says nothing of it
+abbrev pub IsCalmScriptFault : List (List ℕ) → ScriptFault → Type 0
+IsCalmScriptFault texts (unread.Line number why) =
+    IsFaultIn IsCalmScript swept_cause texts number why
+IsCalmScriptFault texts unread.Memory = Unit {0}
+
 -- The life that is swept, by its place from 0 on: that of this number from 1 on, or the last one.
 abbrev pub IsSweptLife : List PlannedLife → Option ℕ → ℕ → Type 0
 IsSweptLife lives number place =
@@ -48,6 +65,12 @@ IsSweptLife lives number place =
 abbrev pub AreSweptLives : List (List ℕ) → Option ℕ → List PlannedLife → ℕ → Type 0
 AreSweptLives texts number lives place =
     IsCalmScript texts lives × IsSweptLife lives number place
+
+-- Why no life is swept: a line is faulty, or the script has no life of this number.
+abbrev pub IsUnreadSweep : List (List ℕ) → Option ℕ → SweepScriptFault → Type 0
+IsUnreadSweep texts number (unswept.Script fault) = IsCalmScriptFault texts fault
+IsUnreadSweep texts number unswept.NoLife = (lives : List PlannedLife) × IsCalmScript texts lives
+    × ((place : ℕ) → IsSweptLife lives number place → ⊥)
 
 -- ---- the lives without a cut
 
@@ -126,6 +149,26 @@ kept_in told answers = take (given_at 1 told - given_at 0 told) answers
 abbrev pub answers_kept : List PlannedLife → List LifeReport → List Answer
 answers_kept [] told = []
 answers_kept (life ∷ lives) told = kept_in told life.answers ++ answers_kept lives (drop 1 told)
+
+-- a life that is saved behind all that it is told
+abbrev pub checkpointed_life : PlannedLife → PlannedLife
+checkpointed_life life = record life { acts = life.acts ++ Checkpoint ∷ [] }
+
+-- So many answers a life takes that comes behind these. It is saved at its end, so the next one
+-- tells all that its worker was given. None of them wanted memory.
+pub record TakesAnswers (wasm : List ℕ) (config : Settings) (earlier : List PlannedLife)
+    (life : PlannedLife) (taken : ℕ) : Type 0 where
+  pub reports : List LifeReport
+  pub tells : TellsLives wasm config (and_idle (earlier ++ checkpointed_life life ∷ [])) reports
+  pub fed : All HadMemory reports
+  pub taken_is : taken
+      ≡ given_at (length earlier + 1) reports - given_at (length earlier) reports
+
+-- the life at this place takes all answers that the script has for it
+abbrev pub TakesAllAnswers : List ℕ → Settings → List PlannedLife → ℕ → Type 0
+TakesAllAnswers wasm config lives place = (life : PlannedLife)
+    → slice_get lives place ≡ Some life → (taken : ℕ)
+    × TakesAnswers wasm config (take place lives) life taken × (length life.answers ≤ taken)
 
 -- ---- the lives of a cut
 
@@ -266,15 +309,16 @@ pub record IsCutRun (wasm : List ℕ) (config : Settings) (of : SweptPartValue)
   pub more : List NumberedLine
   pub agrees : AreTextsOf (texts ++ more) (flat_map lines_told reports)
 
--- The lives were run without a cut, were opened, and did all that they were told. Then they were
--- run with each cut of the life at this place: of a read or a sync with one, of a write with one
--- for each front. Those are so many cuts, and of the lines so many numbers. `before` is how many
--- answers come before an upgrade that is done again.
+-- The lives were run without a cut, were opened, did all that they were told, and took all answers
+-- that the script has for them. Then they were run with each cut of the life at this place: of a
+-- read or a sync with one, of a write with one for each front. Those are so many cuts, and of the
+-- lines so many numbers. `before` is how many answers come before an upgrade that is done again.
 pub record IsSwept (wasm : List ℕ) (config : Settings) (lives : List PlannedLife) (place : ℕ)
     (fronts : List ℕ) (cuts lines : ℕ) : Type 0 where
   pub plain : List LifeReport
   pub tells : TellsLives wasm config (and_idle lives) plain
   pub finished : All HasDoneAll plain
+  pub all_taken : (at : ℕ) → TakesAllAnswers wasm config lives at
   pub texts : List NumberedLine
   pub texts_are : AreTextsOf texts (flat_map lines_told plain)
   pub lines_are : lines ≡ length texts
@@ -300,6 +344,19 @@ pub record HasFailedPlan (wasm : List ℕ) (config : Settings) (lives : List Pla
   pub within : place < length lives
   pub done : All HasDoneAll (take place plain)
   pub failed : end_at place plain ≡ Some (Failed why)
+
+-- The life of this number is the first that takes fewer answers than the script has for it: so many
+-- of so many.
+pub record LeavesAnswers (wasm : List ℕ) (config : Settings) (lives : List PlannedLife)
+    (number taken all : ℕ) : Type 0 where
+  pub place : ℕ
+  pub number_is : number ≡ place + 1
+  pub life : PlannedLife
+  pub life_is : slice_get lives place ≡ Some life
+  pub before : (at : ℕ) → at < place → TakesAllAnswers wasm config lives at
+  pub takes : TakesAnswers wasm config (take place lives) life taken
+  pub all_is : all ≡ length life.answers
+  pub fewer : taken < all
 
 -- The lives after a cut, where the swept life does nothing and isn't cut. So the upgrade comes
 -- again at the first question behind its answers. None of them wanted memory.

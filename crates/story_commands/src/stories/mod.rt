@@ -1,6 +1,7 @@
 //! Stories of a worker: scripts of lives, and what is printed of them.
 
 mod calm;
+mod causes;
 mod draft;
 mod fault;
 mod keywords;
@@ -12,7 +13,7 @@ mod spelling;
 mod telling;
 
 pub(crate) use calm::read_calm_script;
-pub use fault::ScriptFault;
+pub use fault::{LineCause, ScriptFault};
 pub(crate) use keywords::read_fronts;
 pub use line::ScriptLine;
 pub use script::read_script;

@@ -13,7 +13,7 @@ use worker::story::PlannedAct;
 /// The number of bytes of a sector.
 const SECTOR_BYTES: u64 = 512;
 
-fn all_digits(bytes: &[u8]) -> bool
+pub(super) fn all_digits(bytes: &[u8]) -> bool
     ensures { result ≡ list_all is_ascii_digit bytes.now }
 {
     bytes.iter().all(|byte| byte.is_ascii_digit())

@@ -3,11 +3,13 @@
 ghost use Rattle.std.specs.Prelude.{◌≡◌, ℕ, IfOk};
 ghost use Rattle.command_words.specs.rules.Printers.{IsSaid, SaysText, printers};
 ghost use Rattle.command_words.specs.declared.status.Status.TheVariants as exit;
+ghost use Rattle.story_commands.specs.declared.stories.fault.LineCause.{LineCause};
 ghost use Rattle.story_commands.specs.declared.stories.fault.ScriptFault.TheVariants.{Line, Memory};
-ghost use Rattle.story_commands.specs.rules.Stories.{TellsStory, script_line, story_text};
+ghost use Rattle.story_commands.specs.rules.Stories.{TellsStory, line_cause_words, script_lines};
+ghost use Rattle.story_commands.specs.rules.Stories.{story_text};
 ghost use Rattle.story_commands.specs.Said.{SaysLives};
 
-use crate::stories::fault::ScriptFault;
+use crate::stories::fault::{LineCause, ScriptFault};
 use crate::stories::script::read_script;
 use crate::stories::spelling::spell_lives;
 use command_words::{
@@ -26,11 +28,37 @@ fn text_of(alloc: Global, reports: &[LifeReport]) -> io::Result<Vec<u8>>
     Ok(text)
 }
 
-/// Writes which line of the script is faulty, and answers the exit status.
-fn say_faulty_line<E: Write + Drop>(err: &mut Printer<E>, number: u64) -> Status
-    ensures { SaysText (script_line number) exit.Usage err.old result err.new }
+/// The words for why a line is refused.
+fn words_of(cause: LineCause) -> &'static str
+    ensures { result.now ≡ line_cause_words cause }
 {
-    match writeln!(err, "failed script line {number}") {
+    match cause {
+        LineCause::Empty => "a line isn't empty",
+        LineCause::UnknownWord => "no line begins with this word",
+        LineCause::WordStandsAlone => "nothing may follow this word",
+        LineCause::WordLacksMore => "a space and more must follow this word",
+        LineCause::NotANumber => "a number is decimal digits, one space behind what is before it",
+        LineCause::NumberTooLarge => "a number is at most 18446744073709551615",
+        LineCause::NumberIsZero => "this number is from 1 on",
+        LineCause::SecondNumberMissing => "two numbers must follow this word",
+        LineCause::FrontTooLarge => "a front is at most 512",
+        LineCause::NotHexadecimal => "random bytes are hexadecimal digits, two for each",
+        LineCause::NotFronts => "tears are numbers up to 512, with one space between each two",
+        LineCause::NoLifeBegun => "a script begins with life",
+        LineCause::SecondStop => "a life has at most one stop",
+        LineCause::SecondFail => "a life has at most one fail",
+        LineCause::SecondRefuse => "a life has at most one refuse",
+        LineCause::SecondTears => "a life has at most one line of tears",
+        LineCause::NotSwept => "a sweep takes no stop, fail, refuse or tears",
+    }
+}
+
+/// Writes which line of the script is faulty, and why. Answers the exit status.
+fn say_faulty_line<E: Write + Drop>(err: &mut Printer<E>, number: u64, cause: LineCause) -> Status
+    ensures { SaysText (script_lines number cause) exit.Usage err.old result err.new }
+{
+    let words = words_of(cause);
+    match writeln!(err, "failed script line {number}\n{words}") {
         Ok(()) => Status::Usage,
         Err(_) => Status::Unwritten,
     }
@@ -38,12 +66,12 @@ fn say_faulty_line<E: Write + Drop>(err: &mut Printer<E>, number: u64) -> Status
 
 /// Writes what is wrong with a script, and answers the exit status.
 pub fn report_script<E: Write + Drop>(err: &mut Printer<E>, fault: ScriptFault) -> Status
-    ensures faulty { (number : ℕ) → fault ≡ Line number
-        → SaysText (script_line number) exit.Usage err.old result err.new }
+    ensures faulty { (number : ℕ) (cause : LineCause) → fault ≡ Line number cause
+        → SaysText (script_lines number cause) exit.Usage err.old result err.new }
     ensures starved { fault ≡ Memory → IsSaid exit.OutOfMemory err.old result err.new }
 {
     match fault {
-        ScriptFault::Line { number } => say_faulty_line(err, number),
+        ScriptFault::Line { number, cause } => say_faulty_line(err, number, cause),
         ScriptFault::Memory => report(err, Obstacle::Memory),
     }
 }
@@ -93,7 +121,7 @@ pub fn tell<W: Write + Drop, E: Write + Drop>(
 {
     let lives = match read_script(alloc, script) {
         Ok(lives) => lives,
-        Err(ScriptFault::Line { number }) => return say_faulty_line(err, number),
+        Err(ScriptFault::Line { number, cause }) => return say_faulty_line(err, number, cause),
         Err(ScriptFault::Memory) => return report(err, Obstacle::Memory),
     };
     let prepared = match prepare(alloc, wasm, sizes, &[], &[]) {

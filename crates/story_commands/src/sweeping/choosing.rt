@@ -1,6 +1,6 @@
 //! Which life is swept, and what its cuts leave.
 
-ghost use Rattle.std.specs.Prelude.{◌≡◌, IfOk, IfSome, Some};
+ghost use Rattle.std.specs.Prelude.{◌≡◌, ℕ, IfNone, IfOk, IfSome, Some};
 ghost use Rattle.std.specs.Option.{option_map_or};
 ghost use Rattle.story_commands.specs.rules.Scripts.{fronts_between};
 ghost use Rattle.story_commands.specs.rules.Sweeps.{IsSweptLife, default_fronts};
@@ -28,7 +28,8 @@ pub fn fronts_of(alloc: Global, said: Option<&str>) -> Result<Vec<u16>, Obstacle
 
 /// The place of the life of this number from 1 on, or of the last one, if there is one.
 pub(super) fn swept_place(lives: &[PlannedLife], number: Option<u64>) -> Option<usize>
-    ensures { IfSome result (IsSweptLife lives.now number) }
+    ensures found { IfSome result (IsSweptLife lives.now number) }
+    ensures none { IfNone result ((place : ℕ) → IsSweptLife lives.now number place → ⊥) }
 {
     let count = lives.len();
     let number = number.unwrap_or(count as u64);

@@ -15,6 +15,8 @@ pub(crate) enum SweepFault {
     Memory,
     /// The life of this number, from 1 on, ends by an error in the run without a cut.
     Plan { number: u64, why: RecoverFault },
+    /// The life of this number, from 1 on, takes so many of all answers that the script has for it.
+    AnswersLeft { number: u64, taken: u64, all: u64 },
     /// Where the upgrade is done again without a cut, these lives don't tell the same lines.
     Upgrade { run: RunLives },
     /// One of these lives wasn't opened or hasn't done all, or a line of them is missing or has two

@@ -11,6 +11,7 @@ mod reading;
 mod running;
 mod spelling;
 mod starving;
+mod taking;
 mod telling;
 mod texts;
 mod upgrading;

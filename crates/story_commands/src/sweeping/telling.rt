@@ -2,10 +2,12 @@
 
 ghost use Rattle.std.specs.Prelude.{◌≡◌, ◌<◌, ℕ, IfOk, List, length};
 ghost use Rattle.command_words.specs.rules.Pieces.{lines_of};
-ghost use Rattle.command_words.specs.rules.Printers.{printers};
+ghost use Rattle.command_words.specs.declared.status.Status.TheVariants as exit;
+ghost use Rattle.command_words.specs.rules.Printers.{SaysText, printers};
 ghost use Rattle.story_commands.specs.Said.{SaysDifference, SaysPlan, SaysSwept};
 ghost use Rattle.story_commands.specs.rules.Sweeps.{AreSweptLives};
-ghost use Rattle.story_commands.specs.rules.SweepTexts.{TellsSweep, plan_line, swept_line};
+ghost use Rattle.story_commands.specs.rules.SweepTexts.{TellsSweep, answers_left_line, plan_line};
+ghost use Rattle.story_commands.specs.rules.SweepTexts.{swept_line};
 ghost use Rattle.story_commands.specs.laws.SweepEnds.{SaysEnd};
 
 use crate::stories::spell_error;
@@ -116,6 +118,25 @@ fn say_plan<E: Write + Drop>(
     }
 }
 
+/// Prints how many of its answers a life of the script took. Answers the exit status.
+fn say_answers_left<E: Write + Drop>(
+    number: u64,
+    taken: u64,
+    all: u64,
+    err: &mut Printer<E>,
+) -> Status
+    ensures { SaysText (answers_left_line number taken all) exit.Usage err.old result err.new }
+{
+    match writeln!(
+        err,
+        "the script's life {number} took {taken} of {all} answers: give its slices more steps, or \
+         take answers out"
+    ) {
+        Ok(()) => Status::Usage,
+        Err(_) => Status::Unwritten,
+    }
+}
+
 /// Prints how a sweep has ended, and answers the exit status.
 fn say_end<W: Write + Drop, E: Write + Drop>(
     alloc: Global,
@@ -130,6 +151,9 @@ fn say_end<W: Write + Drop, E: Write + Drop>(
         Ok(None) => Status::Unwritten,
         Err(SweepFault::Memory) => report(err, Obstacle::Memory),
         Err(SweepFault::Plan { number, why }) => say_plan(alloc, number, why, err),
+        Err(SweepFault::AnswersLeft { number, taken, all }) => {
+            say_answers_left(number, taken, all, err)
+        }
         Err(SweepFault::Upgrade { run: _run }) => say_line(err, Status::Usage, NO_UPGRADE),
         Err(SweepFault::Differs { run }) => {
             say_difference(alloc, run.lives.as_slice(), out, err)
@@ -175,8 +199,8 @@ fn sweep_read<W: Write + Drop, E: Write + Drop>(
 /// status: `Done` where all cuts agree with the run without one, `Different` where one differs,
 /// `Usage` for a script that can't be swept, `Refused` for a refused configuration or module,
 /// `OutOfMemory`, `Unwritten` where a write of a printer has failed. A script can't be swept if a
-/// life of it ends by an error, or if its upgrade can't be done again after a cut.
-#[tactic(auto, using(crate::proofs::SweepLemmas::Statuses::unread_now))]
+/// life of it ends by an error or takes fewer answers than it has, or if its upgrade can't be done
+/// again after a cut.
 pub fn tell_sweep<W: Write + Drop, E: Write + Drop>(
     alloc: Global,
     script: &[u8],

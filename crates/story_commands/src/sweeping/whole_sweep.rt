@@ -14,6 +14,7 @@ use crate::sweeping::fault::SweepFault;
 use crate::sweeping::judging::{lives_before, lives_from, unfinished, was_opened};
 use crate::sweeping::planning::{SweptPart, and_idle};
 use crate::sweeping::running::{HaltedRun, RunLives, Runner};
+use crate::sweeping::taking::test_taken;
 use crate::sweeping::texts::texts_of;
 use crate::sweeping::upgrading::find_before;
 use command_words::Printer;
@@ -153,7 +154,8 @@ fn sweep_of<'a>(
     }
 }
 
-/// Runs the lives with each cut of one of them, which has begun so many calls without a cut.
+/// Runs the lives with each cut of one of them, which has begun so many calls without a cut. Before
+/// that each life has to take all answers that the script has for it.
 fn sweep_plain<E: Write + Drop>(
     runner: &mut Runner,
     job: &SweepJob<'_>,
@@ -176,6 +178,7 @@ fn sweep_plain<E: Write + Drop>(
     ensures heeded { HeedsProgress result err.old err.new }
     ensures quiet { IfErr result (λ fault. IsFoundFirst fault → err.new ≡ err.old) }
 {
+    test_taken(runner, job.wasm, job.config, job.lives)?;
     let before = find_before(runner, &sweep_of(job, plain, texts, 0))?;
     let sweep = sweep_of(job, plain, texts, before);
     match sweep_calls(runner, &sweep, job.fronts, calls, err)? {
