@@ -98,7 +98,7 @@ fn is_told_so(alloc: Global, row: &Row) -> Result<bool, Fail> {
 const CUSTOM: &str = "0005046e616d65";
 
 #[rattlefmt::skip]
-static MODULES: [Row; 29] = [
+static MODULES: [Row; 31] = [
     // whole modules
     (&[], Status::Refused, "refused B1 Malformed at 0\n"),
     (&[HEADER], Status::Refused, "refused L1 NoStart\n"),
@@ -114,14 +114,15 @@ static MODULES: [Row; 29] = [
     // the first faults of bodies
     (&[BEFORE_CODE, "0a06010401017d0b"], Status::Refused,
         "refused B2 Float at 50\n\
-         f32 in function 0; printf has floats, but not with -lc-printscan-no-floating-point\n"),
+         f32 in function 0; in C printf has floats, but not with \
+         -lc-printscan-no-floating-point\n"),
     (&[BEFORE_CODE, "0a0c010a00 4101047f41010b1a0b"], Status::Refused, "refused V1 Typing\n"),
     (&[BEFORE_CODE, "0a0a010800 41002803001a0b"], Status::Refused, "refused V3 Limits\n"),
     // other faults of the decoder and the validator, and a module without a memory for the host
     (&["0061736d02000000"], Status::Refused, "refused B1 Malformed at 4\n"),
     (&[HEADER, "01050160017d00"], Status::Refused,
         "refused B2 Float at 13\n\
-         f32 in type 0 of no function; printf has floats, but not with \
+         f32 in type 0 of no function; in C printf has floats, but not with \
          -lc-printscan-no-floating-point\n"),
     (&[HEADER, "010401608102"], Status::Refused,
         "refused B3 Limit\nmore than 256 parameters in one type, at byte 12\n"),
@@ -138,7 +139,11 @@ static MODULES: [Row; 29] = [
     (&[BEFORE_CODE, EMPTY_BODY, "0b09010041ffff030b0100"], Status::Done, "accepted\n"),
     (&[BEFORE_CODE, EMPTY_BODY, "0b090100418080040b0100"], Status::Refused,
         "refused L5 InitRange\n"),
-    (&[HEADER, TYPES, FUNCTIONS, "050401008002", EXPORTS, EMPTY_BODY], Status::Done, "accepted\n"),
+    (&[HEADER, TYPES, FUNCTIONS, "050401008002", EXPORTS, EMPTY_BODY], Status::Done,
+        "accepted\ncreate it with --pages 256\n"),
+    (&[HEADER, TYPES, FUNCTIONS, "0503010010", EXPORTS, EMPTY_BODY], Status::Done, "accepted\n"),
+    (&[HEADER, TYPES, FUNCTIONS, "0503010011", EXPORTS, EMPTY_BODY], Status::Done,
+        "accepted\ncreate it with --pages 17\n"),
     (&[HEADER, TYPES, FUNCTIONS, "050401008102", EXPORTS, EMPTY_BODY], Status::Refused,
         "refused L6 TooManyPages\nbegins with 257 pages, and a worker has at most 256\n"),
     // sections twice, out of order, too long and too short, and custom sections everywhere

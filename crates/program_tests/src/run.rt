@@ -79,8 +79,10 @@ pub(crate) fn status_of<W: Write + Drop, E: Write + Drop>(
 ) -> Status {
     let mut source = empty_source(alloc);
     let drive = Drive {
+        alloc,
         pace,
         watcher: &Unwatched,
+        disk: "a.disk",
     };
     let status = serve(alloc, disk, drive, &mut source, outlet, err);
     drop(source);

@@ -65,7 +65,7 @@ type Told = (bool, &'static str);
 static TOLD: [Told; 2] = [
     (
         true,
-        "recovered generation 2 at step 6, replayed 6 steps\nparked\n",
+        "recovered generation 2 at step 6, replayed 6 steps, next request 2\nparked\n",
     ),
     (false, "parked\n"),
 ];
@@ -130,8 +130,10 @@ const BEHIND: Shown = Shown {
 /// Whether a run on the disk does so.
 fn runs_so(alloc: Global, disk: &mut MemDisk, run: &Run) -> Result<bool, Fail> {
     let drive = Drive {
+        alloc,
         pace: pace_of(FUEL, EVERY, run.0)?,
         watcher: &Unwatched,
+        disk: "a.disk",
     };
     let mut outlet = LineOutlet::new(alloc, Vec::new(alloc))?;
     let mut source = RequestSource::new(alloc, BufferedLines::new(run.1), NoClock, OUTSIDE, 0);

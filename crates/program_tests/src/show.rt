@@ -183,10 +183,17 @@ fn the_saved_process_is_shown(rt: HostRuntime) -> Result<(), Fail> {
 /// Where a disk of zeros stops or fails, what is shown of it on the error output, and the status.
 type Trouble = (Option<FaultPoint>, Option<FaultPoint>, &'static str, Status);
 
+/// What is said of a disk of zeros.
+const NO_WORKER: &str = "failed Y1 NotAWorker\n\
+    no worker is on the disk: if create or save was cut off, call that again\n";
+
+/// What is said of one that fails.
+const FAILED: &str = "failed K2 Io\nthe disk has failed: see to its device\n";
+
 #[rattlefmt::skip]
 static TROUBLES: [Trouble; 4] = [
-    (None, None, "failed Y1 NotAWorker\n", Status::Refused),
-    (None, Some(FaultPoint { call: 1, front: 0 }), "failed K2 Io\n", Status::IoError),
+    (None, None, NO_WORKER, Status::Refused),
+    (None, Some(FaultPoint { call: 1, front: 0 }), FAILED, Status::IoError),
     (Some(FaultPoint { call: 1, front: 0 }), None, "failed K3 Cut\n", Status::IoError),
     (Some(FaultPoint { call: 2, front: 0 }), None, "failed K3 Cut\n", Status::IoError),
 ];
@@ -219,17 +226,17 @@ fn status_in(alloc: Global, disk: &mut MemDisk, out: &mut [u8], err: &mut [u8]) 
 }
 
 /// Whether the disk of a fresh worker is shown, and not one of zeros; so much room, and the status.
-/// The line has 59 bytes, and the fault 21.
+/// The line has 59 bytes, and the fault with its second line 94.
 static ROOMS: [(bool, usize, Status); 4] = [
     (true, 59, Status::Done),
     (true, 58, Status::Unwritten),
-    (false, 21, Status::Refused),
-    (false, 20, Status::Unwritten),
+    (false, 94, Status::Refused),
+    (false, 93, Status::Unwritten),
 ];
 
 /// Whether that is so of this disk, with the room for what is printed of it and none for the other.
 fn is_status_in(alloc: Global, disk: &mut MemDisk, row: &(bool, usize, Status)) -> bool {
-    let mut room = [0u8; 64];
+    let mut room = [0u8; 128];
     match room.get_mut(..row.1) {
         Some(room) if row.0 => status_in(alloc, disk, room, &mut []) == row.2,
         Some(room) => status_in(alloc, disk, &mut [], room) == row.2,

@@ -7,7 +7,7 @@ use crate::run::{HELLO_BYTES, Refused, refused_by};
 use command_words::{Printer, Status};
 use std::alloc::Global;
 use std::test::Fail;
-use story_commands::{ScriptFault, read_script, tell};
+use story_commands::{LineCause, ScriptFault, read_script, tell};
 
 /// A worker of `echo` of the least sizes.
 const SMALL_ECHO: Asked = (&ECHO, [1, 1, 64]);
@@ -48,67 +48,71 @@ static TOLD: [Told; 11] = [
          life 2 recovered generation 2 steps 6 answers 1 lines 0 image \
          5cbdfc1d641493c2a7bb501dacac8c5c45cedec86d2557d8f1f96db1ea6e7cfe\n1 o hello\n", ""),
     (SMALL_ECHO, "life\nstop 1 0\nlife\n", Status::Done, "life 1 not opened\nlife 2 created\n", ""),
-    (SMALL_ECHO, "life\nslice 20\nhello\n", Status::Usage, "", "failed script line 3\n"),
-    ((&[], [0, 1, 64]), "slice 20\nlife\n", Status::Usage, "", "failed script line 1\n"),
+    (SMALL_ECHO, "life\nslice 20\nhello\n", Status::Usage, "",
+        "failed script line 3\nno line begins with this word\n"),
+    ((&[], [0, 1, 64]), "slice 20\nlife\n", Status::Usage, "",
+        "failed script line 1\na script begins with life\n"),
     ((&[], [0, 1, 64]), "life\n", Status::Refused, "",
         "failed C1 Range\n--pages is from 1 to 256\n"),
     ((&[], [1, 1, 64]), "life\n", Status::Refused, "", "failed B1 Malformed\n"),
 ];
 
-/// A script, and its first faulty line if there is one.
-type Read = (&'static str, Option<u64>);
+/// A script, and its first faulty line if there is one, with why it is refused.
+type Read = (&'static str, Option<(u64, LineCause)>);
 
 #[rattlefmt::skip]
-static READ: [Read; 43] = [
+static READ: [Read; 45] = [
     ("life\nfail 1 512\nrefuse 1\n", None),
-    ("life\nfail 0 0\n", Some(2)),
-    ("life\nrefuse 0\n", Some(2)),
-    ("life\nfail 1 0\nfail 1 0\n", Some(3)),
-    ("life\nrefuse 2\nrefuse 2\n", Some(3)),
+    ("life\nfail 0 0\n", Some((2, LineCause::NumberIsZero))),
+    ("life\nrefuse 0\n", Some((2, LineCause::NumberIsZero))),
+    ("life\nfail 1 0\nfail 1 0\n", Some((3, LineCause::SecondFail))),
+    ("life\nrefuse 2\nrefuse 2\n", Some((3, LineCause::SecondRefuse))),
     ("life", None),
     ("life\nlife\n", None),
     ("life\nrequest \nend\nrealtime 0\nmonotonic 007\n", None),
     ("life\nrandom\nrandom \nrandom 00aF\ncheckpoint\n", None),
     ("life\ntears 0 512\nstop 1 512\nlife\nstop 9 0\ntears 1\n", None),
     ("life\nslice 18446744073709551615\n", None),
-    ("life\nslice 18446744073709551616\n", Some(2)),
-    ("life\nslice\n", Some(2)),
-    ("life\nslice \n", Some(2)),
-    ("life\nslice  1\n", Some(2)),
-    ("life\nslice 1 \n", Some(2)),
-    ("life\nslice +1\n", Some(2)),
+    ("life\nslice 18446744073709551616\n", Some((2, LineCause::NumberTooLarge))),
+    ("life\nslice\n", Some((2, LineCause::WordLacksMore))),
+    ("life\nslice \n", Some((2, LineCause::NotANumber))),
+    ("life\nslice  1\n", Some((2, LineCause::NotANumber))),
+    ("life\nslice 1 \n", Some((2, LineCause::NotANumber))),
+    ("life\nslice +1\n", Some((2, LineCause::NotANumber))),
     ("life\nbatch 0 1\n", None),
     ("life\nbatch 18446744073709551615 18446744073709551615\n", None),
-    ("life\nbatch 1 0\n", Some(2)),
-    ("life\nbatch 1\n", Some(2)),
-    ("life\nbatch 1 \n", Some(2)),
-    ("life\nbatch  1 1\n", Some(2)),
-    ("life\nbatch 1 1 \n", Some(2)),
-    ("life\nbatch 1 18446744073709551616\n", Some(2)),
-    ("life\nrealtime -1\n", Some(2)),
-    ("life\nmonotonic a\n", Some(2)),
-    ("life\n\nlife\n", Some(2)),
-    ("life \n", Some(1)),
-    ("LIFE\n", Some(1)),
-    ("request a\nlife\n", Some(1)),
-    ("life\nrequest\n", Some(2)),
-    ("life\nend 1\n", Some(2)),
-    ("life\ncheckpoint \n", Some(2)),
-    ("life\nrandom 0\n", Some(2)),
-    ("life\nrandom 0g\n", Some(2)),
-    ("life\nstop 0 0\n", Some(2)),
-    ("life\nstop 1\n", Some(2)),
-    ("life\nstop 1 513\n", Some(2)),
-    ("life\nstop 1 0\nslice 1\nstop 1 0\n", Some(4)),
-    ("life\ntears\n", Some(2)),
-    ("life\ntears 513\n", Some(2)),
-    ("life\ntears 1\ntears 1\n", Some(3)),
+    ("life\nbatch 1 0\n", Some((2, LineCause::NumberIsZero))),
+    ("life\nbatch 1\n", Some((2, LineCause::SecondNumberMissing))),
+    ("life\nbatch 1 \n", Some((2, LineCause::NotANumber))),
+    ("life\nbatch  1 1\n", Some((2, LineCause::NotANumber))),
+    ("life\nbatch 1 1 \n", Some((2, LineCause::NotANumber))),
+    ("life\nbatch 1 18446744073709551616\n", Some((2, LineCause::NumberTooLarge))),
+    ("life\nrealtime -1\n", Some((2, LineCause::NotANumber))),
+    ("life\nmonotonic a\n", Some((2, LineCause::NotANumber))),
+    ("life\n\nlife\n", Some((2, LineCause::Empty))),
+    ("life \n", Some((1, LineCause::WordStandsAlone))),
+    ("LIFE\n", Some((1, LineCause::UnknownWord))),
+    ("request a\nlife\n", Some((1, LineCause::NoLifeBegun))),
+    ("life\nrequest\n", Some((2, LineCause::WordLacksMore))),
+    ("life\nend 1\n", Some((2, LineCause::WordStandsAlone))),
+    ("life\ncheckpoint \n", Some((2, LineCause::WordStandsAlone))),
+    ("life\nrandom 0\n", Some((2, LineCause::NotHexadecimal))),
+    ("life\nrandom 0g\n", Some((2, LineCause::NotHexadecimal))),
+    ("life\nstop 0 0\n", Some((2, LineCause::NumberIsZero))),
+    ("life\nstop 1\n", Some((2, LineCause::SecondNumberMissing))),
+    ("life\nstop 1 513\n", Some((2, LineCause::FrontTooLarge))),
+    ("life\nstop 1 0\nslice 1\nstop 1 0\n", Some((4, LineCause::SecondStop))),
+    ("life\ntears\n", Some((2, LineCause::WordLacksMore))),
+    ("life\ntears 513\n", Some((2, LineCause::NotFronts))),
+    ("life\ntears 1\ntears 1\n", Some((3, LineCause::SecondTears))),
+    ("life\nstop a 0\n", Some((2, LineCause::NotANumber))),
+    ("life\n request a\n", Some((2, LineCause::UnknownWord))),
 ];
 
 fn is_read_so(alloc: Global, row: &Read) -> bool {
     match read_script(alloc, row.0.as_bytes()) {
         Ok(_) => row.1.is_none(),
-        Err(ScriptFault::Line { number }) => row.1 == Some(number),
+        Err(ScriptFault::Line { number, cause }) => row.1 == Some((number, cause)),
         Err(ScriptFault::Memory) => false,
     }
 }

@@ -46,8 +46,8 @@ use command_words::{
     read_module, read_words, report, report_output, report_words, say_line,
 };
 use disk_commands::{
-    Look, Seen, System, create_disk, extract_file, look_at_file, report_unread, run_file,
-    save_file, upgrade_file,
+    CountedLines, Look, Seen, System, create_disk, extract_file, look_at_file, report_unread,
+    run_file, save_file, upgrade_file,
 };
 use std::alloc::Global;
 use std::env::{self, FillError};
@@ -257,7 +257,7 @@ fn run<R: Files<File = File> + Input + Clock, W: Write + Drop, E: Write + Drop>(
     tell_left(&input, status, err)
 }
 
-/// Brings the worker of a disk to version 2, and says so after its lines.
+/// Brings the worker of a disk to version 2, and says so after its lines, and how many these were.
 fn upgrade<R: Files<File = File>, W: Write + Drop, E: Write + Drop>(
     rt: &R,
     alloc: Global,
@@ -265,10 +265,11 @@ fn upgrade<R: Files<File = File>, W: Write + Drop, E: Write + Drop>(
     out: &mut W,
     err: &mut Printer<E>,
 ) -> Status {
-    let Ok(mut outlet) = LineOutlet::new(alloc, out) else {
+    let Ok(outlet) = LineOutlet::new(alloc, out) else {
         return report(err, Obstacle::Memory);
     };
-    upgrade_file(alloc, rt, path, &mut outlet, err)
+    let mut lines = CountedLines::new(outlet);
+    upgrade_file(alloc, rt, path, &mut lines, err)
 }
 
 /// Tells that the module of a story can't be read, but first what is wrong with the script.
