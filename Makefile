@@ -1,18 +1,8 @@
 # README.md says how long each of the first four takes.
 .PHONY: demo program build test install dist
 
-PREFIX ?= /usr/local
-BINDIR ?= $(PREFIX)/bin
-LIBDIR ?= $(PREFIX)/lib
-DATADIR ?= $(PREFIX)/share
-DOCDIR ?= $(DATADIR)/doc/wasmhost
-UNITDIR ?= $(LIBDIR)/systemd/system
-
 # A release has the program beside this file. A shell would look for a bare name on its PATH.
 PROGRAM := $(or $(wildcard ./wasmhost),crates/wasmhost/out/wasmhost)
-DOCS := README.md $(addprefix docs/,COMMANDS.md DEPLOYMENT.md FORMATS.md OPERATING.md \
-	PERFORMANCE.md WORKERS.md) LICENSE-MIT LICENSE-APACHE
-UNIT := wasmhost@.service
 # What a release lacks.
 SOURCES := crates.txt
 
@@ -31,6 +21,8 @@ build: $(SOURCES)
 # Proves every crate from nothing, tries the must-fail edits, and runs the tests and the program.
 # RT_JOBS says how many checks go on at a time.
 test: $(SOURCES)
+	@command -v rt >/dev/null || { echo "test: there is no command rt: it comes with the kit that" \
+		"README.md names" >&2; false; }
 	RT_JOBS=$$(scripts/make/jobs) rt ci
 
 $(SOURCES):
@@ -39,19 +31,17 @@ $(SOURCES):
 $(PROGRAM):
 	@echo "make: there is no $@: run 'make program' or 'make build' first" >&2; false
 
-# Copies the built program, its manual page, its documents, and what a systemd unit wants.
+# Copies the built program, its manual page, documents and examples, and what a systemd unit wants.
+# Each place is an absolute path of letters, digits and /._-+, DESTDIR too where it isn't empty.
+install: export DESTDIR ?=
+install: export PREFIX ?= /usr/local
+install: export BINDIR ?= $(PREFIX)/bin
+install: export LIBDIR ?= $(PREFIX)/lib
+install: export DATADIR ?= $(PREFIX)/share
+install: export DOCDIR ?= $(DATADIR)/doc/wasmhost
+install: export UNITDIR ?= $(LIBDIR)/systemd/system
 install: $(PROGRAM)
-	@case $$($(PROGRAM) --version) in *unproved) echo "install: nothing was proved of this program" >&2;; esac
-	install -D -t $(DESTDIR)$(BINDIR) $(PROGRAM)
-	install -D -m 644 -t $(DESTDIR)$(DATADIR)/man/man1 docs/wasmhost.1
-	install -D -m 644 -t $(DESTDIR)$(DOCDIR) $(DOCS)
-	[ ! -d licenses ] || cp -r licenses $(DESTDIR)$(DOCDIR)
-	cd examples/deployment && install -D -t $(DESTDIR)$(LIBDIR)/wasmhost feed tell watch worker \
-		change-code
-	install -d $(DESTDIR)$(UNITDIR)
-	sed 's|/usr/local/bin|$(BINDIR)|; s|/usr/local/lib|$(LIBDIR)|' examples/deployment/$(UNIT) \
-		>$(DESTDIR)$(UNITDIR)/$(UNIT)
-	chmod 644 $(DESTDIR)$(UNITDIR)/$(UNIT)
+	@scripts/make/install $(PROGRAM)
 
 # Packs the built program, documents and examples in out/wasmhost-VERSION.tar.gz.
 dist: $(PROGRAM) $(SOURCES)

@@ -4,10 +4,17 @@ import re
 import subprocess
 import sys
 
+from lib.debian import untried
 from lib.guest_runs import scratch
 
 # A line of callgrind_annotate: a count, its share, a file and a function.
 COUNT = re.compile(r"^ *([\d,]+) \([ \d.]+%\) +[^:]*:(\S.*?)(?: \[[^]]*\])?$")
+
+
+def uncounted(script):
+    """None where callgrind may look at a process. Else a script counts nothing, and ends with this
+    status."""
+    return untried(script, "valgrind", "-q", "--tool=callgrind", "--callgrind-out-file=/dev/null")
 
 
 def counted(words, *options, given="", out="/dev/null"):
