@@ -3,6 +3,7 @@ import os
 import pathlib
 import shutil
 import signal
+import socket
 import subprocess
 import sys
 import time
@@ -46,9 +47,14 @@ class Redis:
             self.end()
             raise
 
+    def listens(self):
+        """Whether it does: its socket is there some time before."""
+        with socket.socket(socket.AF_UNIX) as client:
+            return client.connect_ex(self.socket) == 0
+
     def wait_for_socket(self):
         """Waits until it listens."""
-        while not os.path.exists(self.socket):
+        while not self.listens():
             if self.ran.poll() is not None:
                 sys.exit(f"try: redis-server has ended with {self.ran.returncode}")
             time.sleep(0.05)

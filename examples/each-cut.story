@@ -1,0 +1,5 @@
+life
+request hello
+request again
+slice 42
+checkpoint
