@@ -16,10 +16,11 @@ from model.disk_form import (
 from lib.guest_runs import ECHO, printed, request_lines
 from lib.small_modules import EXITS, TRAPS, frame_lines
 from lib.disk_steps import (
-    ANYTHING, ANY_TEXTS, Bytes, Command, EXISTS, FOLDER, FRESH, LEAST, Locked, MISSING, NoFile,
-    PAGES, SMALL, SameFacts, TOO_LARGE, UNENDED, busy, counted, created, disk_of, field, filled,
-    inspected, listed, mistaken, of_length, recorded, refused, refuses, runs, scripted, sector,
-    shows, too_late, too_long, unopened, written, written_out)
+    ANYTHING, ANY_TEXTS, Bytes, Command, EXISTS, FAR_NUMBER, FOLDER, FRESH, LEAST, Locked, MISSING,
+    NoFile, PAGES, SECOND_LINES, SMALL, SameFacts, TOO_LARGE, UNENDED, busy, counted, created,
+    disk_of, field, filled, inspected, listed, mistaken, of_length, recorded, refused, refuses,
+    runs, scripted, sector, shows, too_late, too_long, unopened, written, written_out)
+from lib.upgrade_scenes import FIRST_UPGRADE, LONG_LINE, UPGRADES, roomy_disk
 
 # What is told of the first entry of an environment, where it has no name.
 UNNAMED = "entry 1 of --env isn't NAME=VALUE\n"
@@ -204,8 +205,8 @@ def line_scene(given, out, err, status=6):
     return f"request lines {given[:40]!r}", [created(), runs(given, out, err, status=status)]
 
 
-REFUSED, SECOND, LONG_LINE = refused(1), refused(2), refused(1, too_long(4_097))
-LONGER_LINE = refused(1, "65537 bytes, and version 2 takes 65536\n")
+REFUSED, SECOND = refused(1), refused(2)
+FAR = refused(1, FAR_NUMBER)
 LINES = [
     line_scene(given, out, err)
     for given, out, err in [
@@ -214,7 +215,7 @@ LINES = [
         (b"1  r a\n", "", REFUSED), (b" 1 r a\n", "", REFUSED), (b"01 r a\n", "", REFUSED),
         (b"+1 r a\n", "", REFUSED), (b"-1 r a\n", "", REFUSED), (b"0 r a\n", "", REFUSED),
         (b"1\tr a\n", "", REFUSED), (b"1 R a\n", "", REFUSED), (b"1 e\r\n", "", REFUSED),
-        (b"9223372036854775808 r a\n", "", REFUSED), (TOO_LARGE.encode() + b" e\n", "", REFUSED),
+        (b"9223372036854775808 r a\n", "", FAR), (TOO_LARGE.encode() + b" e\n", "", FAR),
         (b"9223372036854775807 r a\n", "", too_late(1, 9223372036854775807, 1)),
         (b"2 e\n", "", too_late(1, 2, 1)),
         (b"1 r a\nb\n", "1 o a\n", SECOND), (b"1 r a\n1 r\n", "1 o a\n", SECOND),
@@ -234,6 +235,12 @@ LINES = [
         (b"1 r a\n" * 1_300 + b"2 r " + b"x" * 4_200 + b"\n", "1 o a\n",
          refused(1_301, too_long(4_200))),
         (b"1 r a\n" * 9_000 + b"b\n", "1 o a\n", refused(9_001)),
+        # More numbers of 2^63 and more, and other forms.
+        (b"1 r a\n9223372036854775808 e\n", "1 o a\n", refused(2, FAR_NUMBER)),
+        (b"1" + b"0" * 99 + b" r " + b"x" * 20_000 + b"\n", "", FAR),
+        (b"9223372036854775808 r \n", "", FAR), (b"9223372036854775808 r\n", "", REFUSED),
+        (b"09223372036854775808 e\n", "", REFUSED), (b"+9223372036854775808 e\n", "", REFUSED),
+        (b"9223372036854775808 e \n", "", REFUSED), (b"9223372036854775808\n", "", REFUSED),
         (b"1 r a\n" * 3 + b"\n2 r b\n", "1 o a\n", refused(4))]
 ] + [
     line_scene(given, out, "parked\n", 0)
@@ -608,7 +615,7 @@ def outside_scene():
 
 
 # What is told of an input that can't be read.
-NO_INPUT = "failed N2 Source\nthe standard input can't be read\n"
+NO_INPUT = "failed N2 Source\nthe standard input can't be read, or doesn't wait (O_NONBLOCK)\n"
 
 # What has no room.
 FULL_FILE = "/dev/full"
@@ -695,7 +702,7 @@ LOOKS = [
         written_out("/notes", "notes"), refuses("files disk //notes", "F1 Missing"),
         refuses("files disk missing", "F1 Missing"), refuses("files disk notes/a", "F1 Missing"),
         refuses("files disk /notes/", "F1 Missing"), refuses("files disk /", "F1 Missing"),
-        Command(["files", "disk", ""], 3, "", "failed F1 Missing\n")]),
+        Command(["files", "disk", ""], 3, "", f"failed F1 Missing\n{SECOND_LINES['F1 Missing']}")]),
     ("a folder is listed, and has no bytes", [
         created(), written(*other_image(echo_image([b"a"]).replace(NO_FILES, ONE_FOLDER))),
         inspected("request"), SameFacts(), listed(), refuses("files disk notes", "F2 Directory"),
@@ -716,85 +723,6 @@ LOOKS = [
         created(), Command(["inspect", "disk"], 7, ANYTHING, ANYTHING, b"", FULL_FILE),
         Command(["inspect", "disk", "--json"], 7, ANYTHING, ANYTHING, b"", FULL_FILE),
         Command(["history", "disk", "--story"], 7, ANYTHING, ANYTHING, b"", FULL_FILE)]),
-]
-
-# A disk of `echo` whose journal takes the records of version 2, and the words that create it.
-ROOMY = Form(ECHO, 1, 1, form.JOURNAL)
-
-
-def with_journal(count=form.JOURNAL):
-    """A worker of `echo` is created with so many sectors of journal."""
-    words = ["--pages", "1", "--files", "1", "--journal", str(count)]
-    return created("echo.wasm", *words, total=Form(ECHO, 1, 1, count).total, least=False)
-
-
-def upgrades(out):
-    """A worker is upgraded, or is of version 2 already, after lines that it tells again."""
-    return Command(["upgrade", "disk"], 0, out, "", changes=True)
-
-
-def roomy_disk(*commits, kept=()):
-    """The bytes of such a disk behind commits of generation, texts and version, and kept records
-    of version 2."""
-    disk = ROOMY.created(echo_image())
-    for generation, texts_taken, version in commits:
-        ROOMY.commit(disk, generation, echo_image(texts_taken, version))
-    for generation, place, at in kept:
-        ROOMY.keep(disk, generation, place, record(*at, version=TWO))
-    return bytes(disk)
-
-
-def lines_of(length):
-    """The lines that `echo` prints of one request of so many bytes. It reads up to 4,096 at a time,
-    and an unfinished line has no more."""
-    texts = [b"x" * min(4_096, length - at) for at in range(0, length, 4_096)]
-    return printed([(1, text) for text in texts]).decode()
-
-
-FIRST_UPGRADE = [(2, None, ONE), (3, [], TWO)]
-UPGRADES = [
-    ("a worker is upgraded, and goes on in version 2", [
-        with_journal(),
-        upgrades("upgraded\n"), Bytes(roomy_disk(*FIRST_UPGRADE)),
-        shows(counted(3, 5, 1, 0, 0, TWO)), inspected("request"), SameFacts(),
-        runs(b"1 r hello\n", "1 o hello\n"),
-        Bytes(roomy_disk(*FIRST_UPGRADE, (4, [], TWO), (5, [b"hello"], TWO),
-                         kept=[(4, 1, (6, REQUEST, b"hello"))])),
-        shows(counted(5, 27, 2, 1, 0, TWO)),
-        upgrades("already version 2\n"), shows(counted(6, 27, 2, 1, 0, TWO))]),
-    ("lines that were kept are told before the upgrade", [
-        with_journal(), runs(b"1 r a\n2 r b\nno", "1 o a\n2 o b\n", refused(3), status=6),
-        shows(counted(2, 0, 0, 0, 2)),
-        upgrades("1 o a\n2 o b\nupgraded\n"), shows(counted(4, 49, 3, 2, 0, TWO)),
-        runs(b"1 r x\n2 r y\n3 e\n", "", "exited 0\n"), shows(counted(6, 55, 4, 2, 0, TWO)),
-        upgrades("already version 2\n")]),
-    ("a worker that has ended is upgraded", [
-        with_journal(), runs(b"1 e\n", "", "exited 0\n"), upgrades("upgraded\n"),
-        shows(counted(5, 11, 2, 0, 0, TWO)), runs(b"", "", "exited 0\n")]),
-    # After one sector of records there is no room for the longest one. So the worker is saved as it
-    # asks for the next answer.
-    ("a journal that is just large enough", [
-        with_journal(form.LEAST_JOURNAL_OF_TWO), upgrades("upgraded\n"),
-        runs(b"1 r hello\n", "1 o hello\n"), shows(counted(6, 27, 2, 1, 0, TWO))]),
-    ("a journal that is too small for the records of version 2", [
-        with_journal(form.LEAST_JOURNAL_OF_TWO - 1), runs(b"1 r a\n", "1 o a\n"),
-        Command(["upgrade", "disk"], 3, "", "failed N7 JournalTooSmall\n", changes=True),
-        shows(counted(4, 27, 1, 1, 0)), runs(b"1 r a\n2 r b\n", "2 o b\n")]),
-    ("requests have up to 65,536 bytes after an upgrade", [
-        with_journal(), runs(b"1 r " + b"x" * 4_097, "", LONG_LINE, status=6),
-        upgrades("upgraded\n"), runs(b"1 r " + b"x" * 65_537, "", LONGER_LINE, status=6),
-        runs(b"1 r " + b"x" * 65_536, lines_of(65_536)), inspected("request")]),
-    ("a head of version 2 and an image of version 1", [
-        with_journal(), written(field(2, form.HEAD_VERSION, TWO)),
-        refuses("show disk", "Y4 Damaged", why=form.other_mark(1)),
-        refuses("run disk", "Y4 Damaged", why=form.other_mark(1)),
-        # The image's digest comes before its version.
-        written(field(2, form.IMAGE_LENGTH, 65_810)), refuses("show disk", "S2 Damaged")]),
-    ("a disk that can't be upgraded is refused as by `run`", [
-        created(), written(sector(0, b"e")), refuses("upgrade disk", "Y1 NotAWorker"),
-        written(sector(0, b"D")), Locked(busy("upgrade disk")),
-        unopened("upgrade missing", "missing", MISSING),
-        mistaken("upgrade"), mistaken("upgrade", "disk", "a")]),
 ]
 
 # Whole disks whose bytes may never change, with their digests: of version 1 as it is created, with

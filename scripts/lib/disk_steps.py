@@ -5,7 +5,7 @@ import os
 
 from model import disk_facts as facts
 from model.disk_form import ONE, SECTOR, Form, echo_image
-from lib.guest_runs import ECHO
+from lib.guest_runs import BUSY, BUSY_LOOK, ECHO, NO_WORKER, widening
 
 # What is printed where the text is the library's, and only has to be there, or not even that.
 SOMETHING, ANYTHING = object(), object()
@@ -122,8 +122,17 @@ def shows(text):
     return Command(["show", "disk"], 0, text)
 
 
+# The second lines of some faults, whatever the command.
+SECOND_LINES = {
+    "Y1 NotAWorker": NO_WORKER.decode(),
+    "S2 Damaged": "the newest snapshot of the disk isn't whole: restore a backup\n",
+    "F1 Missing": "no file is listed under this path: without PATH all are listed\n",
+    "F2 Directory": "it is a directory: --all FOLDER writes all\n"}
+
+
 def refuses(command, fault, status=3, given=b"", why=""):
     """A command is refused by a fault, and changes nothing. A second line may say more."""
+    why = why or SECOND_LINES.get(fault, "")
     return Command([*command.split()], status, "", f"failed {fault}\n{why}", given)
 
 
@@ -134,17 +143,19 @@ def unopened(command, path, cause):
 
 def busy(command, given=b""):
     """A command on the disk while another program has it."""
-    return refuses(command, "K5 Busy", 4, given, "disk: another host is using this disk\n")
+    looks = command.split()[0] in ("show", "inspect", "files", "history", "save")
+    return refuses(command, "K5 Busy", 4, given, f"disk: {BUSY_LOOK if looks else BUSY}\n")
 
 
 # What is wrong with a line that is no request, and with one whose end isn't seen.
 NO_REQUEST = "a request is N r TEXT or N e, with N from 1 on\n"
-UNENDED = "more than 4096 bytes, and version 1 takes 4096: wasmhost upgrade\n"
+FAR_NUMBER = "the number of a request is below 9223372036854775808\n"
+UNENDED = "more than 4096 bytes, and version 1 takes 4096" + widening("disk")
 
 
 def too_long(length):
     """What is wrong with a text of so many bytes, where the worker is of version 1."""
-    return f"{length} bytes, and version 1 takes 4096: wasmhost upgrade\n"
+    return f"{length} bytes, and version 1 takes 4096{widening('disk')}"
 
 
 def refused(line, why=NO_REQUEST):

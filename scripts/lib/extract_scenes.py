@@ -5,8 +5,10 @@ import os
 from lib import wasm_bytes as wasm
 from lib.call_modules import constant, stored
 from lib.folder_scenes import (
-    Act, AsNobody, AsShow, Locked, Step, Tree, allowed, linked, written)
-from lib.guest_runs import ECHO
+    Act, AsNobody, AsShow, Locked, Meanwhile, Step, Tree, WithFew, allowed, linked, moved,
+    taken_from, written)
+from lib.disk_steps import SECOND_LINES
+from lib.guest_runs import BUSY_LOOK, ECHO, NO_WORKER
 from model.host_model import CREATE, FILE_RIGHTS, PARAMETERS, PREOPENED
 
 DISK, FOLDER = "worker.disk", "out"
@@ -22,6 +24,7 @@ LARGE = (b"abc" * 3000)[:8193]
 
 EXISTS, MISSING = "file exists", "no such file or directory"
 LONG, FORBIDDEN = "file name too long", "permission denied"
+FULL, OTHER = "directory not empty", "another file is there now"
 
 # The longest path that the system takes, behind many dots.
 LONGEST = f"{'./' * 2_046}{FOLDER}"
@@ -94,18 +97,26 @@ TREE = {
     "a": None, "a/b": None, "empty": None, "young": None, "a/b/large": LARGE, "nothing": b"",
     "young/moved": b"old\n", "a/line\nend": b"\0\xff", "a/b/ä -": b"ae", "a.b": b"."}
 
+# A guest whose names have control bytes, or look as if they had, and the list of its files.
+NAMES = (
+    Guest().folder(b"x").folder(b"tab\t").file(b"tab\t/\x7f", b"del")
+    .file(b"f 1 a\nd forged", b"forged").file("fx é".encode(), b""))
+LIST = ("d x\ndx 74616209\nfx 3 746162092f7f\nfx 6 66203120610a6420666f72676564\n"
+        "f 0 fx é\n")
+
 # A guest with a path of 18 names of 250 bytes: two chains of folders, one moved behind the other.
 # Behind a folder of three letters the host takes 16 of them, since a path has 4,095 bytes at most.
-NAME, OTHER = b"n" * 250, b"m" * 250
-FIRST, SECOND = [NAME] * 9, [OTHER, *[NAME] * 8]
+NAME, LAST = b"n" * 250, b"m" * 250
+FIRST, SECOND = [NAME] * 9, [LAST, *[NAME] * 8]
 DEEP = Guest()
 for chain in (FIRST, SECOND):
     for depth in range(1, len(chain) + 1):
         DEEP.folder(b"/".join(chain[:depth]))
-DEEP.file(NAME + b"/file", b"text").moves(OTHER, b"/".join([*FIRST, OTHER]))
+DEEP.file(NAME + b"/file", b"text").moves(LAST, b"/".join([*FIRST, LAST]))
 TOO_LONG = "/".join([FOLDER, *(it.decode() for it in [*FIRST, *SECOND][:17])])
 
-MODULES = {"nested.wasm": NESTED.module(), "deep.wasm": DEEP.module(), "echo.wasm": ECHO}
+MODULES = {"nested.wasm": NESTED.module(), "names.wasm": NAMES.module(),
+           "deep.wasm": DEEP.module(), "echo.wasm": ECHO}
 
 
 def has(folder=FOLDER, wanted=None):
@@ -135,13 +146,29 @@ def unmade(path, cause):
     return refuses("K2 Io", f"{path}: {cause}\n", folder=path)
 
 
+def stays(*paths):
+    """The lines that name what stays, and why."""
+    return "".join(f"{path}: stays: {why}\n" for path, why in paths)
+
+
+def clears(act, *paths):
+    """Something is done with the folder before the output fails. Then just these stay."""
+    said = "failed N3 Outlet\n" + stays(*paths)
+    return Meanwhile(act, Step(["files", DISK, "--all", FOLDER], 7, "", said))
+
+
 SCENES = [
     ("all files and folders are written", [
         *created(), extracts(), has(), unmade(FOLDER, EXISTS), has(),
         extracts(folder="./again/", made="again"), has("again"), linked("link", "again"),
         extracts(folder="link/within", made="again"), has("again/within")]),
+    ("names with control bytes are listed by digits, and read as they are", [
+        *created("names.wasm"), Step(["files", DISK], out=LIST),
+        Step(["files", DISK, "tab\t/\x7f"], out="del"),
+        Step(["files", DISK, "f 1 a\nd forged"], out="forged"),
+        Step(["files", DISK, "746162092f7f"], 3, "", "failed F1 Missing\n" + SECOND_LINES["F1 Missing"])]),
     ("by a look at a live disk", [
-        *created(), Locked(DISK, refuses("K5 Busy", f"{DISK}: another host is using this disk\n")),
+        *created(), Locked(DISK, refuses("K5 Busy", f"{DISK}: {BUSY_LOOK}\n")),
         Locked(DISK, extracts(live=("--live",))), has()]),
     ("no files", [
         *created("echo.wasm")[:1], extracts(0, 0), has(wanted={})]),
@@ -160,8 +187,8 @@ SCENES = [
         *created(), allowed(DISK, 0o666), allowed("closed", 0o555), allowed("open", 0o777),
         AsNobody(unmade("closed/out", FORBIDDEN)), AsNobody(unmade(FOLDER, FORBIDDEN)),
         AsNobody(extracts(folder="open/out", made="open")), has("open/out"),
-        allowed("hidden", 0o333), AsNobody(extracts(folder="hidden/out", made="hidden")),
-        has("hidden/out")]),
+        # The folder's entry can't be synced by who may not read its folder.
+        allowed("hidden", 0o333), AsNobody(unmade("hidden/out", FORBIDDEN)), Tree("hidden", {})]),
     ("the folder's path is the longest one, or longer", [
         *created("echo.wasm")[:1], extracts(0, 0, folder=LONGEST), has(wanted={}),
         unmade(f"./{LONGEST}", LONG)]),
@@ -172,8 +199,23 @@ SCENES = [
         refuses("K2 Io", f"{TOO_LONG}: {LONG}\n")]),
     ("the output is full, and what was made is removed again", [
         *created(), refuses("N3 Outlet", status=7, into="/dev/full")]),
+    ("what somebody else has put there stays", [
+        *created(), clears(written("out/a/mine", b"mine"), ("out/a", FULL), ("out", FULL)),
+        has(wanted={"a": None, "a/mine": b"mine"})]),
+    ("so does a file that has replaced one", [
+        *created(), written("mine", b"mine"),
+        clears(moved("mine", "out/a.b"), ("out/a.b", OTHER), ("out", FULL)),
+        has(wanted={"a.b": b"mine"})]),
+    ("so does a folder that has replaced it", [
+        *created(), clears(taken_from(FOLDER, "away"), ("out/nothing", OTHER), ("out", OTHER)),
+        has(wanted={"nothing": b"mine"}), has("away")]),
+    ("what somebody else has removed isn't named", [
+        *created(), clears(Act(lambda top: os.remove(f"{top}/out/a.b"))), extracts(), has()]),
+    ("no more files can be opened, and what was made is removed again", [
+        *created(), WithFew(7, refuses("K2 Io", "out/a.b: too many open files\n")),
+        extracts(), has()]),
     ("no worker's disk", [
-        *created(), refuses("Y1 NotAWorker", disk="echo.wasm", status=3),
+        *created(), refuses("Y1 NotAWorker", NO_WORKER.decode(), disk="echo.wasm", status=3),
         refuses("K2 Io", f"missing: {MISSING}\n", disk="missing"),
         AsShow("/dev/null", ["files", "/dev/null", "--all", FOLDER])]),
     ("a command line that isn't understood", [

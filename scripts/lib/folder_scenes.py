@@ -7,8 +7,10 @@ import contextlib
 import dataclasses
 import fcntl
 import os
+import resource
 import stat
 import subprocess
+import threading
 import time
 
 from lib.guest_runs import SECONDS, scratch
@@ -75,9 +77,35 @@ class Locked:
 
 
 @dataclasses.dataclass
+class Between:
+    """A run with `--verbose` that waits for its input while something is done with the folder. It
+    is given that then. What it changes isn't compared."""
+
+    step: Step
+    act: Act
+
+
+@dataclasses.dataclass
 class AsNobody:
     """A step of a user who isn't root, and may only read here."""
 
+    step: Step
+
+
+@dataclasses.dataclass
+class WithFew:
+    """A step that may have so many files open."""
+
+    files: int
+    step: Step
+
+
+@dataclasses.dataclass
+class Meanwhile:
+    """A step whose output is a full pipe. Something is done with the folder while it waits to print.
+    Then nobody can read what it prints."""
+
+    act: object
     step: Step
 
 
@@ -88,6 +116,15 @@ class AsShow:
 
     path: str
     words: list
+
+
+def is_same(found, shown, path):
+    """Whether a command ends as `show` does. It may have the path of the disk before what `show` says
+    on a second line of a disk without a worker."""
+    if found[1] != shown[1] or found[0] != shown[0]:
+        return False
+    head, *rest = shown[2].decode().partition("\n")
+    return found[2].decode() in (head + "".join(rest), f"{head}\n{path}: {rest[1]}")
 
 
 def written(path, data):
@@ -126,6 +163,41 @@ def cut_to(path, length):
 def moved(path, to):
     """A file that takes the place of another."""
     return Act(lambda folder: os.replace(*(os.path.join(folder, it) for it in (path, to))))
+
+
+def taken_from(path, to):
+    """A folder that gets another name, and one in its place that has a file of a name that was in
+    it."""
+    def act(folder):
+        place = os.path.join(folder, path)
+        os.rename(place, os.path.join(folder, to))
+        os.mkdir(place)
+        written(f"{path}/nothing", b"mine").act(folder)
+    return Act(act)
+
+
+def full_pipe():
+    """Both ends of a pipe that takes no byte more."""
+    reader, writer = os.pipe()
+    os.set_blocking(writer, False)
+    with contextlib.suppress(BlockingIOError):
+        while True:
+            os.write(writer, b"+" * 4_096)
+    with contextlib.suppress(BlockingIOError):
+        while True:
+            os.write(writer, b"+")
+    os.set_blocking(writer, True)
+    return reader, writer
+
+
+def wait_to_print(number):
+    """Waits until a process waits for a pipe, or until that takes too long."""
+    end = time.monotonic() + SECONDS
+    while time.monotonic() < end:
+        with open(f"/proc/{number}/wchan", encoding="ascii") as file:
+            if "pipe" in file.read():
+                return
+        time.sleep(0.01)
 
 
 def damaged(path, at, end):
@@ -212,6 +284,41 @@ class Stage:
         lacking = [it for it in step.changes if it not in after]
         return f"{step.words}: there is no {lacking}" if lacking else None
 
+    def between_fault(self, step, act):
+        """What is wrong with a run that waits meanwhile, or none."""
+        pipes = dict.fromkeys(("stdin", "stdout", "stderr"), subprocess.PIPE)
+        with subprocess.Popen([self.program, *step.words], cwd=self.folder, **pipes) as ran:
+            ending = threading.Timer(SECONDS, ran.kill)
+            ending.start()
+            first = ran.stderr.readline()
+            act(self.folder)
+            out, rest = ran.communicate(step.given)
+            ending.cancel()
+        found = ran.returncode, out.decode(), (first + rest).decode()
+        wanted = step.status, step.out, step.err
+        return None if found == wanted else f"{step.words}: {found}, wanted {wanted}"[:1_000]
+
+    def few_fault(self, step, files):
+        """What is wrong with a command that may have so many files open, or none."""
+        def limit():
+            resource.setrlimit(resource.RLIMIT_NOFILE, (files, files))
+        return self.step_fault(step, preexec_fn=limit)
+
+    def meanwhile_fault(self, step, act):
+        """What is wrong with a command in whose folder something is done while it waits to print,
+        or none."""
+        reader, writer = full_pipe()
+        with subprocess.Popen([self.program, *step.words], cwd=self.folder, stdout=writer,
+                              stdin=subprocess.DEVNULL, stderr=subprocess.PIPE) as ran:
+            os.close(writer)
+            wait_to_print(ran.pid)
+            act.act(self.folder)
+            os.close(reader)
+            err = ran.communicate(timeout=SECONDS)[1]
+        if (ran.returncode, err) != (step.status, step.err.encode()):
+            return f"{step.words}: {ran.returncode}, {err}, wanted {step.status}, {step.err!r}"
+        return None
+
     def nobody_fault(self, step):
         """What is wrong with a command of a user who may only read, or none."""
         os.chmod(self.folder, 0o755)
@@ -227,7 +334,7 @@ class Stage:
         before = self.contents()
         shown, found = self.ended(Step(["show", path])), self.ended(Step(words))
         told = [it[:40] for it in words]
-        if found != shown or shown[0] == 0:
+        if not is_same(found, shown, path) or shown[0] == 0:
             return f"{told}: {found}, and show: {shown}"
         return None if self.contents() == before else f"{told}: a file has changed"
 
@@ -238,8 +345,14 @@ class Stage:
                 return self.step_fault(step)
             case AsNobody(behind):
                 return self.nobody_fault(behind)
+            case WithFew(files, behind):
+                return self.few_fault(behind, files)
+            case Meanwhile(act, behind):
+                return self.meanwhile_fault(behind, act)
             case AsShow(path, words):
                 return self.show_fault(path, words)
+            case Between(behind, Act(act)):
+                return self.between_fault(behind, act)
             case Act(act):
                 act(self.folder)
             case Bytes(path, wanted):

@@ -13,14 +13,40 @@ PROGRAM = os.path.join(ROOT, "crates", "wasmhost", "out", "wasmhost")
 EXAMPLES = os.path.join(ROOT, "examples")
 
 # How a run ends that has no memory: its exit status, and its last words. They name the layer of the
-# recovery that wants memory, or a call of the worker (N4).
-NO_MEMORY, WANT_OF_MEMORY = 5, re.compile(rb"failed ([A-Z][0-9]) Memory\n")
+# recovery that wants memory, or a call of the worker (N4). An upgrade may have told lines.
+NO_MEMORY = 5
+WANT_OF_MEMORY = re.compile(rb"failed ([A-Z][0-9]) Memory\n(?:told \d+ lines?: .*\n)?")
 
 # What a run and an upgrade say on their second line of a disk that has failed.
 DISK_FAILED = b"the disk has failed: see to its device, then run it once with --rewrite"
 
+# What is said so of one that has failed before a worker was open.
+LOOK_FAILED = b"the disk has failed: see to its device"
+
+# What is said on a second line: of a disk without a worker, of one that is locked, and so if it is
+# only looked at.
+NO_WORKER = b"no worker is on the disk: if create or save was cut off, call that again\n"
+BUSY = "another host is using this disk, or it is open twice: end that use"
+BUSY_LOOK = "another host is using this disk: look at it with --live"
+
+
+def widening(disk):
+    """The two steps that a run tells where a text is too long for version 1."""
+    return f": wasmhost run {disk} </dev/null >>LINES, then wasmhost upgrade {disk}\n"
+
+
+def told_words(output):
+    """What an upgrade says last on its error output, where it has printed lines of the worker."""
+    count = sum(line[:1].isdigit() for line in output.split(b"\n"))
+    one, several = b"told 1 line: keep it with the others\n", b" lines: keep them with the others\n"
+    return {0: b"", 1: one}.get(count, b"told %d" % count + several)
+
+
 # What a run says of a last line that it has left.
 LAST_LEFT = b"the last line has no newline, and was left\n"
+
+# What the version of a program ends with that `make program` has built.
+UNPROVED = ", unproved\n"
 
 # How long one run may take: much longer than any does, on however slow a machine.
 SECONDS = 300

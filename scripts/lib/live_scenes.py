@@ -14,7 +14,7 @@ import time
 
 from lib.disk_steps import LEAST, SMALL
 from lib.folder_scenes import content, cut_to, damaged, linked, nobody, written
-from lib.guest_runs import ECHO, SECONDS, scratch
+from lib.guest_runs import BUSY_LOOK, ECHO, SECONDS, scratch
 from lib.not_tried import not_tried
 from lib.small_modules import endless
 from model import disk_facts as facts
@@ -28,7 +28,7 @@ SHOW, INSPECT, JSON, FILES, HISTORY, STORY = LOOKS = [
     ["show"], ["inspect"], ["inspect", "--json"], ["files"], ["history"], ["history", "--story"]]
 
 # What is said where the disk can't be had, and where its worker has saved itself meanwhile.
-BUSY = b"failed K5 Busy\nworker.disk: another host is using this disk\n"
+BUSY = b"failed K5 Busy\nworker.disk: %s\n" % BUSY_LOOK.encode()
 CHANGED = 4, b"", b"failed K5 Busy\nworker.disk: its worker has just saved itself, look again\n"
 
 # For how many seconds a look is taken again until it says what it has to. Then its run still runs.

@@ -6,7 +6,7 @@ from lib.disk_steps import SMALL
 from lib.folder_scenes import (
     Act, AsNobody, AsShow, Front, Locked, Step, Tree, allowed, cut_to, damaged, linked, moved,
     written)
-from lib.guest_runs import ECHO, EXAMPLES
+from lib.guest_runs import BUSY_LOOK, ECHO, EXAMPLES, NO_WORKER
 from model.disk_form import SECTOR, TWO, Form
 
 DISK, COPY = "worker.disk", "copy.disk"
@@ -24,7 +24,6 @@ LEAST, LONGER, USUAL = SMALL.total, Form(ECHO, 1, 1, 133).total, Form(NOTEBOOK, 
 
 EXISTS, MISSING, FOLDER = "file exists", "no such file or directory", "is a directory"
 LONG, FORBIDDEN = "file name too long", "permission denied"
-BUSY = "another host is using this disk"
 
 
 def created(module="echo.wasm", journal=64, total=LEAST):
@@ -143,14 +142,14 @@ REFUSED = [
     ("another worker's disk stays", [
         created(), saves(), runs(b"1 r a\n", "1 o a\n", disk=COPY), unopened(COPY, EXISTS)]),
     ("somebody else has the disk", [
-        created(), Locked(DISK, refuses("K5 Busy", f"{DISK}: {BUSY}\n", status=4)), saves()]),
+        created(), Locked(DISK, refuses("K5 Busy", f"{DISK}: {BUSY_LOOK}\n", status=4)), saves()]),
     ("the output is full", [
         created(), refuses("N3 Outlet", status=7, into="/dev/full"), saves(), same()]),
     ("no worker's disk", [
         created(), written("empty", b""), written("zeros", bytes(LEAST * SECTOR)),
         written("short", b"DWORKER!"), Act(lambda folder: os.mkfifo(f"{folder}/fifo")),
         linked("loop", "loop"), linked("nowhere", "missing"),
-        refuses("Y1 NotAWorker", disk="echo.wasm"), unopened("missing", MISSING, disk="missing"),
+        refuses("Y1 NotAWorker", NO_WORKER.decode(), disk="echo.wasm"), unopened("missing", MISSING, disk="missing"),
         unopened(".", FOLDER, disk="."),
         *map(as_show, ("/dev/null", "fifo", "empty", "zeros", "short", "loop", "nowhere",
                        "echo.wasm/a", "x" * 256, "")),
@@ -161,7 +160,7 @@ REFUSED = [
         created(), runs(b"1 r a\n", "1 o a\n"), damaged(DISK, SECTOR, 3 * SECTOR), as_show(DISK)]),
     ("the disk is looked at before the copy", [
         created(), written(COPY, b"mine"), unopened("missing", MISSING, disk="missing"),
-        refuses("Y1 NotAWorker", disk="echo.wasm"), unopened(COPY, EXISTS)]),
+        refuses("Y1 NotAWorker", NO_WORKER.decode(), disk="echo.wasm"), unopened(COPY, EXISTS)]),
 ]
 
 SCENES = [*COPIES, *REFUSED]

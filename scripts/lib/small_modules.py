@@ -56,10 +56,16 @@ def called(place, kind):
 
 
 # What comes after the place of floats.
-HINT = "; printf has floats, but not with -lc-printscan-no-floating-point\n"
+HINT = "; in C printf has floats, but not with -lc-printscan-no-floating-point\n"
 
 F32, F64, F64_ADD = 0x7D, 0x7C, b"\xa0"
 GIVES_F64 = wasm.function_type([], [F64])
+
+
+def name_of(number, name):
+    """A section with the name of one function."""
+    names = wasm.vector([wasm.unsigned(number) + wasm.sized(name)])
+    return b"\x00" + wasm.sized(wasm.sized(b"name") + b"\x01" + wasm.sized(names))
 
 
 def import_of(module, name, number=0):
@@ -82,6 +88,11 @@ REFUSED = [
     (small(bodies=[wasm.sized(b"\x01\x01\x7d" + wasm.END)]), "B2 Float", 50,
      "f32 in function 0" + HINT),
     (small(F64_ADD), "B2 Float", 49, "f64.add in function 0" + HINT),
+    # Behind all other sections is one with the name of the function, or with none that is printed.
+    (small(F64_ADD) + name_of(0, b"compute"), "B2 Float", 49,
+     "f64.add in function 0 (compute)" + HINT),
+    (small(F64_ADD) + name_of(1, b"compute"), "B2 Float", 49, "f64.add in function 0" + HINT),
+    (small(F64_ADD) + name_of(0, b"two\nlines"), "B2 Float", 49, "f64.add in function 0" + HINT),
     # A section of one import has 37 bytes, and the function after it is number 1.
     (small(F64_ADD, imports=[wasm.imported_function(b"fd_close", 0)]), "B2 Float", 86,
      "f64.add in function 1" + HINT),
@@ -216,6 +227,7 @@ LISTED = [
 ]
 
 # Modules at limits, which are accepted.
+LARGE = [(small(memories=pages(count)), count) for count in (17, 256)]
 ACCEPTED = [
     LEAST,
     small(wasm.NOP * 4_095),
@@ -225,7 +237,7 @@ ACCEPTED = [
     small(bodies=[locals_of(256)]),
     small(tables=table(4_096)),
     small(globals=[A_GLOBAL] * 1_024),
-    small(memories=pages(256)),
+    small(memories=pages(16)),
     small(data=[behind(65_535) + wasm.sized(b"a")]),
     calls_from_table(b"", elements=[behind(0) + wasm.vector([wasm.unsigned(0)])]),
 ]

@@ -16,7 +16,7 @@ import time
 from lib.disk_scenes import outside_module
 from lib.disk_steps import LEAST, refused, too_late
 from lib.not_tried import not_tried
-from lib.guest_runs import ECHO, SECONDS, ended, scratch
+from lib.guest_runs import BUSY, ECHO, NO_WORKER, SECONDS, ended, scratch
 from lib.small_modules import small
 
 DISK, FILE = "worker.disk", "standing"
@@ -300,7 +300,7 @@ REFUSALS = [
       for option in ("--status", "--metrics")],
 ]
 
-NOT_A_WORKER = 3, b"", b"failed Y1 NotAWorker\n"
+NOT_A_WORKER = 3, b"", b"failed Y1 NotAWorker\n" + NO_WORKER
 ENDS = [
     Taken("nothing is there", {}),
     *[Taken(f"{data!r} is at {path}", {path: filled(data)})
@@ -583,7 +583,7 @@ def order_fault(program):
     before.pop(DISK)
     wanted = [(2, b"error: a seed is 64 hexadecimal digits\n"),
               (4, f"failed K2 Io\ngone: {MISSING}\n".encode()),
-              (4, f"failed K5 Busy\n{DISK}: another host is using this disk\n".encode()),
+              (4, f"failed K5 Busy\n{DISK}: {BUSY}\n".encode()),
               (4, f"failed K2 Io\n{FILE}: {OTHER_BYTES}\n".encode())]
     if found != wanted or after != before:
         return f"status file, order of faults: {found}, {changed(before, after)}"

@@ -290,17 +290,30 @@ UPGRADES = [
     upgraded(f"life\nupgrade\nrandom {'00' * 5_000}\nslice 99\n", "1 o 0\n", "draws.wasm"),
 ]
 
-# Each form of a faulty line is in `program_tests`. Here it is the order of faults that counts.
+# Each form of a faulty line is in `program_tests`. Here it is the order of faults that counts, and
+# the words for why a line is refused.
+FROM_ONE = "this number is from 1 on"
 FAULTS = [
-    refused("life\nslice 20\nhello\n", "script line 3", status=2),
-    refused("slice 20\nlife\n", "script line 1", status=2),
-    refused("life\n\n", "script line 2", status=2),
-    refused("life\nstop 0 0\n", "script line 2", "missing.wasm", status=2),
-    refused("life\nfail 0 0\n", "script line 2", status=2),
-    refused("life\nrefuse 0\n", "script line 2", status=2),
-    refused("life\nfail 1 0\nfail 2 0\n", "script line 3", status=2),
-    refused("life\nrefuse 1\nrefuse 2\n", "script line 3", status=2),
-    refused("life\nend\nend 1", "script line 3", "/dev/null", ["--pages", "0"], 2),
+    refused("life\nslice 20\nhello\n", "script line 3\nno line begins with this word", status=2),
+    refused("slice 20\nlife\n", "script line 1\na script begins with life", status=2),
+    refused("life\n\n", "script line 2\na line isn't empty", status=2),
+    refused("life\nstop 0 0\n", f"script line 2\n{FROM_ONE}", "missing.wasm", status=2),
+    refused("life\nfail 0 0\n", f"script line 2\n{FROM_ONE}", status=2),
+    refused("life\nrefuse 0\n", f"script line 2\n{FROM_ONE}", status=2),
+    *(refused(f"life\n{line}\nslice 1\n{line}\n",
+              f"script line 4\na life has at most one {words}", status=2)
+      for line, words in [("stop 1 0", "stop"), ("fail 1 0", "fail"), ("refuse 1", "refuse"),
+                          ("tears 1", "line of tears")]),
+    *(refused(f"life\n{line}\n", f"script line 2\n{words}", status=2) for line, words in [
+        ("slice", "a space and more must follow this word"),
+        ("slice +1", "a number is decimal digits, one space behind what is before it"),
+        ("slice 18446744073709551616", "a number is at most 18446744073709551615"),
+        ("stop 1", "two numbers must follow this word"),
+        ("stop 1 513", "a front is at most 512"),
+        ("random 0", "random bytes are hexadecimal digits, two for each"),
+        ("tears 1 513", "tears are numbers up to 512, with one space between each two")]),
+    refused("life\nend\nend 1", "script line 3\nnothing may follow this word", "/dev/null",
+            ["--pages", "0"], 2),
     refused("life\n", "K2 Io\nmissing.wasm: no such file or directory", "missing.wasm",
             ["--pages", "0"], 4),
     refused("life\n", "K2 Io\n.: is a directory", ".", status=4),
@@ -321,6 +334,12 @@ def swept(script, calls, lines, module="echo.wasm", words=("--fronts", "0,512"),
 def unswept(script, err, module="echo.wasm", words=(), status=2):
     """A sweep that isn't begun."""
     return Story(script, module, tuple(words), status, "", f"{err}\n", "sweep")
+
+
+def left(life, taken, answers):
+    """The line of a life that takes fewer answers than the script has for it."""
+    return (f"the script's life {life} took {taken} of {answers} answers: give its slices more "
+            "steps, or take answers out")
 
 
 # A creation writes all but the two calls that look for a worker, and five syncs. A line is a write
@@ -360,9 +379,14 @@ SWEPT = [
     # `lost` is taken behind the upgrade, and nothing is printed of it: so it isn't kept.
     swept(f"{HELLO}upgrade\nrequest lost\nslice 10\nlife\nrequest again\nslice 42\n",
           IN_TWO + LINE + CHECKPOINT, 2, words=(*WIDER, "--life", "1")),
-    # A script may have an answer that doesn't fit, where nobody takes it.
-    swept("life\nrequest hello\nmonotonic 1\nslice 25\n", CREATION + LINE, 1,
+    # The end is taken, though nothing is printed of it, so it isn't kept.
+    swept("life\nrequest hello\nend\nslice 99\n", CREATION + LINE, 1,
           words=("--fronts", "505"), fronts=1),
+    # Answers that nobody takes: two of the first life, one that wouldn't fit, and one of a life
+    # that isn't cut. The worker asks after 5 steps, and after 22 more for each request.
+    unswept("life\nrequest a\nrequest b\nslice 5\n", left(1, 0, 2)),
+    unswept("life\nrequest hello\nmonotonic 1\nslice 25\n", left(1, 1, 2)),
+    unswept(f"{HELLO}life\nrequest again\nslice 8\n", left(2, 0, 1), words=("--life", "1")),
     # Plans that can't be run to their end, or done again.
     unswept("life\nrequest hello\nmonotonic 1\nslice 99\n", "the script's life 1 ended N2 Source"),
     unswept("life\nupgrade\n", "the script's life 1 ended N7 JournalTooSmall",
@@ -374,8 +398,10 @@ SWEPT = [
     # Times and random bytes that were not kept are handed out again.
     swept(f"life\nrealtime {TIMES[0]}\nmonotonic {TIMES[1]}\nrandom 4a6b6c6d4e\nslice 99\n",
           CREATION + LINE, 1, "asks.wasm", ("--fronts", "0"), 1),
-    *(unswept(f"{HELLO}{line}\n", "failed script line 4", "missing.wasm")
-      for line in ["stop 1 0", "fail 1 0", "refuse 1", "tears 1", "hello"]),
+    *(unswept(f"{HELLO}{line}\n", "failed script line 4\na sweep takes no stop, fail, refuse or "
+              "tears", "missing.wasm") for line in ["stop 1 0", "fail 1 0", "refuse 1", "tears 1"]),
+    unswept(f"{HELLO}hello\n", "failed script line 4\nno line begins with this word",
+            "missing.wasm"),
     unswept("", "error: the script has no such life", "missing.wasm"),
     unswept(HELLO, "error: the script has no such life", words=("--life", "2")),
     *(unswept("life\nstop 1 0\n", "error: fronts are numbers from 0 to 512", "missing.wasm",

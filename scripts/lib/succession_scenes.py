@@ -13,7 +13,7 @@ from lib import wasm_bytes as wasm
 from lib.disk_steps import SMALL
 from lib.folder_scenes import (
     Act, AsShow, Bytes, Locked, Step, cut_to, damaged, linked, moved, written)
-from lib.guest_runs import ECHO, EXAMPLES, printed, request_lines
+from lib.guest_runs import BUSY, ECHO, EXAMPLES, printed, request_lines
 from lib.small_modules import MEMORY, NOTHING, asks, behind, endless, pages, small
 from model.chacha import taken
 from model.disk_form import TWO, Form, echo_memory, echo_process
@@ -128,7 +128,7 @@ def unopened(path, cause, **named):
 
 def busy(path):
     """A disk that somebody else has."""
-    return refuses("K5 Busy", f"{path}: another host is using this disk\n", status=4)
+    return refuses("K5 Busy", f"{path}: {BUSY}\n", status=4)
 
 
 def as_show(path):
@@ -142,8 +142,10 @@ def shows(disk, generation, steps, answers, lines, records=0, version=1):
                                     f"lines {lines} records {records} version {version}\n")
 
 
-# What is said of a worker that isn't at rest, and of too short a journal.
+# What is said of a worker that isn't at rest, of one whose steps are at their end, and of too short
+# a journal.
 RESTLESS = f"{OLD}: isn't at rest: run it without requests, and keep its lines\n"
+SPENT = f"{OLD}: its steps can't be counted further: nothing can succeed it\n"
 SHORT = "version 2 takes at least 133 sectors: --journal 133\n"
 EXISTS, MISSING = "file exists", "no such file or directory"
 PAIR = b"1 r a\n2 r b\n"
@@ -260,6 +262,10 @@ REFUSED = [
         created(),
         runs(b"1 r a\n3 r b\n", "1 o a\n", "refused request 3, wanted 2\nat input line 2\n", 6),
         shows(OLD, 2, 0, 0, 0, records=1), not_parked(), runs(b"", "1 o a\n"), succeeds(1, 1)]),
+    ("one at rest stays so where a run takes nothing", [
+        created(), runs(b"1 r a\n", "1 o a\n"),
+        runs(b"3 r b\n", "", "refused request 3, wanted 2\nat input line 1\n", 6),
+        succeeds(1, 1)]),
     ("one that computes isn't at rest", [
         created("endless.wasm"),
         Step(["run", OLD, "--fuel", "10", "--every", "1"], changes=(OLD,), is_killed=True),
@@ -276,7 +282,7 @@ REFUSED = [
         created(sizes=LONGER), runs(b"1 r a\n", "1 o a\n"), upgraded(),
         *(refuses("N7 JournalTooSmall", SHORT, words=["--journal", it]) for it in ("64", "132"))]),
     ("the last step of all, and the one before it", [
-        waiting(END_OF_STEPS - 1), refuses("P3 StepsSpent"), waiting(END_OF_STEPS - 2),
+        waiting(END_OF_STEPS - 1), refuses("P3 StepsSpent", SPENT), waiting(END_OF_STEPS - 2),
         succeeds(0, 0), shows(NEW, 1, END_OF_STEPS - 1, 0, 0)]),
     ("old and new are one file", [
         created(), runs(b"1 r a\n", "1 o a\n"), unopened(OLD, EXISTS, new=OLD),

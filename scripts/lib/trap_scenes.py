@@ -1,9 +1,12 @@
 """Scenes of workers that trap, for `program-rows`: what a run says of their frames. The positions
 were counted along the modules by hand, by docs/WORKERS.md."""
+import os
+import struct
+
 from lib import wasm_bytes as wasm
 from lib.disk_steps import LEAST
-from lib.folder_scenes import Step
-from lib.small_modules import I32_DIV_S, MEMORY, NOTHING, TRAPS, frame_lines, small
+from lib.folder_scenes import Act, Between, Step, moved
+from lib.small_modules import I32_DIV_S, MEMORY, NOTHING, TRAPS, behind, frame_lines, small
 from model.disk_form import Form
 
 # ---- guests
@@ -139,4 +142,45 @@ UPGRADED = ("a trap in an upgrade", [
     Step(["upgrade", "wide.disk"], out="upgraded\n", changes=("wide.disk",)),
     Step(["run", "wide.disk"], err="trapped integer divide by zero\n", changes=("wide.disk",))])
 
-SCENES = [*(scene(number, *row) for number, row in enumerate(TRAPPING)), UPGRADED]
+
+# ---- a path that another disk gets
+
+# `fd_read` is function 0, and `_start` asks it for a request before it divides: opcodes 0 to 5 ask.
+READS, ASKING = 1, b"".join(wasm.i32(it) for it in (0, 0, 1, 8)) + wasm.CALL + b"\x00" + wasm.DROP
+
+
+def reading(name):
+    """The module that traps once it has a request, with a name of its function."""
+    return small(
+        types=[NOTHING, wasm.function_type([wasm.I32] * 4, [wasm.I32])],
+        imports=[wasm.imported_function(b"fd_read", 1)],
+        exports=[wasm.exported(b"_start", 0, READS), MEMORY],
+        bodies=[wasm.function_body([], ASKING + DIVISION)],
+        data=[behind(0) + wasm.sized(struct.pack("<II", 64, 16))]) + named((READS, name))
+
+
+MODULES |= {"first.wasm": reading(b"first"), "second.wasm": reading(b"second")}
+
+
+def exchanged(why, act):
+    """A worker traps after something was done with the path of its disk. Its frame has the name
+    that its own module gives."""
+    told = "recovered generation 2 at step 0, replayed 0 steps, next request 1\n"
+    disks = "disk", "other"
+    made = [Step(["create", disk, f"{number}.wasm", *LEAST], out=None, changes=(disk,))
+            for disk, number in zip(disks, ("first", "second"))]
+    return f"a trap: {why}", [*made, Between(
+        Step(["run", "disk", "--verbose"], given=b"1 r a\n",
+             err=f"{told}trapped integer divide by zero\n" + frame_lines([(READS, 8, "first")])),
+        act)]
+
+
+EXCHANGED = [
+    exchanged("its disk has another name", moved("disk", "moved")),
+    exchanged("another worker's disk is at its path", moved("other", "disk")),
+    exchanged("no disk is at its path", moved("first.wasm", "disk")),
+    exchanged("a FIFO is at its path", Act(lambda top: (
+        os.mkfifo(f"{top}/fifo"), os.replace(f"{top}/fifo", f"{top}/disk")))),
+    exchanged("nothing was done", Act(lambda top: None))]
+
+SCENES = [*(scene(number, *row) for number, row in enumerate(TRAPPING)), UPGRADED, *EXCHANGED]

@@ -143,7 +143,10 @@ class Facts:
         """What `files` prints."""
         for number, path in sorted(self.paths().items()):
             kind, content = self.nodes[number]
-            yield f"d {path.decode()}" if kind == DIRECTORY else f"f {len(content)} {path.decode()}"
+            escaped = any(byte < 32 or byte == 127 for byte in path)
+            letter = ("d" if kind == DIRECTORY else "f") + ("x" if escaped else "")
+            size = "" if kind == DIRECTORY else f" {len(content)}"
+            yield f"{letter}{size} {path.hex() if escaped else path.decode()}"
 
     def history(self):
         """What `history` prints."""
